@@ -6,12 +6,11 @@ use lib.ListN.{length}
 use lib.Dec.{eqb, ltb}
 use Rattle.spec.specs.Layout.{headerBlock, bitmapBlock, inodeCount}
 use Rattle.spec.specs.Bytes.{concat, keep, upFrom}
-use Rattle.spec.specs.Disk.{Disk, blocksOf}
+use Rattle.spec.specs.Disk.{Disk, Slice, sliceOf}
 use Rattle.spec.specs.Bitmap.{bitsOf, freeBits}
 use Rattle.spec.specs.Inode.{Extent, inodeAt, nameAt, isEmpty, dataOf, runs}
 use Rattle.spec.specs.Session.{Phase, Closed, Ready, Committing, Recovering, neverOpened}
 use Rattle.spec.specs.Answers.{Answer, refused, done, started, stored, idle, counted, file, noFile, run, noRun}
-use Rattle.spec.specs.Transaction.{stateOf}
 use Rattle.spec.specs.Journal.{targetsIn}
 use Rattle.spec.specs.Calls.{Outcome, openStore}
 
@@ -123,13 +122,17 @@ outcomeText d p noRun = []
 abbrev pub longestImage : ℕ
 longestImage = 65536
 
-unfoldable pub listing : List ℕ → List ℕ
-listing image =
-    let o = openStore (stateOf neverOpened image []) in
-    cond (ltb longestImage (length image)) (refusedText 1)
-    (outcomeText (blocksOf image) (o .after .session .phase) (o .answer))
+unfoldable pub textOf : Slice → List ℕ
+textOf image =
+    let o = openStore (record { session = neverOpened; device = image; work = sliceOf [] }) in
+    cond (ltb longestImage (image .size)) (refusedText 1)
+    (outcomeText (image .block) (o .after .session .phase) (o .answer))
+
+-- the text for the bytes of an image
+abbrev pub listing : List ℕ → List ℕ
+listing image = textOf (sliceOf image)
 
 -- opens what this module seals
 unfoldable pub open-Listing : Unit {0}
-unfolding listing
+unfolding textOf
 open-Listing = tt

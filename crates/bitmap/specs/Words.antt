@@ -1,0 +1,18 @@
+-- The bitmap by whole words, for the contracts of this crate.
+use Prim.Native.Nat.{ℕ, _+_, _*_}
+use mathlib.Core.List.{List}
+use mathlib.Core.Option.{Option, none, some}
+use lib.ListN.{getD}
+use Rattle.bitmap.specs.declared.Found.{Found}
+use Rattle.bitmap.specs.declared.Found.the-variants.{At, Nothing}
+
+-- word w of the table: the bytes 8 * w to 8 * w + 7, the lowest first
+abbrev pub wordOf : List ℕ → ℕ → ℕ
+wordOf t w =
+    ((((((getD t (8 * w + 7) 0 * 256 + getD t (8 * w + 6) 0) * 256 + getD t (8 * w + 5) 0) * 256 + getD t (8 * w + 4) 0) * 256
+    + getD t (8 * w + 3) 0) * 256 + getD t (8 * w + 2) 0) * 256 + getD t (8 * w + 1) 0) * 256 + getD t (8 * w) 0
+
+-- a place as the code tells it
+abbrev pub foundOf : Option ℕ → Found
+foundOf none = Nothing
+foundOf (some b) = At b

@@ -1,0 +1,95 @@
+// The bitmap (document 01: bit table): 512 bytes, one bit to a block, read by whole words.
+ghost use mathlib.Core.Path.{_≡_};
+ghost use Prim.Native.Nat.{ℕ, _+_, _*_, _<_, _≤_};
+ghost use lib.ListN.{length, getD, set};
+ghost use Rattle.spec.specs.Bytes.{place};
+ghost use Rattle.spec.specs.Bitmap.{bitsOf, freeBits};
+ghost use Rattle.bitmap.specs.Words.{wordOf, foundOf};
+
+pub enum Found {
+    At(u32),
+    Nothing,
+}
+
+fn wide(x: u8) -> u64
+    ensures { λ r. ⌜ (r ≡ x) × (r < 256) ⌝ }
+{
+    x as u64
+}
+
+// Word w of the table: the bytes 8w to 8w+7, little-endian.
+fn word_at(t: &[u8; 512], w: usize) -> u64
+    requires { ⌜ (w < 64) × (length (now t) ≡ 512) ⌝ }
+    ensures { λ r. ⌜ r ≡ wordOf (now (t .entry)) w ⌝ }
+{
+    let i = 8 * w;
+    let a7 = wide(t[i + 7]);
+    let a6 = a7 * 256 + wide(t[i + 6]);
+    let a5 = a6 * 256 + wide(t[i + 5]);
+    let a4 = a5 * 256 + wide(t[i + 4]);
+    let a3 = a4 * 256 + wide(t[i + 3]);
+    let a2 = a3 * 256 + wide(t[i + 2]);
+    let a1 = a2 * 256 + wide(t[i + 1]);
+    a1 * 256 + wide(t[i])
+}
+
+// How many bits are 0: "Count of ones gives free blocks".
+pub fn free_count(t: &[u8; 512]) -> usize
+    requires { ⌜ length (now t) ≡ 512 ⌝ }
+    ensures { λ r. ⌜ (r ≡ freeBits (bitsOf (now (t .entry)))) × (r ≤ 4096) ⌝ }
+{
+    let mut n: usize = 0;
+    let mut w: usize = 0;
+    while w < 64 {
+        let x = word_at(t, w);
+        n += (64 - u64::count_ones(x)) as usize;
+        w += 1;
+    }
+    n
+}
+
+// The lowest bit that is 0, where the bits below word w are known to be 1: "trailing zeros of the complemented word".
+pub fn lowest_free_from(t: &[u8; 512], from: usize) -> Found
+    requires { ⌜ (length (now t) ≡ 512) × (from ≤ 64) × ((j : ℕ) → j < 64 * from → getD (bitsOf (now t)) j 1 ≡ 1) ⌝ }
+    ensures { λ r. ⌜ r ≡ foundOf (place 0 (bitsOf (now (t .entry)))) ⌝ }
+{
+    let mut w = from;
+    while w < 64 {
+        let x = !word_at(t, w);
+        if x != 0 {
+            let z = u64::trailing_zeros(x) as usize;
+            let b = 64 * w + z;
+            return Found::At(b as u32);
+        }
+        w += 1;
+    }
+    Found::Nothing
+}
+
+// The lowest bit that is 0.
+pub fn lowest_free(t: &[u8; 512]) -> Found
+    requires { ⌜ length (now t) ≡ 512 ⌝ }
+    ensures { λ r. ⌜ r ≡ foundOf (place 0 (bitsOf (now (t .entry)))) ⌝ }
+{
+    lowest_free_from(t, 0)
+}
+
+// Bit b becomes 1.
+pub fn set_bit(t: &mut [u8; 512], b: u32)
+    requires { ⌜ (length (now t) ≡ 512) × (b < 4096) ⌝ }
+    ensures { λ _. ⌜ bitsOf (now (t .exit)) ≡ set (bitsOf (now (t .entry))) b 1 ⌝ }
+{
+    let i = (b / 8) as usize;
+    let m = 1u8 << (b % 8);
+    t[i] = t[i] | m;
+}
+
+// Bit b becomes 0.
+pub fn clear_bit(t: &mut [u8; 512], b: u32)
+    requires { ⌜ (length (now t) ≡ 512) × (b < 4096) ⌝ }
+    ensures { λ _. ⌜ bitsOf (now (t .exit)) ≡ set (bitsOf (now (t .entry))) b 0 ⌝ }
+{
+    let i = (b / 8) as usize;
+    let m = !(1u8 << (b % 8));
+    t[i] = t[i] & m;
+}

@@ -1,0 +1,179 @@
+// One block of a lent byte slice: its area, the numbers in it, reading and storing it.
+use spec::Area;
+use spec::Limits;
+ghost use mathlib.Core.Path.{_≡_};
+ghost use Prim.Native.Nat.{_+_, _*_, _<_, _≤_};
+ghost use lib.ListN.{length, take, drop, getD};
+ghost use Rattle.spec.specs.Bytes.{zeros, exactly, patch, number2, number4, bytes2, bytes4, same};
+ghost use Rattle.spec.specs.Disk.{areaOf, inData, isTarget, sliceOf, withBlock};
+
+// "Byte places in a file, block places in a file and block numbers on the device are three separate counts"
+pub struct ByteOffset(pub usize);
+
+pub struct FileBlock(pub usize);
+
+pub struct DiskBlock(pub u32);
+
+// "A block number's area decides its use".
+pub fn area_of(b: DiskBlock) -> Area
+    ensures { λ r. ⌜ r ≡ areaOf (b .0) ⌝ }
+{
+    let n = b.0;
+    match n {
+        0 => Area::Header,
+        1..=32 => Area::Log,
+        33 => Area::Bitmap,
+        34..=41 => Area::Inodes,
+        _ => Area::Data,
+    }
+}
+
+// Within 42 to N-1.
+pub fn in_data(blocks: usize, b: DiskBlock) -> bool
+    ensures { λ r. ⌜ r ≡ inData blocks (b .0) ⌝ }
+{
+    let n = b.0 as usize;
+    match area_of(b) {
+        Area::Header => false,
+        Area::Log => false,
+        Area::Bitmap => false,
+        Area::Inodes => false,
+        Area::Data => n < blocks,
+    }
+}
+
+// Within 33 to N-1.
+pub fn is_target(blocks: usize, b: DiskBlock) -> bool
+    ensures { λ r. ⌜ r ≡ isTarget blocks (b .0) ⌝ }
+{
+    let n = b.0 as usize;
+    match area_of(b) {
+        Area::Header => false,
+        Area::Log => false,
+        Area::Bitmap => n < blocks,
+        Area::Inodes => n < blocks,
+        Area::Data => n < blocks,
+    }
+}
+
+// The byte at a place, 0 past the end.
+pub fn load(bytes: &[u8], at: usize) -> u32
+    ensures { λ r. ⌜ (r ≡ getD (now (bytes .entry)) at 0) × (r < 256) ⌝ }
+{
+    if at < bytes.len() {
+        return bytes[at] as u32;
+    }
+    0
+}
+
+// Little-endian numbers, of zeros past the end.
+pub fn load2(bytes: &[u8], at: usize) -> u32
+    requires { ⌜ at < 65536 ⌝ }
+    ensures { λ r. ⌜ (r ≡ number2 at (now (bytes .entry))) × (r < 65536) ⌝ }
+{
+    load(bytes, at) + 256 * load(bytes, at + 1)
+}
+
+pub fn load4(bytes: &[u8], at: usize) -> u32
+    requires { ⌜ at < 65536 ⌝ }
+    ensures { λ r. ⌜ r ≡ number4 at (now (bytes .entry)) ⌝ }
+{
+    load2(bytes, at) + 65536 * load2(bytes, at + 2)
+}
+
+pub fn store2(bytes: &mut [u8], at: usize, n: u32)
+    requires { ⌜ at + 2 ≤ length (now bytes) ⌝ }
+    ensures { λ _. ⌜ now (bytes .exit) ≡ patch at (bytes2 n) (now (bytes .entry)) ⌝ }
+{
+    bytes[at] = (n % 256) as u8;
+    bytes[at + 1] = (n / 256 % 256) as u8;
+}
+
+pub fn store4(bytes: &mut [u8], at: usize, n: u32)
+    requires { ⌜ at + 4 ≤ length (now bytes) ⌝ }
+    ensures { λ _. ⌜ now (bytes .exit) ≡ patch at (bytes4 n) (now (bytes .entry)) ⌝ }
+{
+    store2(bytes, at, n % 65536);
+    store2(bytes, at + 2, n / 65536);
+}
+
+// Block b of some bytes, as far as they reach.
+pub fn block_in(bytes: &[u8], b: DiskBlock) -> &[u8]
+    ensures { λ r. ⌜ now r ≡ take 512 (drop (512 * b .0) (now (bytes .entry))) ⌝ }
+{
+    let n = b.0 as usize;
+    let at = Limits::BLOCK_SIZE * n;
+    if bytes.len() <= at {
+        return &bytes[0..0];
+    }
+    if bytes.len() - at <= Limits::BLOCK_SIZE {
+        return &bytes[at..];
+    }
+    let end = at + Limits::BLOCK_SIZE;
+    &bytes[at..end]
+}
+
+// The first 512 of some bytes, zeros past their end.
+pub fn copy_of(bytes: &[u8]) -> [u8; 512]
+    ensures { λ q. ⌜ q ≡ exactly 512 (now (bytes .entry)) ⌝ }
+{
+    let n = if bytes.len() < Limits::BLOCK_SIZE {
+        bytes.len()
+    } else {
+        Limits::BLOCK_SIZE
+    };
+    let mut out = [0u8; 512];
+    let mut k: usize = 0;
+    while k < n {
+        out[k] = bytes[k];
+        k += 1;
+    }
+    out
+}
+
+// Block b stored.
+pub fn store_block(bytes: &mut [u8], b: DiskBlock, x: &[u8; 512])
+    requires { ⌜ (512 * b .0 + 512 ≤ length (now bytes)) × (length (now x) ≡ 512) ⌝ }
+    ensures { λ _. ⌜ sliceOf (now (bytes .exit)) ≡ record { size = length (now (bytes .entry)); block = withBlock (b .0) (now (x .entry)) (sliceOf (now (bytes .entry)) .block) } ⌝ }
+{
+    let n = b.0 as usize;
+    let at = Limits::BLOCK_SIZE * n;
+    let end = at + Limits::BLOCK_SIZE;
+    fill(&mut bytes[at..end], x);
+}
+
+// 512 bytes copied.
+fn fill(to: &mut [u8], x: &[u8; 512])
+    requires { ⌜ (length (now to) ≡ 512) × (length (now x) ≡ 512) ⌝ }
+    ensures { λ _. ⌜ now (to .exit) ≡ now (x .entry) ⌝ }
+{
+    let mut k: usize = 0;
+    while k < Limits::BLOCK_SIZE {
+        to[k] = x[k];
+        k += 1;
+    }
+}
+
+// Block b cleared.
+pub fn clear_block(bytes: &mut [u8], b: DiskBlock)
+    requires { ⌜ 512 * b .0 + 512 ≤ length (now bytes) ⌝ }
+    ensures { λ _. ⌜ sliceOf (now (bytes .exit)) ≡ record { size = length (now (bytes .entry)); block = withBlock (b .0) (zeros 512) (sliceOf (now (bytes .entry)) .block) } ⌝ }
+{
+    let x = [0u8; 512];
+    store_block(bytes, b, &x);
+}
+
+// Whether two blocks hold the same bytes.
+pub fn same_block(x: &[u8; 512], y: &[u8; 512]) -> bool
+    requires { ⌜ (length (now x) ≡ 512) × (length (now y) ≡ 512) ⌝ }
+    ensures { λ r. ⌜ r ≡ same (now (x .entry)) (now (y .entry)) ⌝ }
+{
+    let mut k: usize = 0;
+    while k < Limits::BLOCK_SIZE {
+        if x[k] != y[k] {
+            return false;
+        }
+        k += 1;
+    }
+    true
+}

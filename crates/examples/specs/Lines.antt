@@ -9,7 +9,7 @@ use Rattle.spec.specs.Disk.{Disk, withBlock}
 use Rattle.spec.specs.Session.{neverOpened, stagedIn}
 use Rattle.spec.specs.Answers.{Answer, refused, done, started, stored, idle, counted, file, noFile, run, noRun}
 use Rattle.spec.specs.Transaction.{State, view}
-use Rattle.spec.specs.Calls.{Outcome, Call, Advance, step}
+use Rattle.spec.specs.Calls.{Outcome, Call, Advance}
 use Rattle.spec.specs.Listing.{textOf}
 
 pub data Line : Type 0 where
@@ -82,22 +82,28 @@ abbrev pub then : Bool → Bool → Bool
 then true rest = rest
 then false rest = false
 
--- the lines hold, one after the other, from a state on
-abbrev pub hold : State → List Line → Bool
-hold s [] = true
-hold s (gives c a ∷ ls) = let o = step s c in then (sameAnswer (o .answer) a) (hold (o .after) ls)
-hold s (fills c a buffer ∷ ls) =
-    let o = step s c in
-    then (sameAnswer (o .answer) a && same (o .buffer) buffer) (hold (o .after) ls)
-hold s (cuts ∷ ls) = hold (afterCut s) ls
-hold s (tampers b x ∷ ls) = hold (tampered s b x) ls
-hold s (device b at xs ∷ ls) = then (same (part at (length xs) (s .device .block b)) xs) (hold s ls)
-hold s (working b at xs ∷ ls) = then (same (part at (length xs) (view s b)) xs) (hold s ls)
-hold s (stages bs ∷ ls) = then (same (stagedIn (s .session)) bs) (hold s ls)
-hold s (prints text ∷ ls) = then (same (textOf (s .device)) text) (hold s ls)
+-- of any store: a wrong one can be tried in its place
+module _ (step : State → Call → Outcome) where
+  -- the lines hold, one after the other, from a state on
+  abbrev pub hold : State → List Line → Bool
+  hold s [] = true
+  hold s (gives c a ∷ ls) = let o = step s c in then (sameAnswer (o .answer) a) (hold (o .after) ls)
+  hold s (fills c a buffer ∷ ls) =
+      let o = step s c in
+      then (sameAnswer (o .answer) a && same (o .buffer) buffer) (hold (o .after) ls)
+  hold s (cuts ∷ ls) = hold (afterCut s) ls
+  hold s (tampers b x ∷ ls) = hold (tampered s b x) ls
+  hold s (device b at xs ∷ ls) = then (same (part at (length xs) (s .device .block b)) xs) (hold s ls)
+  hold s (working b at xs ∷ ls) = then (same (part at (length xs) (view s b)) xs) (hold s ls)
+  hold s (stages bs ∷ ls) = then (same (stagedIn (s .session)) bs) (hold s ls)
+  hold s (prints text ∷ ls) = then (same (textOf (s .device)) text) (hold s ls)
 
-abbrev pub holds : Row → Bool
-holds r = hold (fresh (r .blocks)) (r .lines)
+  abbrev pub holds : Row → Bool
+  holds r = hold (fresh (r .blocks)) (r .lines)
+
+  abbrev pub allHold : List Row → Bool
+  allHold [] = true
+  allHold (r ∷ rs) = then (holds r) (allHold rs)
 
 -- advances that store to these blocks, from number n on, to the last of them
 abbrev pub storesTo : ℕ → List ℕ → List Line

@@ -3,7 +3,7 @@ use Prim.Native.Nat.{ℕ, _+_, _*_}
 use mathlib.Core.List.{List, [], _∷_, _++_}
 use lib.ListN.{take, replicate}
 use lib.Dec.{T}
-use Rattle.spec.specs.Bytes.{zeros, all, upFrom}
+use Rattle.spec.specs.Bytes.{zeros, upFrom}
 use Rattle.spec.specs.Disk.{open-Disk}
 use Rattle.spec.specs.Bitmap.{open-Bitmap}
 use Rattle.spec.specs.Inode.{extent, open-Inode}
@@ -11,12 +11,12 @@ use Rattle.spec.specs.Sound.{open-Sound}
 use Rattle.spec.specs.Map.{open-Map}
 use Rattle.spec.specs.Session.{open-Session}
 use Rattle.spec.specs.Answers.{Answer, refused, done, started, counted, run}
-use Rattle.spec.specs.Transaction.{open-Transaction}
+use Rattle.spec.specs.Transaction.{State, open-Transaction}
 use Rattle.spec.specs.Plan.{open-Plan}
 use Rattle.spec.specs.Journal.{headerOf, open-Journal}
-use Rattle.spec.specs.Calls.{Create, Rename, Write, SetSize, Read, Size, Free, NthExtent, Call, Format, Open, Commit, Do, Ask, open-Calls}
+use Rattle.spec.specs.Calls.{Outcome, Create, Rename, Write, SetSize, Read, Size, Free, NthExtent, Call, Format, Open, Commit, Do, Ask, step, open-Calls}
 use Rattle.spec.specs.Listing.{open-Listing}
-use Rattle.examples.specs.Lines.{Line, gives, fills, cuts, tampers, device, working, stages, prints, Row, row, holds, storesTo}
+use Rattle.examples.specs.Lines.{Line, gives, fills, cuts, tampers, device, working, stages, prints, Row, row, allHold, storesTo}
 
 -- "Name A is 01 02 03 04 05 06 07 08."
 abbrev pub A : List ℕ
@@ -158,7 +158,11 @@ table =
     E1 ∷ E2 ∷ E3 ∷ E4-early ∷ E4-late ∷ E5 ∷ E6-gap ∷ E6-nothing ∷ E7 ∷ E8 ∷ E9 ∷ E10
     ∷ E11 ∷ E12 ∷ E13 ∷ E3-printed ∷ []
 
+-- the store that the rows are about: the definitions of the calls
+abbrev pub store : State → Call → Outcome
+store s c = step s c
+
 -- every row holds
-pub every-row : T (all holds table)
+pub every-row : T (allHold store table)
 unfolding zeros open-Disk open-Bitmap open-Inode open-Sound open-Map open-Session open-Transaction open-Plan open-Journal open-Calls open-Listing
 every-row = tt

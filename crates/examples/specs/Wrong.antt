@@ -114,7 +114,9 @@ readsCommitted s Advance = step s Advance
 readsCommitted s Commit = step s Commit
 readsCommitted s Abort = step s Abort
 readsCommitted s (Do c) = step s (Do c)
-readsCommitted s (Ask q) = outcome s (step (withSession s (opened (s .session .blocks) (s .session .phase))) (Ask q) .answer)
+readsCommitted s (Ask q) =
+    let o = step (withSession s (opened (s .session .blocks) (s .session .phase))) (Ask q) in
+    record { answer = o .answer; after = s; buffer = o .buffer; list = o .list }
 
 abbrev pub wrongStores : List Store
 wrongStores = refusesAll ∷ opensAll ∷ startsNothing ∷ countsFromZero ∷ feigns ∷ clearsEarly ∷ stopsEarly ∷ readsCommitted ∷ []

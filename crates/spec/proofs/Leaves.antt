@@ -136,6 +136,10 @@ staged-numbers : stagedIn (withStaged (opened 64 Ready) (42 ∷ [])) ≡ 42 ∷ 
 unfolding open-Session
 staged-numbers = refl
 
+count-past-end : stagedIn (record { blocks = 64; phase = Ready; staged = replicate 32 7; count = 40 }) ≡ replicate 32 7
+unfolding open-Session
+count-past-end = refl
+
 -- "first the data blocks in file order .. then extent blocks likewise": a fifth extent, and back to four
 grown : Tree
 grown = resized (1 ∷ 1 ∷ 1 ∷ 1 ∷ 0 ∷ 0 ∷ 0 ∷ []) (9 ∷ 11 ∷ 13 ∷ 15 ∷ []) [] 5

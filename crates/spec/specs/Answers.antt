@@ -1,7 +1,10 @@
 -- What calls answer, in document 01's numbers and values.
 use Prim.Native.Nat.{ℕ}
+use mathlib.Core.Path.{_≡_}
 use mathlib.Core.Bool.{Bool, true, false}
 use mathlib.Core.List.{List, [], _∷_}
+use lib.ListN.{replicate}
+use Rattle.spec.specs.Layout.{nameSize}
 use Rattle.spec.specs.Inode.{Extent}
 use Rattle.spec.specs.declared.Done.{Done}
 use Rattle.spec.specs.declared.Done.the-variants as done-cases
@@ -13,7 +16,6 @@ use Rattle.spec.specs.declared.Counted.{Counted}
 use Rattle.spec.specs.declared.Counted.the-variants as counted-cases
 use Rattle.spec.specs.declared.Recorded.{Recorded}
 use Rattle.spec.specs.declared.Recorded.the-variants as recorded-cases
-use Rattle.spec.specs.declared.FileRecord.{FileRecord}
 use Rattle.spec.specs.declared.Run.{Run}
 use Rattle.spec.specs.declared.Run.the-variants as run-cases
 pub use Rattle.spec.specs.declared.Refusal.{Refusal}
@@ -78,6 +80,12 @@ abbrev pub recordedOf : Recorded → List ℕ → ℕ → Answer
 recordedOf (recorded-cases.Refused r) name size = refusalOf r
 recordedOf recorded-cases.File name size = file name size
 recordedOf recorded-cases.Empty name size = noFile
+
+-- name and size are zero where no file is answered
+abbrev pub Blank : Recorded → List ℕ → ℕ → Type 0
+Blank (recorded-cases.Refused r) name size = (name ≡ replicate nameSize 0) × (size ≡ 0)
+Blank recorded-cases.File name size = Unit {0}
+Blank recorded-cases.Empty name size = (name ≡ replicate nameSize 0) × (size ≡ 0)
 
 abbrev pub runOf : Run → Answer
 runOf (run-cases.Refused r) = refusalOf r

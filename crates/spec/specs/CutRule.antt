@@ -105,6 +105,8 @@ pub record Stores (b : Both) (ws : List BlockStore) (o : Outcome) : Type 0 where
   pub device : o .after .device
       ≡ record { size = b .store .device .size; block = withBlock (entry .block) (entry .content) (b .store .device .block) }
   pub work : o .after .work ≡ b .store .work
+  -- the transaction is kept until its last store
+  pub staged : stagedIn (o .after .session) ≡ cond (eqb (b .plain .d + 1) (length ws)) [] (stagedIn (b .store .session))
 
 abbrev pub Advances : ℕ → Mode → Both → Outcome → Type 0
 Advances N Closed b o = o ≡ outcome (b .store) idle

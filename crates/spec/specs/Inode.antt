@@ -75,7 +75,7 @@ findEmpty v = lowest 0 inodeCount (isEmpty v)
 
 -- ---- a tree as it stands on a disk
 
--- "An extent block is 128 slots.": those in use
+-- "An extent block is 128 slots."
 unfoldable pub slotsAt : Disk → ℕ → List Extent
 slotsAt v b = slotsIn slotsPerNode (v b)
 

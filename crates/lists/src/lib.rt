@@ -1,0 +1,1 @@
+// Laws of the list helpers of crate spec, in specs/. No code.

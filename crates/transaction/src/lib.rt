@@ -1,0 +1,99 @@
+// The transaction: staged blocks, the working copy of a block, staging.
+use block::DiskBlock;
+use block::block_in;
+use block::store_block;
+use spec::Limits;
+use spec::Session;
+ghost use mathlib.Core.Path.{_≡_};
+ghost use mathlib.Core.List.{List};
+ghost use Prim.Native.Nat.{ℕ, _≤_, _<_};
+ghost use lib.ListN.{length};
+ghost use Rattle.spec.specs.Bytes.{exactly, place};
+ghost use Rattle.spec.specs.Session.{stagedIn, withStaged};
+ghost use Rattle.spec.specs.Transaction.{view, stateOf, put, stage, stagedOf, withStaging};
+ghost use Rattle.transaction.specs.Places.{placeOf, spot, blocksWith};
+
+// Where a block stands among the staged ones.
+pub enum Place {
+    At(usize),
+    Nothing,
+}
+
+// How many blocks are staged.
+pub fn staged_count(s: Session) -> usize
+    ensures { λ r. ⌜ (r ≡ length (stagedIn s)) × (r ≤ 32) ⌝ }
+{
+    let n = s.count;
+    if n < Limits::LOG_LENGTH {
+        return n;
+    }
+    Limits::LOG_LENGTH
+}
+
+pub fn staged_at(s: Session, b: DiskBlock) -> Place
+    ensures { λ r. ⌜ r ≡ placeOf (place (b .0) (stagedIn s)) ⌝ }
+{
+    let l = s.staged;
+    let n = staged_count(s);
+    let want = b.0;
+    let mut i: usize = 0;
+    while i < n {
+        if l[i] == want {
+            return Place::At(i);
+        }
+        i += 1;
+    }
+    Place::Nothing
+}
+
+// The working copy of block b: its image where it is staged, else the device's block; zeros where the bytes end.
+pub fn view_block<'a>(device: &'a [u8], work: &'a [u8], s: Session, b: DiskBlock) -> &'a [u8]
+    ensures { λ r. ⌜ exactly 512 (now r) ≡ view (stateOf s (now (device .entry)) (now (work .entry))) (b .0) ⌝ }
+{
+    match staged_at(s, b) {
+        Place::At(i) => block_in(work, DiskBlock(i as u32)),
+        Place::Nothing => block_in(device, b),
+    }
+}
+
+// The place among the images that block b has or gets.
+fn spot(s: Session, b: DiskBlock) -> usize
+    ensures { λ i. ⌜ i ≡ spot s (b .0) ⌝ }
+{
+    match staged_at(s, b) {
+        Place::At(i) => i,
+        Place::Nothing => staged_count(s),
+    }
+}
+
+// The session with block b staged.
+fn with_block(s: Session, b: DiskBlock) -> Session
+    requires { ⌜ spot s (b .0) < 32 ⌝ }
+    ensures { λ q. ⌜ q ≡ withStaged s (blocksWith s (b .0)) ⌝ }
+{
+    let n = staged_count(s);
+    let x = b.0;
+    let mut q = s;
+    match staged_at(s, b) {
+        Place::At(_) => {
+            q.count = n;
+            q
+        }
+        Place::Nothing => {
+            q.staged[n] = x;
+            q.count = n + 1;
+            q
+        }
+    }
+}
+
+// Block b staged with content x: appended, or its image overwritten; the rest of the work space is unchanged.
+pub fn stage(work: &mut [u8], s: Session, b: DiskBlock, x: &[u8; 512]) -> Session
+    requires { ⌜ (length (now work) ≡ 16384) × (spot s (b .0) < 32) × (length (now x) ≡ 512) ⌝ }
+    ensures { λ q. ⌜ ((device : List ℕ) → stateOf q device (now (work .exit))
+        ≡ withStaging (stateOf s device (now (work .entry))) (stage (stagedOf (stateOf s device (now (work .entry)))) (put (b .0) (now (x .entry))))) ⌝ }
+{
+    let i = spot(s, b);
+    store_block(work, DiskBlock(i as u32), x);
+    with_block(s, b)
+}

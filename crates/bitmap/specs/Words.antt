@@ -1,10 +1,20 @@
 -- The bitmap by whole words, for the contracts of this crate.
-use Prim.Native.Nat.{ℕ, _+_, _*_}
+use Prim.Native.Nat.{ℕ, _+_, _*_, _<_}
+use mathlib.Core.Path.{_≡_}
 use mathlib.Core.List.{List}
 use mathlib.Core.Option.{Option, none, some}
-use lib.ListN.{getD}
+use lib.ListN.{length, getD}
 use Rattle.bitmap.specs.declared.Found.{Found}
 use Rattle.bitmap.specs.declared.Found.the-variants.{At, Nothing}
+
+-- each entry is below n
+abbrev pub Below : ℕ → List ℕ → Type 0
+Below n xs = (i : ℕ) → getD xs i 0 < n
+
+-- a table is 512 bytes
+pub record Table (t : List ℕ) : Type 0 where
+  pub full : length t ≡ 512
+  pub bytes : Below 256 t
 
 -- word w of the table: the bytes 8 * w to 8 * w + 7, the lowest first
 abbrev pub wordOf : List ℕ → ℕ → ℕ

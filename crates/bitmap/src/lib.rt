@@ -1,15 +1,20 @@
 // The bitmap (document 01: bit table): 512 bytes, one bit to a block, read by whole words.
 ghost use mathlib.Core.Path.{_≡_};
-ghost use Prim.Native.Nat.{ℕ, _+_, _*_, _<_, _≤_};
-ghost use lib.ListN.{length, getD, set};
+ghost use Prim.Native.Nat.{_*_, _<_, _≤_};
+ghost use lib.ListN.{take, set};
 ghost use Rattle.spec.specs.Bytes.{place};
 ghost use Rattle.spec.specs.Bitmap.{bitsOf, freeBits};
-ghost use Rattle.bitmap.specs.Words.{wordOf, foundOf};
+ghost use Rattle.bitmap.specs.Words.{Table, wordOf, foundOf};
 
 pub enum Found {
     At(u32),
     Nothing,
 }
+
+// What owning a table tells and borrowing one does not: it has 512 entries, each a byte. The copy is never read, so the compiler drops it.
+pub fn known(t: [u8; 512])
+    ensures { λ _. ⌜ Table t ⌝ }
+{}
 
 fn wide(x: u8) -> u64
     ensures { λ r. ⌜ (r ≡ x) × (r < 256) ⌝ }
@@ -19,7 +24,7 @@ fn wide(x: u8) -> u64
 
 // Word w of the table: the bytes 8w to 8w+7, little-endian.
 fn word_at(t: &[u8; 512], w: usize) -> u64
-    requires { ⌜ (w < 64) × (length (now t) ≡ 512) ⌝ }
+    requires { ⌜ w < 64 ⌝ }
     ensures { λ r. ⌜ r ≡ wordOf (now (t .entry)) w ⌝ }
 {
     let i = 8 * w;
@@ -35,9 +40,9 @@ fn word_at(t: &[u8; 512], w: usize) -> u64
 
 // How many bits are 0: "Count of ones gives free blocks".
 pub fn free_count(t: &[u8; 512]) -> usize
-    requires { ⌜ length (now t) ≡ 512 ⌝ }
     ensures { λ r. ⌜ (r ≡ freeBits (bitsOf (now (t .entry)))) × (r ≤ 4096) ⌝ }
 {
+    known(*t);
     let mut n: usize = 0;
     let mut w: usize = 0;
     while w < 64 {
@@ -48,35 +53,34 @@ pub fn free_count(t: &[u8; 512]) -> usize
     n
 }
 
-// The lowest bit that is 0, where the bits below word w are known to be 1: "trailing zeros of the complemented word".
+// The lowest bit that is 0, where no bit below word `from` is: "trailing zeros of the complemented word".
 pub fn lowest_free_from(t: &[u8; 512], from: usize) -> Found
-    requires { ⌜ (length (now t) ≡ 512) × (from ≤ 64) × ((j : ℕ) → j < 64 * from → getD (bitsOf (now t)) j 1 ≡ 1) ⌝ }
-    ensures { λ r. ⌜ r ≡ foundOf (place 0 (bitsOf (now (t .entry)))) ⌝ }
+    requires { ⌜ freeBits (take (64 * from) (bitsOf (now t))) ≡ 0 ⌝ }
+    ensures { λ r. ⌜ (r ≡ foundOf (place 0 (bitsOf (now (t .entry))))) × Table (now (t .entry)) ⌝ }
 {
-    let mut w = from;
-    while w < 64 {
-        let x = !word_at(t, w);
+    known(*t);
+    let mut at = from;
+    while at < 64 {
+        let x = !word_at(t, at);
         if x != 0 {
-            let z = u64::trailing_zeros(x) as usize;
-            let b = 64 * w + z;
-            return Found::At(b as u32);
+            let b = 64 * (at as u32) + u64::trailing_zeros(x);
+            return Found::At(b);
         }
-        w += 1;
+        at += 1;
     }
     Found::Nothing
 }
 
 // The lowest bit that is 0.
 pub fn lowest_free(t: &[u8; 512]) -> Found
-    requires { ⌜ length (now t) ≡ 512 ⌝ }
-    ensures { λ r. ⌜ r ≡ foundOf (place 0 (bitsOf (now (t .entry)))) ⌝ }
+    ensures { λ r. ⌜ (r ≡ foundOf (place 0 (bitsOf (now (t .entry))))) × Table (now (t .entry)) ⌝ }
 {
     lowest_free_from(t, 0)
 }
 
 // Bit b becomes 1.
 pub fn set_bit(t: &mut [u8; 512], b: u32)
-    requires { ⌜ (length (now t) ≡ 512) × (b < 4096) ⌝ }
+    requires { ⌜ b < 4096 ⌝ }
     ensures { λ _. ⌜ bitsOf (now (t .exit)) ≡ set (bitsOf (now (t .entry))) b 1 ⌝ }
 {
     let i = (b / 8) as usize;
@@ -86,7 +90,7 @@ pub fn set_bit(t: &mut [u8; 512], b: u32)
 
 // Bit b becomes 0.
 pub fn clear_bit(t: &mut [u8; 512], b: u32)
-    requires { ⌜ (length (now t) ≡ 512) × (b < 4096) ⌝ }
+    requires { ⌜ b < 4096 ⌝ }
     ensures { λ _. ⌜ bitsOf (now (t .exit)) ≡ set (bitsOf (now (t .entry))) b 0 ⌝ }
 {
     let i = (b / 8) as usize;

@@ -2,10 +2,11 @@
 use spec::Area;
 use spec::Limits;
 ghost use mathlib.Core.Path.{_≡_};
-ghost use Prim.Native.Nat.{_+_, _*_, _<_, _≤_};
+ghost use Prim.Native.Nat.{_+_, _*_, _<_, _≤_, min};
 ghost use lib.ListN.{length, take, drop, getD};
 ghost use Rattle.spec.specs.Bytes.{zeros, exactly, patch, number2, number4, bytes2, bytes4, same};
-ghost use Rattle.spec.specs.Disk.{areaOf, inData, isTarget, sliceOf, withBlock};
+ghost use Rattle.spec.specs.Disk.{areaOf, inData, isTarget, sliceOf};
+ghost use Rattle.block.specs.Stores.{storedIn};
 
 // "Byte places in a file, block places in a file and block numbers on the device are three separate counts"
 pub struct ByteOffset(pub usize);
@@ -66,16 +67,16 @@ pub fn load(bytes: &[u8], at: usize) -> u32
     0
 }
 
-// Little-endian numbers, of zeros past the end.
+// Little-endian numbers, of zeros past the end; their last byte's place fits a usize.
 pub fn load2(bytes: &[u8], at: usize) -> u32
-    requires { ⌜ at < 65536 ⌝ }
+    requires { ⌜ at + 1 < 18446744073709551616 ⌝ }
     ensures { λ r. ⌜ (r ≡ number2 at (now (bytes .entry))) × (r < 65536) ⌝ }
 {
     load(bytes, at) + 256 * load(bytes, at + 1)
 }
 
 pub fn load4(bytes: &[u8], at: usize) -> u32
-    requires { ⌜ at < 65536 ⌝ }
+    requires { ⌜ at + 3 < 18446744073709551616 ⌝ }
     ensures { λ r. ⌜ r ≡ number4 at (now (bytes .entry)) ⌝ }
 {
     load2(bytes, at) + 65536 * load2(bytes, at + 2)
@@ -97,31 +98,35 @@ pub fn store4(bytes: &mut [u8], at: usize, n: u32)
     store2(bytes, at + 2, n / 65536);
 }
 
+// So many bytes, but no more than a block.
+fn at_most_block(n: usize) -> usize
+    ensures { λ r. ⌜ r ≡ min 512 n ⌝ }
+{
+    if n < Limits::BLOCK_SIZE {
+        n
+    } else {
+        Limits::BLOCK_SIZE
+    }
+}
+
 // Block b of some bytes, as far as they reach.
 pub fn block_in(bytes: &[u8], b: DiskBlock) -> &[u8]
     ensures { λ r. ⌜ now r ≡ take 512 (drop (512 * b .0) (now (bytes .entry))) ⌝ }
 {
     let n = b.0 as usize;
-    let at = Limits::BLOCK_SIZE * n;
-    if bytes.len() <= at {
+    let from = Limits::BLOCK_SIZE * n;
+    if bytes.len() <= from {
         return &bytes[0..0];
     }
-    if bytes.len() - at <= Limits::BLOCK_SIZE {
-        return &bytes[at..];
-    }
-    let end = at + Limits::BLOCK_SIZE;
-    &bytes[at..end]
+    let end = from + at_most_block(bytes.len() - from);
+    &bytes[from..end]
 }
 
 // The first 512 of some bytes, zeros past their end.
 pub fn copy_of(bytes: &[u8]) -> [u8; 512]
     ensures { λ q. ⌜ q ≡ exactly 512 (now (bytes .entry)) ⌝ }
 {
-    let n = if bytes.len() < Limits::BLOCK_SIZE {
-        bytes.len()
-    } else {
-        Limits::BLOCK_SIZE
-    };
+    let n = at_most_block(bytes.len());
     let mut out = [0u8; 512];
     let mut k: usize = 0;
     while k < n {
@@ -133,8 +138,8 @@ pub fn copy_of(bytes: &[u8]) -> [u8; 512]
 
 // Block b stored.
 pub fn store_block(bytes: &mut [u8], b: DiskBlock, x: &[u8; 512])
-    requires { ⌜ (512 * b .0 + 512 ≤ length (now bytes)) × (length (now x) ≡ 512) ⌝ }
-    ensures { λ _. ⌜ sliceOf (now (bytes .exit)) ≡ record { size = length (now (bytes .entry)); block = withBlock (b .0) (now (x .entry)) (sliceOf (now (bytes .entry)) .block) } ⌝ }
+    requires { ⌜ 512 * b .0 + 512 ≤ length (now bytes) ⌝ }
+    ensures { λ _. ⌜ sliceOf (now (bytes .exit)) ≡ storedIn (sliceOf (now (bytes .entry))) (b .0) (now (x .entry)) ⌝ }
 {
     let n = b.0 as usize;
     let at = Limits::BLOCK_SIZE * n;
@@ -143,7 +148,7 @@ pub fn store_block(bytes: &mut [u8], b: DiskBlock, x: &[u8; 512])
 }
 
 // 512 bytes copied.
-fn fill(to: &mut [u8], x: &[u8; 512])
+fn fill(to: &mut [u8], x: &[u8])
     requires { ⌜ (length (now to) ≡ 512) × (length (now x) ≡ 512) ⌝ }
     ensures { λ _. ⌜ now (to .exit) ≡ now (x .entry) ⌝ }
 {
@@ -157,23 +162,24 @@ fn fill(to: &mut [u8], x: &[u8; 512])
 // Block b cleared.
 pub fn clear_block(bytes: &mut [u8], b: DiskBlock)
     requires { ⌜ 512 * b .0 + 512 ≤ length (now bytes) ⌝ }
-    ensures { λ _. ⌜ sliceOf (now (bytes .exit)) ≡ record { size = length (now (bytes .entry)); block = withBlock (b .0) (zeros 512) (sliceOf (now (bytes .entry)) .block) } ⌝ }
+    ensures { λ _. ⌜ sliceOf (now (bytes .exit)) ≡ storedIn (sliceOf (now (bytes .entry))) (b .0) (zeros 512) ⌝ }
 {
     let x = [0u8; 512];
     store_block(bytes, b, &x);
 }
 
-// Whether two blocks hold the same bytes.
+// Whether two blocks hold the same bytes. No byte ends the loop early, so it compiles to vector code.
 pub fn same_block(x: &[u8; 512], y: &[u8; 512]) -> bool
-    requires { ⌜ (length (now x) ≡ 512) × (length (now y) ≡ 512) ⌝ }
     ensures { λ r. ⌜ r ≡ same (now (x .entry)) (now (y .entry)) ⌝ }
 {
+    // A slice made of an array tells the proof its length.
+    let xs: &[u8] = x;
+    let ys: &[u8] = y;
+    let mut equal = true;
     let mut k: usize = 0;
     while k < Limits::BLOCK_SIZE {
-        if x[k] != y[k] {
-            return false;
-        }
+        equal = equal & (xs[k] == ys[k]);
         k += 1;
     }
-    true
+    equal
 }

@@ -1,28 +1,37 @@
 -- Laws of staging and of the working copy. Assumes nothing.
-use Prim.Native.Nat.{ℕ, zero, suc, _+_, _*_, _<_, _≤_, min}
+use Prim.Native.Nat.{ℕ, suc, _+_, _-_, _<_, _≤_, min}
 use mathlib.Core.Path.{_≡_, refl, sym, ap, ap₂, _∙_, subst, fun-ext}
 use mathlib.Core.Bool.{Bool, true, false, cond, _&&_, and-true}
 use mathlib.Core.List.{List, [], _∷_, _++_}
 use mathlib.Core.Option.{Option, none, some}
-use lib.ListN.{length, take, drop, getD, set, replicate, length-append, length-take, length-set}
-use lib.Seq.{take-append-seam, take-suc-set, take-all, drop-cons, set-split}
+use lib.ListN.{length, take, drop, getD, set, length-append, length-take, take-append-drop, drop-of-length-le}
+use lib.Seq.{take-append-seam, take-all, drop-cons, set-split, append-snoc, getD-take, drop-append-add, drop-drop}
 use lib.Dec.{T, eqb}
+use native.Mathlib.Decide.{decLt}
+use native.Mathlib.Numerals.{add-one}
 use native.Mathlib.Omega.{arith}
 use borrow.Author.Tests.{eqb-true, eqb-false, eq-eqb, ne-eqb}
-use Rattle.spec.specs.Bytes.{found, place, member, distinct, all}
-use Rattle.spec.specs.Disk.{Disk, isTarget, withBlock}
+use Rattle.spec.specs.Bytes.{found, place, placeFrom, member, distinct, all}
+use Rattle.spec.specs.Disk.{Disk, Slice, blocksOf, sliceOf, isTarget, withBlock}
 use Rattle.spec.specs.declared.Phase.{Phase}
 use Rattle.spec.specs.declared.Session.{Session}
 use Rattle.spec.specs.Session.{opened, inPhase, stagedIn, withStaged}
-use Rattle.spec.specs.Transaction.{State, view, BlockStore, put, Staged, stage, stagedOf, withStaging}
+use Rattle.spec.specs.Transaction.{State, stateOf, view, BlockStore, put, Staged, stage, stagedOf, withStaging}
+use Rattle.block.specs.Stores.{storedIn}
 use Rattle.lists.specs.Places.{place-lt, place-value, place-new, place-other, no-place, distinct-snoc, all-append}
-use Rattle.transaction.specs.Places.{spot, blocksWith}
+use Rattle.transaction.specs.Places.{foundAt, spot, blocksWith}
+use Rattle.transaction.specs.declared.Place.{Place}
+use Rattle.transaction.specs.declared.Place.the-variants.{At, Nothing}
 
 -- ---- the staged numbers
 
 pub staged-with : (s : Session) (bs : List ℕ) → stagedIn (withStaged s bs) ≡ bs
 unfolding stagedIn withStaged
 staged-with s bs = take-append-seam bs (drop (length bs) (s .staged))
+
+pub phase-with : (s : Session) (bs : List ℕ) → withStaged s bs .phase ≡ s .phase
+unfolding withStaged
+phase-with s bs = refl
 
 pub staged-opened : (N : ℕ) (p : Phase) → stagedIn (opened N p) ≡ []
 unfolding stagedIn
@@ -77,7 +86,7 @@ shown-stage d t w c = go (place (w .block) (t .blocks)) refl (eqb c (w .block)) 
 -- the working copy of a state is what its staged blocks show
 pub view-shown : (s : State) (t : Staged) → view (withStaging s t) ≡ shown (s .device .block) t
 unfolding view
-view-shown s t = rw (staged-with (s .session) (t .blocks))
+view-shown s t = fun-ext (λ b. ap (λ (bs : List ℕ). found (place b bs) (s .device .block b) (t .image)) (staged-with (s .session) (t .blocks)))
 
 -- staging x at b changes the working copy at b alone
 pub view-stage : (s : State) (w : BlockStore) → view (withStaging s (stage (stagedOf s) w)) ≡ withBlock (w .block) (w .content) (view s)
@@ -111,3 +120,161 @@ pub record Valid (N : ℕ) (s : Session) : Type 0 where
   pub whole : s ≡ withStaged (opened N (s .phase)) (stagedIn s)
   pub few : length (stagedIn s) ≤ 32
   pub listed : Listed N (stagedIn s)
+
+pub valid-opened : (N : ℕ) (p : Phase) → Valid N (opened N p)
+unfolding stagedIn withStaged
+valid-opened N p = record { whole = refl; few = omega arith; listed = listed-none N }
+
+pub valid-in-phase : (N : ℕ) (s : Session) (p : Phase) → Valid N s → Valid N (inPhase s p)
+unfolding stagedIn withStaged
+valid-in-phase N s p v = record { whole = ap (λ (t : Session). inPhase t p) (v .whole); few = v .few; listed = v .listed }
+
+-- numbers staged over fewer ones
+withStaged-twice : (t : Session) (old bs : List ℕ) → length old ≤ length bs → withStaged (withStaged t old) bs ≡ withStaged t bs
+unfolding withStaged
+withStaged-twice t old bs h =
+    let n = length bs - length old in
+    let e : length bs ≡ length old + n = omega arith in
+    let q : drop (length bs) (old ++ drop (length old) (t .staged)) ≡ drop (length bs) (t .staged) =
+    rw e (drop-append-add old (drop (length old) (t .staged)) n ∙ drop-drop n (length old) (t .staged))
+    in
+    rw q
+
+-- staged numbers are only ever added, so that the cells behind them stay zero
+pub valid-staged : (N : ℕ) (s : Session) (bs : List ℕ) → Valid N s → length (stagedIn s) ≤ length bs → length bs ≤ 32 → Listed N bs → Valid N (withStaged s bs)
+valid-staged N s bs v more few l =
+    record {
+      whole = ap (λ (t : Session). withStaged t bs) (v .whole) ∙ withStaged-twice (opened N (s .phase)) (stagedIn s) bs more ∙ rw (staged-with s bs, phase-with s bs);
+      few = rw (staged-with s bs) few;
+      listed = rw (staged-with s bs) l;
+    }
+
+pub stage-longer : (t : Staged) (w : BlockStore) → length (t .blocks) ≤ length (stage t w .blocks)
+stage-longer t w = go (place (w .block) (t .blocks)) refl
+  where
+    go : (o : Option ℕ) → place (w .block) (t .blocks) ≡ o → length (t .blocks) ≤ length (stage t w .blocks)
+    go none e = rw (stage-new t w e) (simp length-append (omega arith))
+    go (some i) e = rw (stage-again t w i e) (omega arith)
+
+-- one block staged
+pub valid-stage : (N : ℕ) (s : State) (w : BlockStore) → Valid N (s .session) → isTarget N (w .block) ≡ true → length (stage (stagedOf s) w .blocks) ≤ 32
+    → Valid N (withStaging s (stage (stagedOf s) w) .session)
+valid-stage N s w v h few =
+    valid-staged N (s .session) (stage (stagedOf s) w .blocks) v (stage-longer (stagedOf s) w) few (stage-listed N (stagedOf s) w (v .listed) h)
+
+-- ---- of the code
+
+module _ (s : Session) (h : length (s .staged) ≡ 32) where
+  -- a count past the array is read as the array's length
+  pub length-staged : length (stagedIn s) ≡ min (s .count) 32
+  unfolding stagedIn
+  length-staged = length-take (s .count) (s .staged) ∙ rw h
+
+  pub staged-is : (n : ℕ) → n ≡ length (stagedIn s) → stagedIn s ≡ take n (s .staged)
+  unfolding stagedIn
+  staged-is n e = go (decLt (s .count) 32)
+    where
+      l : n ≡ min (s .count) 32
+      l = e ∙ length-staged
+
+      go : Dec (s .count < 32) → take (s .count) (s .staged) ≡ take n (s .staged)
+      go (yes k) = let q : n ≡ s .count = omega (arith, l) in rw q
+      go (no k) = take-all (s .count) (s .staged) (omega arith) ∙ sym (take-all n (s .staged) (omega (arith, l)))
+
+-- the place of b from i on among the first n of an array
+unfoldable pub placeIn : List ℕ → ℕ → ℕ → ℕ → Place
+placeIn l n i b = foundAt (placeFrom i b (drop i (take n l)))
+
+module _ (l : List ℕ) (n i b : ℕ) where
+  next : i < n → n ≤ length l → drop i (take n l) ≡ getD l i 0 ∷ drop (suc i) (take n l)
+  next h m =
+      let q : i < length (take n l) = simp length-take (omega arith) in
+      drop-cons (take n l) i 0 q ∙ rw (getD-take n l i 0 h)
+
+  pub place-hit : i < n → n ≤ length l → getD l i 0 ≡ b → placeIn l n i b ≡ At i
+  unfolding placeIn
+  place-hit h m e = rw (next h m, eq-eqb (getD l i 0) b e)
+
+  pub place-miss : i < n → n ≤ length l → (getD l i 0 ≡ b → ⊥) → placeIn l n i b ≡ placeIn l n (i + 1) b
+  unfolding placeIn
+  place-miss h m e = rw (next h m, ne-eqb (getD l i 0) b e, add-one i)
+
+  pub place-end : n ≤ i → placeIn l n i b ≡ Nothing
+  unfolding placeIn
+  place-end h = rw (drop-of-length-le (take n l) (let q : length (take n l) ≤ i = simp length-take (omega arith) in q))
+
+pub place-staged : (s : Session) (b n : ℕ) → length (s .staged) ≡ 32 → n ≡ length (stagedIn s) → foundAt (place b (stagedIn s)) ≡ placeIn (s .staged) n 0 b
+unfolding placeIn
+place-staged s b n h e = rw (staged-is s h n e)
+
+-- what an answer of `staged_at` says
+at-place : (o : Option ℕ) (i : ℕ) → foundAt o ≡ At i → o ≡ some i
+at-place none i e = let z : _≡_ {A = ℕ} 0 1 = cc in absurd (omega arith)
+at-place (some j) i e = let z : j ≡ i = cc in ap some z
+
+no-place-at : (o : Option ℕ) → foundAt o ≡ Nothing → o ≡ none
+no-place-at none e = refl
+no-place-at (some j) e = let z : _≡_ {A = ℕ} 0 1 = cc in absurd (omega arith)
+
+module _ (s : Session) (b : ℕ) where
+  pub at-lt : (i : ℕ) → foundAt (place b (stagedIn s)) ≡ At i → i < length (stagedIn s)
+  at-lt i e = place-lt b i (stagedIn s) (at-place (place b (stagedIn s)) i e)
+
+  pub spot-at : (i : ℕ) → foundAt (place b (stagedIn s)) ≡ At i → i ≡ spot s b
+  unfolding spot
+  spot-at i e = sym (rw (at-place (place b (stagedIn s)) i e))
+
+  pub spot-new : foundAt (place b (stagedIn s)) ≡ Nothing → length (stagedIn s) ≡ spot s b
+  unfolding spot
+  spot-new e = sym (rw (no-place-at (place b (stagedIn s)) e))
+
+  pub spot-le : spot s b ≤ length (stagedIn s)
+  unfolding spot
+  spot-le = go (place b (stagedIn s)) refl
+    where
+      go : (o : Option ℕ) → place b (stagedIn s) ≡ o → spot s b ≤ length (stagedIn s)
+      go none e = rw e (omega arith)
+      go (some i) e = rw e (omega (arith, place-lt b i (stagedIn s) e))
+
+  module _ (device work : List ℕ) where
+    pub view-at : (i : ℕ) → foundAt (place b (stagedIn s)) ≡ At i → view (stateOf s device work) b ≡ blocksOf work i
+    unfolding view
+    view-at i e = rw (at-place (place b (stagedIn s)) i e)
+
+    pub view-new : foundAt (place b (stagedIn s)) ≡ Nothing → view (stateOf s device work) b ≡ blocksOf device b
+    unfolding view
+    view-new e = rw (no-place-at (place b (stagedIn s)) e)
+
+  -- the session's cells after staging: all as they were, or one more in use
+  pub with-at : (n i : ℕ) → length (s .staged) ≡ 32 → n ≡ length (stagedIn s) → foundAt (place b (stagedIn s)) ≡ At i
+      → record { blocks = s .blocks; phase = s .phase; staged = s .staged; count = n } ≡ withStaged s (blocksWith s b)
+  unfolding withStaged blocksWith
+  with-at n i h e q =
+      rw (at-place (place b (stagedIn s)) i q, ← e, staged-is s h n e, take-append-drop n (s .staged))
+
+  pub with-new : (n : ℕ) → length (s .staged) ≡ 32 → n ≡ length (stagedIn s) → n < 32 → foundAt (place b (stagedIn s)) ≡ Nothing
+      → record { blocks = s .blocks; phase = s .phase; staged = set (s .staged) n b; count = n + 1 } ≡ withStaged s (blocksWith s b)
+  unfolding withStaged blocksWith
+  with-new n h e k q =
+      let l : length (stagedIn s ++ (b ∷ [])) ≡ suc n = length-append (stagedIn s) (b ∷ []) ∙ omega arith in
+      rw (no-place-at (place b (stagedIn s)) q, l, add-one n, set-split (s .staged) n b (omega arith), staged-is s h n e)
+      (ap (λ (x : List ℕ). record { blocks = s .blocks; phase = s .phase; staged = x; count = suc n }) (sym (append-snoc (take n (s .staged)) b (drop (suc n) (s .staged)))))
+
+-- all of it: the session and the work space that `stage` leaves
+pub stage-is : (s : Session) (device work : List ℕ) (b : ℕ) (x : List ℕ)
+    → stage (stagedOf (stateOf s device work)) (put b x)
+    ≡ record { blocks = blocksWith s b; image = withBlock (spot s b) x (blocksOf work) }
+unfolding blocksWith spot
+stage-is s device work b x = go (place b (stagedIn s)) refl
+  where
+    go : (o : Option ℕ) → place b (stagedIn s) ≡ o
+        → stage (stagedOf (stateOf s device work)) (put b x) ≡ record { blocks = blocksWith s b; image = withBlock (spot s b) x (blocksOf work) }
+    go none e = stage-new (stagedOf (stateOf s device work)) (put b x) e ∙ rw e
+    go (some i) e = stage-again (stagedOf (stateOf s device work)) (put b x) i e ∙ rw e
+
+pub stage-leaves : (s q : Session) (device work left : List ℕ) (b i : ℕ) (x : List ℕ) → i ≡ spot s b → sliceOf left ≡ storedIn (sliceOf work) i x
+    → q ≡ withStaged s (blocksWith s b) → stateOf q device left ≡ withStaging (stateOf s device work) (stage (stagedOf (stateOf s device work)) (put b x))
+stage-leaves s q device work left b i x e f g =
+    ap₂ (λ (n : Session) (w : Slice). record { session = n; device = sliceOf device; work = w }) g
+    (f ∙ ap (λ (k : ℕ). storedIn (sliceOf work) k x) e)
+    ∙ ap (withStaging (stateOf s device work)) (sym (stage-is s device work b x))

@@ -10,9 +10,9 @@ use Rattle.transaction.specs.declared.Place.{Place}
 use Rattle.transaction.specs.declared.Place.the-variants.{At, Nothing}
 
 -- a place as the code tells it
-abbrev pub placeOf : Option ℕ → Place
-placeOf none = Nothing
-placeOf (some i) = At i
+abbrev pub foundAt : Option ℕ → Place
+foundAt none = Nothing
+foundAt (some i) = At i
 
 -- the place that block b has among the images, or gets
 unfoldable pub spot : Session → ℕ → ℕ

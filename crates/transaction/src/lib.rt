@@ -11,7 +11,7 @@ ghost use lib.ListN.{length};
 ghost use Rattle.spec.specs.Bytes.{exactly, place};
 ghost use Rattle.spec.specs.Session.{stagedIn, withStaged};
 ghost use Rattle.spec.specs.Transaction.{view, stateOf, put, stage, stagedOf, withStaging};
-ghost use Rattle.transaction.specs.Places.{placeOf, spot, blocksWith};
+ghost use Rattle.transaction.specs.Places.{foundAt, spot, blocksWith};
 
 // Where a block stands among the staged ones.
 pub enum Place {
@@ -31,7 +31,7 @@ pub fn staged_count(s: Session) -> usize
 }
 
 pub fn staged_at(s: Session, b: DiskBlock) -> Place
-    ensures { λ r. ⌜ r ≡ placeOf (place (b .0) (stagedIn s)) ⌝ }
+    ensures { λ r. ⌜ r ≡ foundAt (place (b .0) (stagedIn s)) ⌝ }
 {
     let l = s.staged;
     let n = staged_count(s);

@@ -1,0 +1,68 @@
+-- `bitmap::free_count` meets its contract. The count so far is that of the zero bits of the words read.
+use Prim.Native.Nat.{_≤_, _*_, _-_}
+use mathlib.Core.Path.{_≡_, refl, ap}
+use native.Mathlib.Omega.{arith}
+use borrow.Author.Needs.{needs}
+use lib.ListN.{take}
+use Rattle.spec.specs.Bitmap.{bitsOf, freeBits}
+use Rattle.bitmap.proofs.Words.{Word, word-says, all-words}
+use Rattle.bitmap.proofs.free_count.Statement.{statement}
+use Rattle.bitmap.proofs.free_count.Tie as tie
+
+abbrev Inv-loop : tie.InvT-loop
+Inv-loop t n₀ w₀ n w = (w ≤ 64) × (n ≤ 64 * w) × (n ≡ freeBits (take (64 * w) (bitsOf t)))
+
+abbrev μ-loop : tie.MeasureT-loop
+μ-loop t n₀ w₀ n w = 64 - w
+
+known-requires : tie.Need-known-requires Inv-loop μ-loop
+known-requires c κs = search needs
+
+loop-holds : tie.Need-loop-holds Inv-loop μ-loop
+loop-holds c = (omega arith, omega arith, refl)
+
+word-at-requires : tie.Need-word-at-requires Inv-loop μ-loop
+word-at-requires c κs = omega arith
+
+word : (c : tie.After-word-at Inv-loop μ-loop) → Word (c .before .before .before .before .before .args .t .now) (c .before .before .loop .w) (c .word-at .result)
+word c = word-says _ (c .before .before .before .known .ensures) _ _ (omega arith) (c .word-at .ensures)
+
+sub-n : tie.Need-sub-n Inv-loop μ-loop
+sub-n c = omega (arith, word c)
+
+cast-n : tie.Need-cast-n Inv-loop μ-loop
+cast-n c = omega arith
+
+add-n : tie.Need-add-n Inv-loop μ-loop
+add-n c = omega arith
+
+add-w : tie.Need-add-w Inv-loop μ-loop
+add-w c = omega arith
+
+loop-less : tie.Need-loop-less Inv-loop μ-loop
+loop-less c = omega arith
+
+loop-again : tie.Need-loop-again Inv-loop μ-loop
+loop-again c = (omega arith, omega arith, omega (arith, word c))
+
+returns : tie.Need-returns Inv-loop μ-loop
+returns c =
+    let e = all-words (c .before .before .before .before .args .t .now) (c .before .loop .w) (c .before .before .known .ensures .full) (omega arith) in
+    (omega (arith, ap freeBits e), omega arith)
+
+pub free-count-spec : {M : Type 1} → statement M
+free-count-spec =
+    tie.close
+    (tie.spec
+    Inv-loop
+    μ-loop
+    known-requires
+    loop-holds
+    word-at-requires
+    sub-n
+    cast-n
+    add-n
+    add-w
+    loop-less
+    loop-again
+    returns)

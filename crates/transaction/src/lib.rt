@@ -89,7 +89,7 @@ fn with_block(s: Session, b: DiskBlock) -> Session
 
 // Block b staged with content x: appended, or its image overwritten; the rest of the work space is unchanged.
 pub fn stage(work: &mut [u8], s: Session, b: DiskBlock, x: &[u8; 512]) -> Session
-    requires { ⌜ (length (now work) ≡ 16384) × (spot s (b .0) < 32) × (length (now x) ≡ 512) ⌝ }
+    requires { ⌜ (length (now work) ≡ 16384) × (spot s (b .0) < 32) ⌝ }
     ensures { λ q. ⌜ ((device : List ℕ) → stateOf q device (now (work .exit))
         ≡ withStaging (stateOf s device (now (work .entry))) (stage (stagedOf (stateOf s device (now (work .entry)))) (put (b .0) (now (x .entry))))) ⌝ }
 {

@@ -1,0 +1,82 @@
+// The tests at the head of a call, in the order of the refusals' numbers.
+use spec::Limits;
+use spec::Phase;
+use spec::Refusal;
+use spec::Session;
+ghost use mathlib.Core.Path.{_≡_};
+ghost use mathlib.Core.Bool.{_&&_};
+ghost use Prim.Native.Nat.{_*_};
+ghost use lib.Dec.{eqb};
+ghost use Rattle.spec.specs.Disk.{isAllowed};
+ghost use Rattle.spec.specs.Transaction.{stateOf};
+ghost use Rattle.spec.specs.Calls.{lentOk, readyOk};
+ghost use Rattle.checks.specs.Checks.{resultOf, readyPhase};
+
+// Passed, or the first test that failed.
+pub enum Checked {
+    Fine,
+    Bad(Refusal),
+}
+
+// "512 times an allowed N"
+pub fn is_allowed(size: usize) -> bool
+    ensures { λ r. ⌜ r ≡ isAllowed size ⌝ }
+{
+    if size % Limits::BLOCK_SIZE != 0 {
+        return false;
+    }
+    if size / Limits::BLOCK_SIZE < Limits::FEWEST_BLOCKS {
+        return false;
+    }
+    size / Limits::BLOCK_SIZE <= Limits::MOST_BLOCKS
+}
+
+// "the N of the session"
+fn same_size(size: usize, blocks: usize) -> bool
+    ensures { λ r. ⌜ r ≡ eqb (512 * blocks) size ⌝ }
+{
+    if size % Limits::BLOCK_SIZE != 0 {
+        return false;
+    }
+    blocks == size / Limits::BLOCK_SIZE
+}
+
+// 1 and 2
+pub fn lent(device: &[u8], work: &[u8], session: Session) -> Checked
+    ensures { λ r. ⌜ resultOf r ≡ lentOk (stateOf session (now (device .entry)) (now (work .entry))) ⌝ }
+{
+    let n = session.blocks;
+    if !is_allowed(device.len()) {
+        return Checked::Bad(Refusal::DeviceSize);
+    }
+    if !same_size(device.len(), n) {
+        return Checked::Bad(Refusal::DeviceSize);
+    }
+    if work.len() != Limits::WORK_SIZE {
+        return Checked::Bad(Refusal::WorkSize);
+    }
+    Checked::Fine
+}
+
+// 12
+fn ready_phase(phase: Phase) -> Checked
+    ensures { λ r. ⌜ r ≡ readyPhase phase ⌝ }
+{
+    match phase {
+        Phase::Closed => Checked::Bad(Refusal::NotReady),
+        Phase::Ready => Checked::Fine,
+        Phase::Committing(_) => Checked::Bad(Refusal::NotReady),
+        Phase::Recovering(_) => Checked::Bad(Refusal::NotReady),
+    }
+}
+
+// 1, 2 and 12
+pub fn ready(device: &[u8], work: &[u8], session: Session) -> Checked
+    ensures { λ r. ⌜ resultOf r ≡ readyOk (stateOf session (now (device .entry)) (now (work .entry))) ⌝ }
+{
+    let phase = session.phase;
+    match lent(device, work, session) {
+        Checked::Bad(why) => Checked::Bad(why),
+        Checked::Fine => ready_phase(phase),
+    }
+}

@@ -1,17 +1,17 @@
 -- Laws of lent slices, their blocks and the numbers in them. Assumes nothing.
 use Prim.Native.Nat.{ℕ, zero, suc, _+_, _*_, _-_, _/_, _%_, _<_, _≤_}
 use mathlib.Core.Path.{_≡_, refl, sym, ap, _∙_, fun-ext}
-use mathlib.Core.Bool.{Bool, true, false, cond}
+use mathlib.Core.Bool.{Bool, true, false, cond, _&&_, true≢false}
 use mathlib.Core.List.{List, [], _∷_, _++_, append-assoc}
 use mathlib.Core.Logic.{_⊎_, inl, inr, ⊎-elim}
 use native.Mathlib.Decide.{decLt}
 use native.Mathlib.Omega.{arith}
-use borrow.Author.Tests.{eqb-true, eqb-false, eq-eqb, ne-eqb}
-use lib.Dec.{eqb}
+use borrow.Author.Tests.{eqb-true, eqb-false, eq-eqb, ne-eqb, leb-true}
+use lib.Dec.{eqb, leb}
 use lib.ListN.{length, take, drop, getD, length-append, length-take, length-drop, drop-of-length-le, List·getD-append, List·getD-eq-default}
 use lib.Seq.{ext-getD, take-nil, take-append-seam, drop-append-add, drop-drop, getD-take, getD-drop, getD-append-add}
 use Rattle.spec.specs.Bytes.{zeros, exactly, patch, number2, number4, bytes2, bytes4, same}
-use Rattle.spec.specs.Disk.{Disk, Slice, blocksOf, withBlock, sliceOf}
+use Rattle.spec.specs.Disk.{Disk, Slice, blocksOf, withBlock, sliceOf, isAllowed}
 use Rattle.block.specs.Stores.{storedIn}
 
 pub lt-or-le : (a b : ℕ) → (a < b) ⊎ (b ≤ a)
@@ -241,3 +241,25 @@ same-true (x ∷ xs) (y ∷ ys) h = go (eqb x y) refl (same-true xs ys)
     go : (t : Bool) → eqb x y ≡ t → (same xs ys ≡ true → xs ≡ ys) → x ∷ xs ≡ y ∷ ys
     go true q ih = rw (eqb-true x y q, ih (rw q at h))
     go false q ih = let z : false ≡ true = rw q at h in cc
+
+-- ---- the length of a device
+
+-- "512 times an allowed N", N from 64 to 4,096
+pub record Allowed (size : ℕ) : Type 0 where
+  pub whole : size % 512 ≡ 0
+  pub low : 64 ≤ size / 512
+  pub high : size / 512 ≤ 4096
+
+pub allowed-says : (size : ℕ) → isAllowed size ≡ true → Allowed size
+unfolding isAllowed
+allowed-says size h = go (eqb (size % 512) 0) refl (leb 64 (size / 512)) refl (leb (size / 512) 4096) refl h
+  where
+    go : (a : Bool) → eqb (size % 512) 0 ≡ a → (b : Bool) → leb 64 (size / 512) ≡ b → (c : Bool) → leb (size / 512) 4096 ≡ c
+        → (a && b && c) ≡ true → Allowed size
+    go true p true q true r e = record { whole = eqb-true (size % 512) 0 p; low = leb-true 64 (size / 512) q; high = leb-true (size / 512) 4096 r }
+    go true p true q false r e = absurd (true≢false (sym e))
+    go true p false q c r e = absurd (true≢false (sym e))
+    go false p b q c r e = absurd (true≢false (sym (shut b c e)))
+      where
+        shut : (b c : Bool) → (false && b && c) ≡ true → false ≡ true
+        shut b c e = e

@@ -1,0 +1,88 @@
+// The public calls of the purse store. Each promise is one equation: what is answered and left is the call's outcome at what was given.
+use checks::Checked;
+use checks::is_allowed;
+use checks::ready;
+use mkfs::make_empty;
+use spec::Committed;
+use spec::Done;
+use spec::Finished;
+use spec::Limits;
+use spec::Phase;
+use spec::Refusal;
+use spec::Session;
+use spec::Started;
+use transaction::staged_count;
+ghost use mathlib.Core.Path.{_≡_};
+ghost use mathlib.Core.List.{List};
+ghost use Prim.Native.Nat.{ℕ};
+ghost use Rattle.spec.specs.Answers.{doneOf, startedOf};
+ghost use Rattle.spec.specs.Transaction.{stateOf};
+ghost use Rattle.spec.specs.Calls.{left, format, commit, abort};
+
+// Makes an empty store. The work space is not lent: whatever it holds stays.
+pub fn format(device: &mut [u8], session: Session) -> Finished
+    ensures { λ r. ⌜ ((work : List ℕ) → left (r .session) (now (device .exit)) work (doneOf (r .answer))
+        ≡ format (stateOf session (now (device .entry)) work)) ⌝ }
+{
+    if !is_allowed(device.len()) {
+        return Finished {
+            session: session,
+            answer: Done::Refused(Refusal::DeviceSize),
+        };
+    }
+    let n = device.len() / Limits::BLOCK_SIZE;
+    make_empty(device);
+    let next = Session::closed_on(n);
+    Finished {
+        session: next,
+        answer: Done::Done,
+    }
+}
+
+// Starts the stores of a commit and tells how many they are.
+pub fn commit(device: &[u8], work: &[u8], session: Session) -> Committed
+    ensures { λ r. ⌜ left (r .session) (now (device .entry)) (now (work .entry)) (startedOf (r .answer))
+        ≡ commit (stateOf session (now (device .entry)) (now (work .entry))) ⌝ }
+{
+    match ready(device, work, session) {
+        Checked::Bad(why) => Committed {
+            session: session,
+            answer: Started::Refused(why),
+        },
+        Checked::Fine => {
+            let k = staged_count(session);
+            if k == 0 {
+                return Committed {
+                    session: session,
+                    answer: Started::Stores(0),
+                };
+            }
+            let next = session.in_phase(Phase::Committing(0));
+            Committed {
+                session: next,
+                answer: Started::Stores(2 * k + 2),
+            }
+        }
+    }
+}
+
+// Empties the transaction.
+pub fn abort(device: &[u8], work: &[u8], session: Session) -> Finished
+    ensures { λ r. ⌜ left (r .session) (now (device .entry)) (now (work .entry)) (doneOf (r .answer))
+        ≡ abort (stateOf session (now (device .entry)) (now (work .entry))) ⌝ }
+{
+    match ready(device, work, session) {
+        Checked::Bad(why) => Finished {
+            session: session,
+            answer: Done::Refused(why),
+        },
+        Checked::Fine => {
+            let n = session.blocks;
+            let next = Session::opened(n, Phase::Ready);
+            Finished {
+                session: next,
+                answer: Done::Done,
+            }
+        }
+    }
+}

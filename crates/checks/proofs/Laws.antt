@@ -46,6 +46,9 @@ module _ (size : ℕ) where
 
 -- ---- 1 and 2, and 12
 
+accept≢refuse : (a : Bool) (r : Refusal) → accept a ≡ refuse r → ⊥
+accept≢refuse a r e = let z : _≡_ {A = ℕ} 0 1 = cc in omega arith
+
 module _ (s : Session) (d w : List ℕ) where
   pub lent-allowed : isAllowed (length d) ≡ false → refuse DeviceSize ≡ lentOk (stateOf s d w)
   unfolding lentOk
@@ -76,3 +79,19 @@ module _ (s : Session) (d w : List ℕ) where
   pub ready-fine : accept true ≡ lentOk (stateOf s d w) → resultOf (readyPhase (s .phase)) ≡ readyOk (stateOf s d w)
   unfolding readyOk
   ready-fine e = rw (← e) (phase-ready (s .phase))
+
+  -- what the tests 1 and 2 have shown
+  pub record Lent : Type 0 where
+    pub allowed : isAllowed (length d) ≡ true
+    pub device : 512 * s .blocks ≡ length d
+    pub work : length w ≡ 16384
+
+  pub lent-says : accept true ≡ lentOk (stateOf s d w) → Lent
+  unfolding lentOk
+  lent-says h = go (isAllowed (length d)) refl (eqb (512 * s .blocks) (length d)) refl (eqb (length w) 16384) refl
+    where
+      go : (a : Bool) → isAllowed (length d) ≡ a → (b : Bool) → eqb (512 * s .blocks) (length d) ≡ b → (x : Bool) → eqb (length w) 16384 ≡ x → Lent
+      go true p true q true r = record { allowed = p; device = eqb-true (512 * s .blocks) (length d) q; work = eqb-true (length w) 16384 r }
+      go true p true q false r = absurd (accept≢refuse true WorkSize (rw (p, q, r) at h))
+      go true p false q x r = absurd (accept≢refuse true DeviceSize (rw (p, q) at h))
+      go false p b q x r = absurd (accept≢refuse true DeviceSize (rw p at h))

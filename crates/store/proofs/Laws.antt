@@ -6,13 +6,14 @@ use mathlib.Core.List.{List, []}
 use lib.ListN.{length}
 use Rattle.spec.specs.Disk.{Slice, isAllowed, sliceOf}
 use Rattle.spec.specs.declared.Session.{Session}
-use Rattle.spec.specs.declared.Phase.the-variants.{Ready, Committing}
+use Rattle.spec.specs.declared.Phase.{Phase}
+use Rattle.spec.specs.declared.Phase.the-variants.{Closed, Ready, Committing}
 use Rattle.spec.specs.declared.Refusal.{Refusal}
 use Rattle.spec.specs.declared.Refusal.the-variants.{DeviceSize}
 use Rattle.spec.specs.Session.{opened, closedOn, inPhase, stagedIn}
-use Rattle.spec.specs.Answers.{Answer, done, started, refusalOf, refuse, accept}
+use Rattle.spec.specs.Answers.{done, started, idle, refusalOf, refuse, accept}
 use Rattle.spec.specs.Transaction.{stateOf}
-use Rattle.spec.specs.Calls.{Outcome, outcome, left, readyOk, startCommit, emptyDisk, format, commit, abort}
+use Rattle.spec.specs.Calls.{Outcome, outcome, left, lentOk, readyOk, startCommit, emptyDisk, format, advanceIn, advance, commit, abort}
 
 -- ---- format
 
@@ -26,6 +27,25 @@ module _ (s : Session) (d w : List ℕ) where
   unfolding format
   format-done next after e f g =
       rw e (ap₂ (λ (n : Session) (x : Slice). outcome (record { session = n; device = x; work = sliceOf w }) done) f g)
+
+-- ---- advance
+
+module _ (s : Session) (d w : List ℕ) where
+  pub idle-closed : (p : Phase) → p ≡ Closed → left s d w idle ≡ advanceIn (stateOf s d w) p
+  unfolding advanceIn
+  idle-closed p e = rw e
+
+  pub idle-ready : (p : Phase) → p ≡ Ready → left s d w idle ≡ advanceIn (stateOf s d w) p
+  unfolding advanceIn
+  idle-ready p e = rw e
+
+  pub advance-bad : (r : Refusal) → refuse r ≡ lentOk (stateOf s d w) → left s d w (refusalOf r) ≡ advance (stateOf s d w)
+  unfolding advance
+  advance-bad r e = rw (← e)
+
+  pub advance-fine : (o : Outcome) → accept true ≡ lentOk (stateOf s d w) → o ≡ advanceIn (stateOf s d w) (s .phase) → o ≡ advance (stateOf s d w)
+  unfolding advance
+  advance-fine o e f = f ∙ rw (← e)
 
 -- ---- commit and abort
 

@@ -1,8 +1,12 @@
 // The public calls of the purse store. Each promise is one equation: what is answered and left is the call's outcome at what was given.
 use checks::Checked;
 use checks::is_allowed;
+use checks::lent;
 use checks::ready;
+use journal::commit_step;
+use journal::recovery_step;
 use mkfs::make_empty;
+use spec::Advanced;
 use spec::Committed;
 use spec::Done;
 use spec::Finished;
@@ -11,13 +15,15 @@ use spec::Phase;
 use spec::Refusal;
 use spec::Session;
 use spec::Started;
+use spec::Stored;
 use transaction::staged_count;
 ghost use mathlib.Core.Path.{_≡_};
 ghost use mathlib.Core.List.{List};
-ghost use Prim.Native.Nat.{ℕ};
-ghost use Rattle.spec.specs.Answers.{doneOf, startedOf};
+ghost use Prim.Native.Nat.{ℕ, _*_};
+ghost use lib.ListN.{length};
+ghost use Rattle.spec.specs.Answers.{doneOf, startedOf, storedOf};
 ghost use Rattle.spec.specs.Transaction.{stateOf};
-ghost use Rattle.spec.specs.Calls.{left, format, commit, abort};
+ghost use Rattle.spec.specs.Calls.{left, format, advanceIn, advance, commit, abort};
 
 // Makes an empty store. The work space is not lent: whatever it holds stays.
 pub fn format(device: &mut [u8], session: Session) -> Finished
@@ -36,6 +42,43 @@ pub fn format(device: &mut [u8], session: Session) -> Finished
     Finished {
         session: next,
         answer: Done::Done,
+    }
+}
+
+// What advance does in a phase: nothing where nothing is under way, else one store of the commit or the recovery.
+fn advance_in(device: &mut [u8], work: &[u8], session: Session, phase: Phase) -> Advanced
+    requires { ⌜ 512 * session .blocks ≡ length (now device) ⌝ }
+    ensures { λ r. ⌜ left (r .session) (now (device .exit)) (now (work .entry)) (storedOf (r .answer))
+        ≡ advanceIn (stateOf session (now (device .entry)) (now (work .entry))) phase ⌝ }
+{
+    match phase {
+        Phase::Closed => Advanced {
+            session: session,
+            answer: Stored::Idle,
+        },
+        Phase::Ready => Advanced {
+            session: session,
+            answer: Stored::Idle,
+        },
+        Phase::Committing(d) => commit_step(device, work, session, d),
+        Phase::Recovering(d) => recovery_step(device, work, session, d),
+    }
+}
+
+// Stores the next block of a commit or a recovery under way.
+pub fn advance(device: &mut [u8], work: &[u8], session: Session) -> Advanced
+    ensures { λ r. ⌜ left (r .session) (now (device .exit)) (now (work .entry)) (storedOf (r .answer))
+        ≡ advance (stateOf session (now (device .entry)) (now (work .entry))) ⌝ }
+{
+    match lent(device, work, session) {
+        Checked::Bad(why) => Advanced {
+            session: session,
+            answer: Stored::Refused(why),
+        },
+        Checked::Fine => {
+            let phase = session.phase;
+            advance_in(device, work, session, phase)
+        }
     }
 }
 

@@ -1,0 +1,32 @@
+-- What a header lists, as the code holds it.
+use Prim.Native.Nat.{ℕ, _≤_}
+use mathlib.Core.Path.{_≡_}
+use mathlib.Core.List.{List}
+use mathlib.Core.Option.{Option, none, some}
+use lib.ListN.{length, take, drop}
+use Rattle.spec.specs.Layout.{logLength}
+use Rattle.spec.specs.Journal.{targetsBefore}
+use Rattle.journal.specs.declared.Fault.{Fault}
+use Rattle.journal.specs.declared.Fault.the-variants.{At, Nothing}
+use Rattle.journal.specs.declared.Targets.{Targets}
+
+abbrev pub faultOf : Option ℕ → Fault
+faultOf none = Nothing
+faultOf (some i) = At i
+
+-- the targets of all records
+unfoldable pub recordTargets : List ℕ → List ℕ
+recordTargets xs = targetsBefore xs logLength
+
+-- the targets in use
+abbrev pub listOf : Targets → List ℕ
+listOf t = take (t .count) (t .list)
+
+pub record Holds (t : Targets) (bs : List ℕ) : Type 0 where
+  pub list : listOf t ≡ bs
+  pub count : t .count ≡ length bs
+  pub few : t .count ≤ 32
+
+-- the first n cells of an array, from place i on
+unfoldable pub cells : List ℕ → ℕ → ℕ → List ℕ
+cells l n i = drop i (take n l)

@@ -5,7 +5,7 @@ use mathlib.Core.List.{List, [], _∷_, _++_, reverse}
 use lib.ListN.{length, take, drop}
 use lib.Dec.{T, eqb, ltb}
 use Rattle.spec.specs.Bytes.{zeros, all}
-use Rattle.spec.specs.Disk.{Slice, open-Disk}
+use Rattle.spec.specs.Disk.{Slice, withBlock, open-Disk}
 use Rattle.spec.specs.Bitmap.{open-Bitmap}
 use Rattle.spec.specs.Inode.{open-Inode}
 use Rattle.spec.specs.Sound.{open-Sound}
@@ -106,6 +106,17 @@ clearsEarly = reordered (λ ws. take (length ws - 2) ws ++ reverse (drop (length
 abbrev pub stopsEarly : Store
 stopsEarly = reordered (λ ws. take (length ws - 1) ws)
 
+-- "one whose first advance copies everything": the answers are right, but each advance makes all stores
+abbrev pub storedAll : List BlockStore → Slice → Slice
+storedAll [] d = d
+storedAll (w ∷ ws) d = storedAll ws (record { size = d .size; block = withBlock (w .block) (w .content) (d .block) })
+
+abbrev pub copiesAll : Store
+copiesAll =
+    withAdvance (λ s.
+    let o = step s Advance in
+    outcome (record { session = o .after .session; device = storedAll (commitStores s) (s .device); work = s .work }) (o .answer))
+
 -- "Reading the committed content of a block that is staged"
 abbrev pub readsCommitted : Store
 readsCommitted s Format = step s Format
@@ -119,7 +130,7 @@ readsCommitted s (Ask q) =
     record { answer = o .answer; after = s; buffer = o .buffer; list = o .list }
 
 abbrev pub wrongStores : List Store
-wrongStores = refusesAll ∷ opensAll ∷ startsNothing ∷ countsFromZero ∷ feigns ∷ clearsEarly ∷ stopsEarly ∷ readsCommitted ∷ []
+wrongStores = refusesAll ∷ opensAll ∷ startsNothing ∷ countsFromZero ∷ feigns ∷ clearsEarly ∷ stopsEarly ∷ copiesAll ∷ readsCommitted ∷ []
 
 -- each is refuted
 pub every-wrong : T (all (λ w. not (allHold w table)) wrongStores)

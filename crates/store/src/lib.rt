@@ -6,6 +6,7 @@ use checks::ready;
 use journal::commit_step;
 use journal::recovery_step;
 use mkfs::make_empty;
+pub use query::free_count;
 use spec::Advanced;
 use spec::Committed;
 use spec::Done;

@@ -1,21 +1,25 @@
 -- The cases of the tests at the head of a call. Assumes nothing.
-use Prim.Native.Nat.{ℕ, _*_, _/_, _%_, _<_, _≤_}
+use Prim.Native.Nat.{ℕ, _+_, _*_, _/_, _%_, _<_, _≤_}
 use mathlib.Core.Path.{_≡_, refl, sym, ap, _∙_}
-use mathlib.Core.Bool.{Bool, true, false, _&&_}
-use mathlib.Core.List.{List}
+use mathlib.Core.Bool.{Bool, true, false, not, _&&_}
+use mathlib.Core.List.{List, _∷_}
+use native.Mathlib.Numerals.{add-one}
 use native.Mathlib.Omega.{arith}
 use borrow.Author.Tests.{eqb-true, eqb-false, eq-eqb, ne-eqb, lt-leb, le-leb, leb-true}
 use lib.Dec.{eqb, leb}
-use lib.ListN.{length}
+use lib.ListN.{length, drop, getD, drop-of-length-le}
+use lib.Seq.{drop-cons}
+use Rattle.spec.specs.Bytes.{allZero}
 use Rattle.spec.specs.Disk.{isAllowed}
+use Rattle.spec.specs.Inode.{isName}
 use Rattle.spec.specs.declared.Session.{Session}
 use Rattle.spec.specs.declared.Phase.{Phase}
 use Rattle.spec.specs.declared.Phase.the-variants.{Closed, Ready, Committing, Recovering}
 use Rattle.spec.specs.declared.Refusal.{Refusal}
-use Rattle.spec.specs.declared.Refusal.the-variants.{DeviceSize, WorkSize, NotReady}
+use Rattle.spec.specs.declared.Refusal.the-variants.{DeviceSize, WorkSize, BadName, NotReady}
 use Rattle.spec.specs.Answers.{Result, refuse, accept, require}
 use Rattle.spec.specs.Transaction.{stateOf}
-use Rattle.spec.specs.Calls.{lentOk, readyOk, isReady, deviceFits}
+use Rattle.spec.specs.Calls.{lentOk, readyOk, nameOk, isReady}
 use Rattle.checks.specs.Checks.{resultOf, readyPhase}
 use Rattle.checks.specs.declared.Checked.the-variants.{Fine, Bad}
 
@@ -43,6 +47,30 @@ module _ (size : ℕ) where
       go : (t : Bool) → eqb blocks (size / 512) ≡ t → t ≡ eqb (512 * blocks) size
       go true e = sym (eq-eqb (512 * blocks) size (let z = eqb-true blocks (size / 512) e in omega arith))
       go false e = sym (ne-eqb (512 * blocks) size (λ q. eqb-false blocks (size / 512) e (omega arith)))
+
+-- ---- 3
+
+module _ (name : List ℕ) where
+  pub other-length : (length name ≡ 8 → ⊥) → false ≡ isName name
+  unfolding isName
+  other-length h = rw (ne-eqb (length name) 8 h)
+
+  pub eight-long : length name ≡ 8 → not (allZero name) ≡ isName name
+  unfolding isName
+  eight-long h = rw (eq-eqb (length name) 8 h)
+
+  -- byte k of what is left from k on
+  byte-left : (k : ℕ) → k < length name → drop k name ≡ getD name k 0 ∷ drop (k + 1) name
+  byte-left k h = rw (add-one k) (drop-cons name k 0 h)
+
+  pub byte-some : (k : ℕ) → k < length name → (getD name k 0 ≡ 0 → ⊥) → allZero (drop k name) ≡ false
+  byte-some k h n = rw (byte-left k h, ne-eqb (getD name k 0) 0 n)
+
+  pub byte-none : (k : ℕ) → k < length name → getD name k 0 ≡ 0 → allZero (drop k name) ≡ allZero (drop (k + 1) name)
+  byte-none k h n = rw (byte-left k h, eq-eqb (getD name k 0) 0 n)
+
+  pub byte-end : (k : ℕ) → length name ≤ k → allZero (drop k name) ≡ true
+  byte-end k h = rw (drop-of-length-le name h)
 
 -- ---- 1 and 2, and 12
 
@@ -79,6 +107,19 @@ module _ (s : Session) (d w : List ℕ) where
   pub ready-fine : accept true ≡ lentOk (stateOf s d w) → resultOf (readyPhase (s .phase)) ≡ readyOk (stateOf s d w)
   unfolding readyOk
   ready-fine e = rw (← e) (phase-ready (s .phase))
+
+  module _ (name : List ℕ) where
+    pub named-lent : (r : Refusal) → refuse r ≡ lentOk (stateOf s d w) → refuse r ≡ nameOk (stateOf s d w) name
+    unfolding nameOk
+    named-lent r e = rw (← e)
+
+    pub named-bad : accept true ≡ lentOk (stateOf s d w) → isName name ≡ false → refuse BadName ≡ nameOk (stateOf s d w) name
+    unfolding nameOk
+    named-bad e f = rw (← e, f)
+
+    pub named-fine : accept true ≡ lentOk (stateOf s d w) → isName name ≡ true → resultOf (readyPhase (s .phase)) ≡ nameOk (stateOf s d w) name
+    unfolding nameOk
+    named-fine e f = rw (← e, f) (phase-ready (s .phase))
 
   -- what the tests 1 and 2 have shown
   pub record Lent : Type 0 where

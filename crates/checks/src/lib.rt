@@ -4,12 +4,12 @@ use spec::Phase;
 use spec::Refusal;
 use spec::Session;
 ghost use mathlib.Core.Path.{_≡_};
-ghost use mathlib.Core.Bool.{_&&_};
 ghost use Prim.Native.Nat.{_*_};
 ghost use lib.Dec.{eqb};
 ghost use Rattle.spec.specs.Disk.{isAllowed};
+ghost use Rattle.spec.specs.Inode.{isName};
 ghost use Rattle.spec.specs.Transaction.{stateOf};
-ghost use Rattle.spec.specs.Calls.{lentOk, readyOk};
+ghost use Rattle.spec.specs.Calls.{lentOk, readyOk, nameOk};
 ghost use Rattle.checks.specs.Checks.{resultOf, readyPhase};
 
 // Passed, or the first test that failed.
@@ -78,5 +78,38 @@ pub fn ready(device: &[u8], work: &[u8], session: Session) -> Checked
     match lent(device, work, session) {
         Checked::Bad(why) => Checked::Bad(why),
         Checked::Fine => ready_phase(phase),
+    }
+}
+
+// 3
+pub fn is_name(name: &[u8]) -> bool
+    ensures { λ r. ⌜ r ≡ isName (now (name .entry)) ⌝ }
+{
+    if name.len() != 8 {
+        return false;
+    }
+    let mut k: usize = 0;
+    while k < 8 {
+        if name[k] != 0 {
+            return true;
+        }
+        k += 1;
+    }
+    false
+}
+
+// 1, 2, 3 and 12
+pub fn named(device: &[u8], work: &[u8], session: Session, name: &[u8]) -> Checked
+    ensures { λ r. ⌜ resultOf r ≡ nameOk (stateOf session (now (device .entry)) (now (work .entry))) (now (name .entry)) ⌝ }
+{
+    let phase = session.phase;
+    match lent(device, work, session) {
+        Checked::Bad(why) => Checked::Bad(why),
+        Checked::Fine => {
+            if !is_name(name) {
+                return Checked::Bad(Refusal::BadName);
+            }
+            ready_phase(phase)
+        }
     }
 }

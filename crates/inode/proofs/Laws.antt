@@ -1,0 +1,267 @@
+-- Laws of file records. Assumes nothing.
+use Prim.Native.Nat.{ℕ, zero, suc, _+_, _*_, _-_, _/_, _%_, _<_, _≤_}
+use mathlib.Core.Path.{_≡_, refl, sym, ap, _∙_}
+use mathlib.Core.Bool.{Bool, true, false, cond, _&&_}
+use mathlib.Core.List.{List, [], _∷_}
+use mathlib.Core.Option.{Option, none, some}
+use native.Mathlib.Numerals.{add-one}
+use native.Mathlib.Omega.{arith}
+use borrow.Author.Tests.{eq-eqb, ne-eqb}
+use lib.Dec.{eqb}
+use lib.ListN.{length, take, drop, getD, replicate, length-take, length-drop, length-replicate}
+use lib.Seq.{getD-take, getD-drop, take-take, take-nil, drop-drop}
+use Rattle.spec.specs.Bytes.{exactly, part, number2, number4, same, allZero, found, place, lowest}
+use Rattle.spec.specs.Disk.{Disk, blocksOf}
+use Rattle.spec.specs.declared.Session.{Session}
+use Rattle.spec.specs.Session.{stagedIn}
+use Rattle.spec.specs.Transaction.{view, stateOf}
+use Rattle.spec.specs.Inode.{slotsIn, inodeOf, inodeBytes, inodeAt, nameAt, isEmpty, blockOfInode, placeOfInode, find, findEmpty}
+use Rattle.block.proofs.Laws.{length-exactly, getD-exactly, block-length}
+use Rattle.block.proofs.Steps.{compared-more}
+use Rattle.inode.specs.Records.{bytesIn, recordIn, named, foundOf, lowestTo}
+use Rattle.inode.specs.declared.Found.{Found}
+use Rattle.inode.specs.declared.Found.the-variants.{At, Nothing}
+
+-- ---- a record of w bytes at a place of a block
+
+module _ (t : List ℕ) (at w : ℕ) (fits : at + w ≤ 512) where
+  pub field-byte : (o : ℕ) → o < w → getD (bytesIn t at w) o 0 ≡ getD t (at + o) 0
+  unfolding bytesIn
+  field-byte o h = getD-take w (drop at (exactly 512 t)) o 0 h ∙ getD-drop at (exactly 512 t) o 0 ∙ getD-exactly 512 t (at + o) (omega arith)
+
+  pub field-number2 : (o : ℕ) → o + 2 ≤ w → number2 o (bytesIn t at w) ≡ number2 (at + o) t
+  field-number2 o h =
+      let e : at + (o + 1) ≡ at + o + 1 = omega arith in
+      rw (field-byte o (omega arith), field-byte (o + 1) (omega arith), e)
+
+  pub field-number4 : (o : ℕ) → o + 4 ≤ w → number4 o (bytesIn t at w) ≡ number4 (at + o) t
+  field-number4 o h =
+      let e : at + (o + 2) ≡ at + o + 2 = omega arith in
+      rw (field-number2 o (omega arith), field-number2 (o + 2) (omega arith), e)
+
+  pub field-take : (n : ℕ) → n ≤ w → take n (bytesIn t at w) ≡ bytesIn t at n
+  unfolding bytesIn
+  field-take n h = take-take n w (drop at (exactly 512 t)) h
+
+  pub field-length : length (bytesIn t at w) ≡ w
+  unfolding bytesIn
+  field-length = simp (length-take, length-drop, length-exactly) (omega arith)
+
+pub drop-take : {A : Type 0} (m k : ℕ) (xs : List A) → drop m (take (m + k) xs) ≡ take k (drop m xs)
+drop-take zero k xs = let z : 0 + k ≡ k = omega arith in rw z
+drop-take (suc m) k [] = let z : suc m + k ≡ suc (m + k) = omega arith in rw z (sym (take-nil k))
+drop-take (suc m) k (x ∷ xs) = let z : suc m + k ≡ suc (m + k) = omega arith in rw z (drop-take m k xs)
+
+-- slots need no bytes behind them
+slots-more : (n m : ℕ) (xs : List ℕ) → slotsIn n (take m (drop 4 xs)) ≡ slotsIn n (drop 4 xs) → slotsIn (suc n) (take (4 + m) xs) ≡ slotsIn (suc n) xs
+unfolding slotsIn
+slots-more n m xs h =
+    rw (
+      getD-take (4 + m) xs 0 0 (omega arith),
+      getD-take (4 + m) xs 1 0 (omega arith),
+      getD-take (4 + m) xs 2 0 (omega arith),
+      getD-take (4 + m) xs 3 0 (omega arith),
+      drop-take 4 m xs,
+      h,
+    )
+
+slots-front : (n k : ℕ) (xs : List ℕ) → 4 * n ≤ k → slotsIn n (take k xs) ≡ slotsIn n xs
+unfolding slotsIn
+slots-front zero k xs h = refl
+slots-front (suc n) k xs h = go (k - 4) (omega arith) (slots-front n (k - 4) (drop 4 xs) (omega arith))
+  where
+    go : (m : ℕ) → k ≡ 4 + m → slotsIn n (take m (drop 4 xs)) ≡ slotsIn n (drop 4 xs) → slotsIn (suc n) (take k xs) ≡ slotsIn (suc n) xs
+    go m z ih = rw z (slots-more n m xs ih)
+
+pub field-slots : (xs : List ℕ) (at w o n : ℕ) → o + 4 * n ≤ w → slotsIn n (drop o (part at w xs)) ≡ slotsIn n (drop (at + o) xs)
+field-slots xs at w o n h =
+    let e : w ≡ o + (w - o) = omega arith in
+    ap (λ (m : ℕ). slotsIn n (drop o (take m (drop at xs)))) e
+    ∙ ap (slotsIn n) (drop-take o (w - o) (drop at xs))
+    ∙ slots-front n (w - o) (drop o (drop at xs)) (omega arith)
+    ∙ ap (slotsIn n) (drop-drop o at xs)
+
+-- ---- record i of a disk, read from its block of the table
+
+-- the record's place leaves room for it
+place-fits : (i : ℕ) → placeOfInode i + 32 ≤ 512
+place-fits i = omega arith
+
+-- a field as the code reads it, with the record's place p
+module _ (t : List ℕ) (i p r : ℕ) (e : p ≡ placeOfInode i) where
+  pub size-in : r ≡ number4 (p + 8) t → r ≡ inodeOf (recordIn t i) .size
+  unfolding inodeOf
+  size-in q = q ∙ rw e (sym (field-number4 t (placeOfInode i) 32 (place-fits i) 8 (omega arith)))
+
+  pub depth-in : r ≡ getD t (p + 12) 0 → r ≡ inodeOf (recordIn t i) .depth
+  unfolding inodeOf
+  depth-in q = q ∙ rw e (sym (field-byte t (placeOfInode i) 32 (place-fits i) 12 (omega arith)))
+
+module _ (v : Disk) (t : List ℕ) (i : ℕ) (h : exactly 512 t ≡ v (blockOfInode i)) where
+  pub record-at : recordIn t i ≡ inodeBytes v i
+  unfolding bytesIn inodeBytes
+  record-at = ap (part (placeOfInode i) 32) h
+
+  -- so that a field of the one is that field of the other
+  pub inode-at : inodeOf (recordIn t i) ≡ inodeAt v i
+  inode-at = ap inodeOf record-at
+
+  pub empty-at : allZero (take 8 (recordIn t i)) ≡ isEmpty v i
+  empty-at = ap (λ (x : List ℕ). allZero (take 8 x)) record-at
+
+  pub named-at : (name : List ℕ) → named t name i ≡ same (nameAt v i) name
+  unfolding named
+  named-at name = ap (λ (x : List ℕ). same (take 8 x) name) record-at
+
+-- ---- names
+
+-- one more byte compared, of the bytes at a place and some others
+pub compared-in : (t bytes : List ℕ) (at k x y : ℕ) (r : Bool) → at + length bytes ≤ 512
+    → same (bytesIn t at (length bytes)) bytes ≡ r && same (drop k (bytesIn t at (length bytes))) (drop k bytes)
+    → k < length bytes → x ≡ getD t (at + k) 0 → y ≡ getD bytes k 0
+    → same (bytesIn t at (length bytes)) bytes ≡ (r && eqb x y) && same (drop (k + 1) (bytesIn t at (length bytes))) (drop (k + 1) bytes)
+compared-in t bytes at k x y r fits h l e f =
+    let a : x ≡ getD (bytesIn t at (length bytes)) k 0 = e ∙ sym (field-byte t at (length bytes) fits k l) in
+    let m : k < length (bytesIn t at (length bytes)) = rw (field-length t at (length bytes) fits) l in
+    rw (a, f) (compared-more k (bytesIn t at (length bytes)) bytes r h m l)
+
+pub same-zeros : (xs : List ℕ) → same xs (replicate (length xs) 0) ≡ allZero xs
+same-zeros [] = refl
+same-zeros (x ∷ xs) = ap (λ (r : Bool). eqb x 0 && r) (same-zeros xs)
+
+zeros-at : (t : List ℕ) (at n : ℕ) (z : List ℕ) → at + n ≤ 512 → z ≡ replicate n 0 → same (bytesIn t at (length z)) z ≡ allZero (bytesIn t at n)
+zeros-at t at n z fits e =
+    rw (e, length-replicate {A = ℕ} n 0)
+    (ap (λ (m : ℕ). same (bytesIn t at n) (replicate m 0)) (sym (field-length t at n fits)) ∙ same-zeros (bytesIn t at n))
+
+module _ (t : List ℕ) (i p : ℕ) (z : List ℕ) (r : Bool) (e : p ≡ placeOfInode i) (q : r ≡ same (bytesIn t p (length z)) z) where
+  pub zero-name : z ≡ replicate 8 0 → r ≡ allZero (take 8 (recordIn t i))
+  zero-name h = q ∙ rw (e, field-take t (placeOfInode i) 32 (place-fits i) 8 (omega arith)) (zeros-at t (placeOfInode i) 8 z (omega arith) h)
+
+  pub zero-record : z ≡ replicate 32 0 → r ≡ allZero (recordIn t i)
+  zero-record h = q ∙ rw e (zeros-at t (placeOfInode i) 32 z (place-fits i) h)
+
+same-length : (xs ys : List ℕ) → (length xs ≡ length ys → ⊥) → same xs ys ≡ false
+same-length [] [] h = absurd (h refl)
+same-length [] (y ∷ ys) h = refl
+same-length (x ∷ xs) [] h = refl
+same-length (x ∷ xs) (y ∷ ys) h = go (eqb x y) (same-length xs ys (λ e. h (ap suc e)))
+  where
+    go : (b : Bool) → same xs ys ≡ false → (b && same xs ys) ≡ false
+    go true e = e
+    go false e = refl
+
+pub name-other : (t name : List ℕ) (i : ℕ) → (length name ≡ 8 → ⊥) → false ≡ named t name i
+unfolding named
+name-other t name i h =
+    let l : length (take 8 (recordIn t i)) ≡ 8 = ap length (field-take t (placeOfInode i) 32 (place-fits i) 8 (omega arith)) ∙ field-length t (placeOfInode i) 8 (omega arith) in
+    sym (same-length (take 8 (recordIn t i)) name (λ e. h (sym e ∙ l)))
+
+pub name-in : (t name : List ℕ) (i p : ℕ) (r : Bool) → length name ≡ 8 → p ≡ placeOfInode i → r ≡ same (bytesIn t p (length name)) name → r ≡ named t name i
+unfolding named
+name-in t name i p r l e q = q ∙ rw (e, l, field-take t (placeOfInode i) 32 (place-fits i) 8 (omega arith))
+
+-- ---- the lowest number that passes
+
+module _ (n : ℕ) (f : ℕ → Bool) (i : ℕ) where
+  pub lowest-none : n ≤ i → lowestTo n f i ≡ Nothing
+  unfolding lowestTo
+  lowest-none h = let e : n - i ≡ 0 = omega arith in rw e
+
+  pub lowest-hit : i < n → f i ≡ true → lowestTo n f i ≡ At i
+  unfolding lowestTo
+  lowest-hit h q = let e : n - i ≡ suc (n - (i + 1)) = omega arith in rw (e, q)
+
+  pub lowest-miss : i < n → f i ≡ false → lowestTo n f i ≡ lowestTo n f (i + 1)
+  unfolding lowestTo
+  lowest-miss h q = let e : n - i ≡ suc (n - (i + 1)) = omega arith in rw (e, q, add-one i)
+
+-- two tests that agree
+lowest-same : (f g : ℕ → Bool) (a n : ℕ) → ((k : ℕ) → a ≤ k → k < a + n → f k ≡ g k) → lowest a n f ≡ lowest a n g
+lowest-same f g a zero h = refl
+lowest-same f g a (suc n) h = rw (h a (omega arith) (omega arith), lowest-same f g (suc a) n (λ k p q. h k (omega arith) (omega arith)))
+
+pub lowest-agree : (n : ℕ) (f g : ℕ → Bool) (i : ℕ) → ((k : ℕ) → i ≤ k → k < n → f k ≡ g k) → lowestTo n f i ≡ lowestTo n g i
+unfolding lowestTo
+lowest-agree n f g i h = ap foundOf (lowest-same f g i (n - i) (λ k p q. h k p (omega arith)))
+
+-- a search in two parts
+lowest-first : (f : ℕ → Bool) (a d e j : ℕ) → foundOf (lowest a d f) ≡ At j → foundOf (lowest a (d + e) f) ≡ At j
+lowest-first f a zero e j h = let z : _≡_ {A = ℕ} 0 1 = cc in absurd (omega arith)
+lowest-first f a (suc d) e j h = let z : suc d + e ≡ suc (d + e) = omega arith in rw z (go (f a) refl (lowest-first f (suc a) d e j))
+  where
+    go : (t : Bool) → f a ≡ t → (foundOf (lowest (suc a) d f) ≡ At j → foundOf (lowest (suc a) (d + e) f) ≡ At j)
+        → foundOf (cond (f a) (some a) (lowest (suc a) (d + e) f)) ≡ At j
+    go true q ih = rw q (rw q at h)
+    go false q ih = rw q (ih (rw q at h))
+
+lowest-skip : (f : ℕ → Bool) (a d e : ℕ) → foundOf (lowest a d f) ≡ Nothing → lowest a (d + e) f ≡ lowest (a + d) e f
+lowest-skip f a zero e h = let z : 0 + e ≡ e = omega arith in let y : a + 0 ≡ a = omega arith in rw (z, y)
+lowest-skip f a (suc d) e h = let z : suc d + e ≡ suc (d + e) = omega arith in let y : a + suc d ≡ suc a + d = omega arith in rw (z, y) (go (f a) refl (lowest-skip f (suc a) d e))
+  where
+    go : (t : Bool) → f a ≡ t → (foundOf (lowest (suc a) d f) ≡ Nothing → lowest (suc a) (d + e) f ≡ lowest (suc a + d) e f)
+        → cond (f a) (some a) (lowest (suc a) (d + e) f) ≡ lowest (suc a + d) e f
+    go true q ih = let w : At a ≡ Nothing = rw q at h in let z : _≡_ {A = ℕ} 0 1 = cc in absurd (omega arith)
+    go false q ih = rw q (ih (rw q at h))
+
+module _ (m n : ℕ) (f : ℕ → Bool) (i : ℕ) (low : i ≤ m) (high : m ≤ n) where
+  parts : n - i ≡ (m - i) + (n - m)
+  parts = omega arith
+
+  pub lowest-in : (j : ℕ) → lowestTo m f i ≡ At j → lowestTo n f i ≡ At j
+  unfolding lowestTo
+  lowest-in j h = rw parts (lowest-first f i (m - i) (n - m) j h)
+
+  pub lowest-past : lowestTo m f i ≡ Nothing → lowestTo n f i ≡ lowestTo n f m
+  unfolding lowestTo
+  lowest-past h = let e : i + (m - i) ≡ m = omega arith in rw (parts, lowest-skip f i (m - i) (n - m) h, e)
+
+-- ---- the search over the table
+
+-- whether record i of a disk has this name
+unfoldable pub namedAt : Disk → List ℕ → ℕ → Bool
+namedAt v name i = same (nameAt v i) name
+
+lowest-all : (n : ℕ) (f : ℕ → Bool) → foundOf (lowest 0 n f) ≡ lowestTo n f 0
+unfolding lowestTo
+lowest-all n f = let e : n - 0 ≡ n = omega arith in rw e
+
+pub find-all : (v : Disk) (name : List ℕ) → foundOf (find v name) ≡ lowestTo 128 (namedAt v name) 0
+unfolding find namedAt
+find-all v name = lowest-all 128 (λ i. same (nameAt v i) name)
+
+-- the 16 records of one block searched
+module _ (v : Disk) (t name : List ℕ) (first : ℕ) (r : Found) (low : first < 128) (whole : first % 16 ≡ 0)
+    (e : exactly 512 t ≡ v (blockOfInode first)) (q : r ≡ lowestTo (first + 16) (named t name) first) where
+  in-block : lowestTo (first + 16) (namedAt v name) first ≡ r
+  unfolding namedAt
+  in-block =
+      lowest-agree (first + 16) (namedAt v name) (named t name) first
+      (λ k p h. let z : k / 16 ≡ first / 16 = omega arith in sym (named-at v t k (e ∙ ap (λ (b : ℕ). v (34 + b)) (sym z)) name))
+      ∙ sym q
+
+  pub find-hit : (i : ℕ) → r ≡ At i → lowestTo 128 (namedAt v name) first ≡ At i
+  find-hit i h = lowest-in (first + 16) 128 (namedAt v name) first (omega arith) (omega arith) i (in-block ∙ h)
+
+  pub find-miss : r ≡ Nothing → lowestTo 128 (namedAt v name) first ≡ lowestTo 128 (namedAt v name) (first + 16)
+  find-miss h = lowest-past (first + 16) 128 (namedAt v name) first (omega arith) (omega arith) (in-block ∙ h)
+
+-- an empty record is one whose name is zeros
+pub find-zeros : (v : Disk) (name : List ℕ) (r : Found) → ((b : ℕ) → length (v b) ≡ 512) → name ≡ replicate 8 0 → r ≡ foundOf (find v name) → r ≡ foundOf (findEmpty v)
+unfolding find findEmpty inodeBytes
+find-zeros v name r l e q =
+    q
+    ∙ ap foundOf (lowest-same (λ i. same (nameAt v i) name) (isEmpty v) 0 128
+    (λ k p h.
+    let n : length (nameAt v k) ≡ 8 = simp (length-take, length-drop, l) (omega arith) in
+    rw e (ap (λ (m : ℕ). same (nameAt v k) (replicate m 0)) (sym n) ∙ same-zeros (nameAt v k))))
+
+-- ---- the working copy
+
+pub view-length : (s : Session) (device work : List ℕ) (b : ℕ) → length (view (stateOf s device work) b) ≡ 512
+unfolding view
+view-length s device work b = go (place b (stagedIn s))
+  where
+    go : (o : Option ℕ) → length (found o (blocksOf device b) (blocksOf work)) ≡ 512
+    go none = block-length device b
+    go (some i) = block-length work i

@@ -4,6 +4,7 @@ use mathlib.Core.Path.{_≡_, refl, sym, ap, _∙_}
 use mathlib.Core.Bool.{Bool, true, false, cond, _&&_}
 use mathlib.Core.List.{List, [], _∷_}
 use mathlib.Core.Option.{Option, none, some}
+use native.Mathlib.Nat.{add-zero}
 use native.Mathlib.Numerals.{add-one}
 use native.Mathlib.Omega.{arith}
 use borrow.Author.Tests.{eq-eqb, ne-eqb}
@@ -96,6 +97,41 @@ module _ (t : List ℕ) (i p r : ℕ) (e : p ≡ placeOfInode i) where
   pub depth-in : r ≡ getD t (p + 12) 0 → r ≡ inodeOf (recordIn t i) .depth
   unfolding inodeOf
   depth-in q = q ∙ rw e (sym (field-byte t (placeOfInode i) 32 (place-fits i) 12 (omega arith)))
+
+-- eight bytes, one by one
+eight : (xs : List ℕ) → length xs ≡ 8
+    → xs ≡ getD xs 0 0 ∷ getD xs 1 0 ∷ getD xs 2 0 ∷ getD xs 3 0 ∷ getD xs 4 0 ∷ getD xs 5 0 ∷ getD xs 6 0 ∷ getD xs 7 0 ∷ []
+eight [] h = absurd (omega arith)
+eight (a ∷ []) h = absurd (omega arith)
+eight (a ∷ b ∷ []) h = absurd (omega arith)
+eight (a ∷ b ∷ c ∷ []) h = absurd (omega arith)
+eight (a ∷ b ∷ c ∷ d ∷ []) h = absurd (omega arith)
+eight (a ∷ b ∷ c ∷ d ∷ e ∷ []) h = absurd (omega arith)
+eight (a ∷ b ∷ c ∷ d ∷ e ∷ f ∷ []) h = absurd (omega arith)
+eight (a ∷ b ∷ c ∷ d ∷ e ∷ f ∷ g ∷ []) h = absurd (omega arith)
+eight (a ∷ b ∷ c ∷ d ∷ e ∷ f ∷ g ∷ x ∷ []) h = refl
+eight (a ∷ b ∷ c ∷ d ∷ e ∷ f ∷ g ∷ x ∷ y ∷ xs) h = absurd (omega arith)
+
+-- the name as the code reads it, with the record's place p
+pub name-bytes : (t : List ℕ) (i p : ℕ) → p ≡ placeOfInode i
+    → (getD t p 0 ∷ getD t (p + 1) 0 ∷ getD t (p + 2) 0 ∷ getD t (p + 3) 0 ∷ getD t (p + 4) 0 ∷ getD t (p + 5) 0 ∷ getD t (p + 6) 0 ∷ getD t (p + 7) 0 ∷ [])
+    ≡ take 8 (recordIn t i)
+name-bytes t i p e =
+    let f = place-fits i in
+    let q : p + 8 ≤ 512 = omega arith in
+    let z : getD t p 0 ≡ getD (bytesIn t p 8) 0 0 = ap (λ (k : ℕ). getD t k 0) (sym (add-zero p)) ∙ sym (field-byte t p 8 q 0 (omega arith)) in
+    rw (
+      z,
+      ← field-byte t p 8 q 1 (omega arith),
+      ← field-byte t p 8 q 2 (omega arith),
+      ← field-byte t p 8 q 3 (omega arith),
+      ← field-byte t p 8 q 4 (omega arith),
+      ← field-byte t p 8 q 5 (omega arith),
+      ← field-byte t p 8 q 6 (omega arith),
+      ← field-byte t p 8 q 7 (omega arith),
+    )
+    (sym (eight (bytesIn t p 8) (field-length t p 8 q))
+    ∙ ap (λ (k : ℕ). bytesIn t k 8) e ∙ sym (field-take t (placeOfInode i) 32 (place-fits i) 8 (omega arith)))
 
 module _ (v : Disk) (t : List ℕ) (i : ℕ) (h : exactly 512 t ≡ v (blockOfInode i)) where
   pub record-at : recordIn t i ≡ inodeBytes v i

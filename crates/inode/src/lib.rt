@@ -10,7 +10,7 @@ use spec::Session;
 use transaction::view_block;
 ghost use mathlib.Core.Path.{_≡_};
 ghost use Prim.Native.Nat.{_+_, _*_, _%_, _<_, _≤_};
-ghost use lib.ListN.{length, take};
+ghost use lib.ListN.{length, take, getD};
 ghost use Rattle.spec.specs.Bytes.{exactly, same, allZero};
 ghost use Rattle.spec.specs.Inode.{inodeOf, blockOfInode, find, findEmpty};
 ghost use Rattle.spec.specs.Transaction.{view, stateOf};
@@ -88,6 +88,30 @@ pub fn same_name(table: &[u8], i: usize, name: &[u8]) -> bool
         return false;
     }
     same_at(table, place_in_block(i), name)
+}
+
+fn byte_in(table: &[u8], at: usize) -> u8
+    requires { ⌜ at < 512 ⌝ }
+    ensures { λ r. ⌜ r ≡ getD (now (table .entry)) at 0 ⌝ }
+{
+    load(table, at) as u8
+}
+
+// The name of record i.
+pub fn name_of(table: &[u8], i: usize) -> [u8; 8]
+    ensures { λ q. ⌜ q ≡ take 8 (recordIn (now (table .entry)) i) ⌝ }
+{
+    let p = place_in_block(i);
+    [
+        byte_in(table, p),
+        byte_in(table, p + 1),
+        byte_in(table, p + 2),
+        byte_in(table, p + 3),
+        byte_in(table, p + 4),
+        byte_in(table, p + 5),
+        byte_in(table, p + 6),
+        byte_in(table, p + 7),
+    ]
 }
 
 // "all zero: record empty"

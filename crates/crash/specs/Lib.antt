@@ -1,0 +1,10 @@
+pub mod Interface
+pub mod Tests
+pub mod Queries
+pub mod Changed
+pub mod Machine
+pub mod Invariant
+pub mod Steps
+pub mod Moments
+pub mod Recovery
+pub mod Theorem

@@ -4,20 +4,27 @@ use mathlib.Core.Path.{_≡_, refl, sym, ap, ap₂, _∙_}
 use mathlib.Core.Bool.{true, false}
 use mathlib.Core.List.{List}
 use borrow.Author.Tests.{le-leb, lt-leb}
-use lib.ListN.{take, replicate}
-use Rattle.spec.specs.Bytes.{exactly, allZero}
+use native.Mathlib.Omega.{arith}
+use mathlib.Core.Option.{Option, none, some}
+use lib.ListN.{length, take, drop, getElem?, replicate}
+use Rattle.spec.specs.Bytes.{exactly, allZero, found}
 use Rattle.spec.specs.Bitmap.{bitsOf, freeBits}
-use Rattle.spec.specs.Inode.{Inode, inodeOf, blockOfInode}
+use Rattle.spec.specs.Inode.{Inode, inodeOf, inodeAt, blockOfInode}
+use Rattle.spec.specs.Map.{contentOf}
+use Rattle.spec.specs.declared.Extent.{Extent}
 use Rattle.spec.specs.declared.Session.{Session}
 use Rattle.spec.specs.declared.FileRecord.{FileRecord}
 use Rattle.spec.specs.declared.Recorded.{Recorded}
 use Rattle.spec.specs.declared.Recorded.the-variants.{Refused, File, Empty}
 use Rattle.spec.specs.declared.Refusal.{Refusal}
-use Rattle.spec.specs.Answers.{counted, file, noFile, refusalOf, recordedOf, Blank, refuse, accept}
+use Rattle.spec.specs.Answers.{counted, file, noFile, run, noRun, refusalOf, recordedOf, Blank, refuse, accept}
 use Rattle.spec.specs.Transaction.{stateOf, view}
+use Rattle.extents.specs.declared.RunOf.the-variants as RunOf
+use Rattle.extents.specs.Stretches.{runOf as asRun}
+use Rattle.file.specs.Bytes.{Filled}
 use Rattle.inode.specs.Records.{recordIn}
 use Rattle.inode.proofs.Laws.{inode-at, record-at, empty-at}
-use Rattle.spec.specs.Calls.{Outcome, left, outcome, readyOk, fileOk, sizeOf, freeCount, recordAt}
+use Rattle.spec.specs.Calls.{Outcome, left, leftBuffer, outcome, withBuffer, readyOk, fileOk, read, sizeOf, freeCount, recordAt, runsOf, nthExtent}
 
 module _ (s : Session) (d w : List ℕ) where
   -- ---- size
@@ -76,3 +83,41 @@ module _ (s : Session) (d w : List ℕ) where
         rw (← e, lt-leb 128 i h, sym (empty-at (view (stateOf s d w)) table i g) ∙ f)
         (ap₂ (λ (x : List ℕ) (k : ℕ). outcome (stateOf s d w) (file x k))
         (n ∙ ap (take 8) (record-at (view (stateOf s d w)) table i g)) (z ∙ ap (λ (x : Inode). x .size) (inode-at (view (stateOf s d w)) table i g)))
+
+  -- ---- read
+
+  pub read-bad : (name buffer : List ℕ) (x : ℕ) (r : Refusal) → refuse r ≡ fileOk (stateOf s d w) name
+      → leftBuffer s d w (refusalOf r) buffer ≡ read (stateOf s d w) name x buffer
+  unfolding read
+  read-bad name buffer x r e = rw (← e)
+
+  pub read-fine : (name buffer after : List ℕ) (x i n : ℕ) → accept i ≡ fileOk (stateOf s d w) name
+      → Filled (take (length buffer) (drop x (contentOf (view (stateOf s d w)) (inodeAt (view (stateOf s d w)) i)))) buffer after n
+      → leftBuffer s d w (counted n) after ≡ read (stateOf s d w) name x buffer
+  unfolding read
+  read-fine name buffer after x i n e f =
+      rw (← e) (ap₂ (λ (k : ℕ) (b : List ℕ). withBuffer (stateOf s d w) (counted k) b) (f .count) (f .bytes))
+
+  -- ---- n-th extent
+
+  pub nth-bad : (name : List ℕ) (from n k : ℕ) (r : Refusal) → refuse r ≡ fileOk (stateOf s d w) name
+      → left s d w (refusalOf r) ≡ nthExtent (stateOf s d w) name from n k
+  unfolding nthExtent
+  nth-bad name from n k r e = rw (← e)
+
+  of-run : (o : Option Extent) (e : Extent) → RunOf.Run e ≡ asRun o → run e ≡ found o noRun run
+  of-run none e q = let z : _≡_ {A = ℕ} 0 1 = cc in absurd (omega arith)
+  of-run (some x) e q = let z : e ≡ x = cc in ap run z
+
+  of-none : (o : Option Extent) → RunOf.Nothing ≡ asRun o → noRun ≡ found o noRun run
+  of-none none q = refl
+  of-none (some x) q = let z : _≡_ {A = ℕ} 0 1 = cc in absurd (omega arith)
+
+  module _ (name : List ℕ) (from n k i : ℕ) (e : accept i ≡ fileOk (stateOf s d w) name) where
+    pub nth-run : (x : Extent) → RunOf.Run x ≡ asRun (getElem? (runsOf (stateOf s d w) i from n) k) → left s d w (run x) ≡ nthExtent (stateOf s d w) name from n k
+    unfolding nthExtent
+    nth-run x q = rw (← e) (ap (outcome (stateOf s d w)) (of-run (getElem? (runsOf (stateOf s d w) i from n) k) x q))
+
+    pub nth-none : RunOf.Nothing ≡ asRun (getElem? (runsOf (stateOf s d w) i from n) k) → left s d w noRun ≡ nthExtent (stateOf s d w) name from n k
+    unfolding nthExtent
+    nth-none q = rw (← e) (ap (outcome (stateOf s d w)) (of-none (getElem? (runsOf (stateOf s d w) i from n) k) q))

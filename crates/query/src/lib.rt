@@ -1,8 +1,12 @@
 // The public calls that only read: session, device and work space stay as they were.
+use block::ByteOffset;
 use block::DiskBlock;
+use block::FileBlock;
 use block::copy_of;
 use checks::Checked;
 use checks::ready;
+use extents::RunOf;
+use file::read_file;
 use inode::inode_block;
 use inode::is_empty;
 use inode::name_of;
@@ -13,13 +17,32 @@ use spec::Counted;
 use spec::FileRecord;
 use spec::Limits;
 use spec::Recorded;
+use spec::Run;
 use spec::Session;
 use transaction::view_block;
 ghost use mathlib.Core.Path.{_≡_};
 ghost use lib.ListN.{replicate};
-ghost use Rattle.spec.specs.Answers.{countedOf, recordedOf, Blank};
+ghost use Rattle.spec.specs.Answers.{countedOf, recordedOf, Blank, runOf};
 ghost use Rattle.spec.specs.Transaction.{stateOf};
-ghost use Rattle.spec.specs.Calls.{left, sizeOf, freeCount, recordAt};
+ghost use Rattle.spec.specs.Calls.{left, leftBuffer, read, sizeOf, freeCount, recordAt, nthExtent};
+
+// Bytes of a file from byte x on, as many as the buffer takes and the file has; how many.
+pub fn read<'a>(
+    device: &'a [u8],
+    work: &'a [u8],
+    session: Session,
+    name: &[u8],
+    x: ByteOffset,
+    buffer: &mut [u8],
+) -> Counted
+    ensures { λ r. ⌜ leftBuffer session (now (device .entry)) (now (work .entry)) (countedOf r) (now (buffer .exit))
+        ≡ read (stateOf session (now (device .entry)) (now (work .entry))) (now (name .entry)) (x .0) (now (buffer .entry)) ⌝ }
+{
+    match look_up(device, work, session, name) {
+        Looked::Bad(why) => Counted::Refused(why),
+        Looked::At(i) => Counted::Count(read_file(device, work, session, i, x, buffer)),
+    }
+}
 
 // The size of a file in bytes.
 pub fn size<'a>(device: &'a [u8], work: &'a [u8], session: Session, name: &[u8]) -> Counted
@@ -82,5 +105,28 @@ pub fn record_at<'a>(device: &'a [u8], work: &'a [u8], session: Session, i: usiz
                 size: size,
             }
         }
+    }
+}
+
+// The k-th extent of the run list of n blocks of a file from a block on, counted from 0.
+pub fn nth_extent<'a>(
+    device: &'a [u8],
+    work: &'a [u8],
+    session: Session,
+    name: &[u8],
+    from: FileBlock,
+    n: usize,
+    k: usize,
+) -> Run
+    ensures { λ r. ⌜ left session (now (device .entry)) (now (work .entry)) (runOf r)
+        ≡ nthExtent (stateOf session (now (device .entry)) (now (work .entry))) (now (name .entry)) (from .0) n k ⌝ }
+{
+    let first = from.0;
+    match look_up(device, work, session, name) {
+        Looked::Bad(why) => Run::Refused(why),
+        Looked::At(i) => match extents::nth_extent(device, work, session, i, first, n, k) {
+            RunOf::Run(e) => Run::Extent(e),
+            RunOf::Nothing => Run::Nothing,
+        },
     }
 }

@@ -7,6 +7,8 @@ use journal::commit_step;
 use journal::recovery_step;
 use mkfs::make_empty;
 pub use query::free_count;
+pub use query::nth_extent;
+pub use query::read;
 pub use query::record_at;
 pub use query::size;
 use spec::Advanced;

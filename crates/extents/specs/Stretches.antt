@@ -1,0 +1,98 @@
+-- Stretches of a file's data blocks, as the steps of this crate go through them.
+use Prim.Native.Nat.{ℕ, _+_, _-_, _<_, _≤_}
+use mathlib.Core.Path.{_≡_}
+use mathlib.Core.List.{List, [], _∷_, _++_}
+use mathlib.Core.Option.{Option, none, some}
+use lib.ListN.{take, drop}
+use Rattle.spec.specs.declared.Extent.{Extent}
+use Rattle.spec.specs.Bytes.{upFrom}
+use Rattle.spec.specs.Disk.{Disk}
+use Rattle.spec.specs.Inode.{extent, inodeAt, blockOfInode, blocksIn, dataOf, runs}
+use Rattle.inode.specs.declared.Cursor.{Cursor}
+use Rattle.inode.specs.Walk.{rest}
+use Rattle.extents.specs.declared.Place.{Place}
+use Rattle.extents.specs.declared.Place.the-variants as place
+use Rattle.extents.specs.declared.Sought.{Sought}
+use Rattle.extents.specs.declared.Sought.the-variants as sought
+use Rattle.extents.specs.declared.Scan.{Scan}
+use Rattle.extents.specs.declared.Piece.{Piece}
+use Rattle.extents.specs.declared.Piece.the-variants as piece
+use Rattle.extents.specs.declared.Growing.{Growing}
+use Rattle.extents.specs.declared.RunStep.{RunStep}
+use Rattle.extents.specs.declared.RunStep.the-variants as step
+use Rattle.extents.specs.declared.RunOf.{RunOf}
+use Rattle.extents.specs.declared.RunOf.the-variants as of
+
+-- ---- one block
+
+-- block k of the extent e is p blocks on from the cursor c, and d is behind e
+pub record Reached (v : Disk) (tb : ℕ) (c : Cursor) (p : ℕ) (e : Extent) (k : ℕ) (d : Cursor) : Type 0 where
+  pub blocks : drop p (blocksIn (rest v tb c)) ≡ upFrom (e .first + k) (e .count - k) ++ blocksIn (rest v tb d)
+  pub inside : k < e .count
+  pub first : e .first < 65536
+  pub count : e .count < 65536
+
+abbrev pub Seeks : Disk → ℕ → Cursor → ℕ → Sought → Type 0
+Seeks v tb c p (sought.In e k d) = Reached v tb c p e k d
+Seeks v tb c p sought.Nothing = drop p (blocksIn (rest v tb c)) ≡ []
+
+-- block p of the file of record i is block k of the extent e, and the blocks behind it, to the end of e or of the largest file, follow it in the file
+pub record Held (v : Disk) (i p : ℕ) (e : Extent) (k : ℕ) : Type 0 where
+  pub follow : (m : ℕ) → m ≤ e .count - k → p + m ≤ 2048 → take m (drop p (dataOf v (inodeAt v i))) ≡ upFrom (e .first + k) m
+  pub inside : k < e .count
+  pub low : p < 2048
+  pub first : e .first < 65536
+  pub count : e .count < 65536
+
+abbrev pub Places : Disk → ℕ → ℕ → Place → Type 0
+Places v i p (place.In e k) = Held v i p e k
+Places v i p place.Nothing = drop p (dataOf v (inodeAt v i)) ≡ []
+
+-- ---- a stretch
+
+-- the blocks that are left of it
+unfoldable pub pending : Disk → ℕ → Scan → List ℕ
+pending v tb c = take (c .room) (drop (c .skip) (blocksIn (rest v tb (c .at))))
+
+-- the n data blocks of record i from block `from` on
+pub record Starts (v : Disk) (i from n : ℕ) (c : Scan) : Type 0 where
+  pub blocks : pending v (blockOfInode i) c ≡ take n (drop from (dataOf v (inodeAt v i)))
+  pub room : c .room ≤ 2048
+
+-- the blocks of e come first, then what is left at d
+pub record NextPiece (v : Disk) (tb : ℕ) (c : Scan) (e : Extent) (d : Scan) : Type 0 where
+  pub blocks : pending v tb c ≡ upFrom (e .first) (e .count) ++ pending v tb d
+  pub some : 0 < e .count
+  pub first : e .first < 131072
+  pub room : e .count + d .room ≡ c .room
+
+abbrev pub Pieces : Disk → ℕ → Scan → Piece → Type 0
+Pieces v tb c (piece.Blocks e d) = NextPiece v tb c e d
+Pieces v tb c piece.End = pending v tb c ≡ []
+
+-- ---- its maximal runs
+
+unfoldable pub restRuns : Disk → ℕ → Growing → List Extent
+restRuns v tb g = runs (upFrom (g .run .first) (g .run .count) ++ pending v tb (g .scan))
+
+-- no number grows past its type
+pub record Fits (g : Growing) : Type 0 where
+  pub first : g .run .first < 131072
+  pub count : g .run .count + g .scan .room ≤ 2048
+
+pub record NextRun (v : Disk) (tb : ℕ) (c : Growing) (e : Extent) (d : Growing) : Type 0 where
+  pub runs : restRuns v tb c ≡ e ∷ restRuns v tb d
+  pub fits : Fits d
+
+abbrev pub RunSteps : Disk → ℕ → Growing → RunStep → Type 0
+RunSteps v tb c (step.Run e d) = NextRun v tb c e d
+RunSteps v tb c step.End = restRuns v tb c ≡ []
+
+-- at the start of a stretch: no run yet
+abbrev pub growingFrom : Scan → Growing
+growingFrom c = record { run = extent 0 0; scan = c }
+
+-- a run as the code tells it
+abbrev pub runOf : Option Extent → RunOf
+runOf none = of.Nothing
+runOf (some e) = of.Run e

@@ -7,7 +7,6 @@ use mathlib.Core.Option.{Option, none, some}
 use native.Mathlib.Nat.{add-zero}
 use native.Mathlib.Numerals.{add-one}
 use native.Mathlib.Omega.{arith}
-use borrow.Author.Tests.{eq-eqb, ne-eqb}
 use lib.Dec.{eqb}
 use lib.ListN.{length, take, drop, getD, replicate, length-take, length-drop, length-replicate}
 use lib.Seq.{getD-take, getD-drop, take-take, take-nil, drop-drop}
@@ -48,37 +47,33 @@ module _ (t : List ℕ) (at w : ℕ) (fits : at + w ≤ 512) where
   unfolding bytesIn
   field-length = simp (length-take, length-drop, length-exactly) (omega arith)
 
-pub drop-take : {A : Type 0} (m k : ℕ) (xs : List A) → drop m (take (m + k) xs) ≡ take k (drop m xs)
-drop-take zero k xs = let z : 0 + k ≡ k = omega arith in rw z
-drop-take (suc m) k [] = let z : suc m + k ≡ suc (m + k) = omega arith in rw z (sym (take-nil k))
-drop-take (suc m) k (x ∷ xs) = let z : suc m + k ≡ suc (m + k) = omega arith in rw z (drop-take m k xs)
+pub drop-take : {A : Type 0} (n k : ℕ) (xs : List A) → drop k (take n xs) ≡ take (n - k) (drop k xs)
+drop-take n zero xs = let z : n - 0 ≡ n = omega arith in rw z
+drop-take zero (suc k) xs = let z : 0 - suc k ≡ 0 = omega arith in rw z
+drop-take (suc n) (suc k) [] = sym (take-nil (suc n - suc k))
+drop-take (suc n) (suc k) (x ∷ xs) = let z : suc n - suc k ≡ n - k = omega arith in rw z (drop-take n k xs)
 
 -- slots need no bytes behind them
-slots-more : (n m : ℕ) (xs : List ℕ) → slotsIn n (take m (drop 4 xs)) ≡ slotsIn n (drop 4 xs) → slotsIn (suc n) (take (4 + m) xs) ≡ slotsIn (suc n) xs
+slots-more : (n k : ℕ) (xs : List ℕ) → 4 ≤ k → slotsIn n (take (k - 4) (drop 4 xs)) ≡ slotsIn n (drop 4 xs) → slotsIn (suc n) (take k xs) ≡ slotsIn (suc n) xs
 unfolding slotsIn
-slots-more n m xs h =
+slots-more n k xs l h =
     rw (
-      getD-take (4 + m) xs 0 0 (omega arith),
-      getD-take (4 + m) xs 1 0 (omega arith),
-      getD-take (4 + m) xs 2 0 (omega arith),
-      getD-take (4 + m) xs 3 0 (omega arith),
-      drop-take 4 m xs,
+      getD-take k xs 0 0 (omega arith),
+      getD-take k xs 1 0 (omega arith),
+      getD-take k xs 2 0 (omega arith),
+      getD-take k xs 3 0 (omega arith),
+      drop-take k 4 xs,
       h,
     )
 
 slots-front : (n k : ℕ) (xs : List ℕ) → 4 * n ≤ k → slotsIn n (take k xs) ≡ slotsIn n xs
 unfolding slotsIn
 slots-front zero k xs h = refl
-slots-front (suc n) k xs h = go (k - 4) (omega arith) (slots-front n (k - 4) (drop 4 xs) (omega arith))
-  where
-    go : (m : ℕ) → k ≡ 4 + m → slotsIn n (take m (drop 4 xs)) ≡ slotsIn n (drop 4 xs) → slotsIn (suc n) (take k xs) ≡ slotsIn (suc n) xs
-    go m z ih = rw z (slots-more n m xs ih)
+slots-front (suc n) k xs h = slots-more n k xs (omega arith) (slots-front n (k - 4) (drop 4 xs) (omega arith))
 
 pub field-slots : (xs : List ℕ) (at w o n : ℕ) → o + 4 * n ≤ w → slotsIn n (drop o (part at w xs)) ≡ slotsIn n (drop (at + o) xs)
 field-slots xs at w o n h =
-    let e : w ≡ o + (w - o) = omega arith in
-    ap (λ (m : ℕ). slotsIn n (drop o (take m (drop at xs)))) e
-    ∙ ap (slotsIn n) (drop-take o (w - o) (drop at xs))
+    ap (slotsIn n) (drop-take w o (drop at xs))
     ∙ slots-front n (w - o) (drop o (drop at xs)) (omega arith)
     ∙ ap (slotsIn n) (drop-drop o at xs)
 

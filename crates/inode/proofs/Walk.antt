@@ -1,19 +1,18 @@
 -- Laws of the walk over a file's tree. Assumes nothing.
-use Prim.Native.Nat.{ℕ, zero, suc, _+_, _*_, _-_, _%_, _<_, _≤_, min}
+use Prim.Native.Nat.{ℕ, zero, suc, _+_, _*_, _-_, _<_, _≤_, min}
 use mathlib.Core.Path.{_≡_, refl, sym, ap, ap₂, _∙_}
-use mathlib.Core.Bool.{Bool, true, false, cond, not, _&&_, true≢false}
-use mathlib.Core.List.{List, [], _∷_, _++_, map, append-nil, append-assoc}
-use mathlib.Core.Logic.{⊎-elim}
+use mathlib.Core.Bool.{Bool, true, false, not, _&&_, true≢false}
+use mathlib.Core.List.{List, [], _∷_, append-nil}
 use native.Mathlib.Omega.{arith}
 use lib.ListN.{length, take, drop, getD, List·getD-eq-default}
 use lib.Seq.{getD-drop, drop-drop}
 use lib.Dec.{eqb, ltb}
 use borrow.Author.Tests.{eqb-true, eqb-false, ltb-true, eq-eqb, ne-eqb, lt-ltb, not-true}
 use Rattle.spec.specs.declared.Extent.{Extent}
-use Rattle.spec.specs.Bytes.{exactly, number2, part}
+use Rattle.spec.specs.Bytes.{exactly, number2}
 use Rattle.spec.specs.Disk.{Disk, blocksOf}
-use Rattle.spec.specs.Inode.{extent, slotsIn, slotsAt, used, below, inodeOf, inodeBytes, inodeAt, blockOfInode, placeOfInode, treeDepth, extentsOf, levelsOf, nodesOf}
-use Rattle.block.proofs.Laws.{lt-or-le, part-number2}
+use Rattle.spec.specs.Inode.{extent, slotsIn, slotsAt, used, inodeOf, inodeBytes, inodeAt, blockOfInode, placeOfInode, treeDepth, extentsOf, levelsOf, nodesOf}
+use Rattle.block.proofs.Laws.{part-number2}
 use Rattle.inode.specs.declared.Cursor.{Cursor}
 use Rattle.inode.specs.declared.Step.{Step}
 use Rattle.inode.specs.declared.Step.the-variants.{Leaf, Node, End}

@@ -118,16 +118,16 @@ pub fn name_of(table: &[u8], i: usize) -> [u8; 8]
 pub fn is_empty(table: &[u8], i: usize) -> bool
     ensures { λ r. ⌜ r ≡ allZero (take 8 (recordIn (now (table .entry)) i)) ⌝ }
 {
-    let none = [0u8; 8];
-    same_at(table, place_in_block(i), &none)
+    let no_name = [0u8; 8];
+    same_at(table, place_in_block(i), &no_name)
 }
 
 // Whether all bytes of record i are zero.
 pub fn is_zero(table: &[u8], i: usize) -> bool
     ensures { λ r. ⌜ r ≡ allZero (recordIn (now (table .entry)) i) ⌝ }
 {
-    let none = [0u8; 32];
-    same_at(table, place_in_block(i), &none)
+    let zeros = [0u8; 32];
+    same_at(table, place_in_block(i), &zeros)
 }
 
 // The lowest of the 16 records from `first` on, which one block of the table holds, that has this name.

@@ -1,4 +1,3 @@
-use native.Mathlib.Omega.{arith}
 use Rattle.inode.proofs.Laws.{name-other, name-in}
 use borrow.Author.Needs.{needs}
 use Rattle.inode.proofs.same_name.Statement.{statement}

@@ -70,10 +70,8 @@ pub run-next : (v : Disk) → ((b : ℕ) → length (v b) ≡ 512) → (first co
 run-next v w first count skip len done n h k z m =
     let R = runBytes v first count in
     let q = skip + done in
-    let e : len ≡ done + (len - done) = omega arith in
     let f : q ≡ 512 * (q / 512) + q % 512 = omega arith in
-    ap (λ (i : ℕ). take n (drop done (take i (drop skip R)))) e
-    ∙ ap (take n) (drop-take done (len - done) (drop skip R))
+    ap (take n) (drop-take len done (drop skip R))
     ∙ take-take n (len - done) (drop done (drop skip R)) (omega arith)
     ∙ ap (take n) (drop-drop done skip R)
     ∙ ap (λ (i : ℕ). take n (drop i R)) f

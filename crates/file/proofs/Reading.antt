@@ -77,12 +77,12 @@ goes w u r len done skip n h k e q =
       part = sym (ap (take n) e ∙ take-take n (len - done) x (omega arith) ∙ ap (take n) y ∙ take-append-le n (drop skip u) r (omega arith));
       within = omega arith;
       rest =
-          sym (drop-drop n done w) ∙ ap (drop n) e ∙ ap (λ (m : ℕ). drop n (take m x)) (omega-sum len done n (omega arith))
-          ∙ drop-take n (len - (done + n)) x ∙ ap (λ (l : List ℕ). take (len - (done + n)) (drop n l)) y ∙ last (lt-or-le n (length u - skip));
+          sym (drop-drop n done w) ∙ ap (drop n) e ∙ drop-take (len - done) n x ∙ ap (λ (m : ℕ). take m (drop n x)) (less len done n)
+          ∙ ap (λ (l : List ℕ). take (len - (done + n)) (drop n l)) y ∙ last (lt-or-le n (length u - skip));
     }
   where
-    omega-sum : (len done n : ℕ) → n ≤ len - done → len - done ≡ n + (len - (done + n))
-    omega-sum len done n h = omega arith
+    less : (len done n : ℕ) → len - done - n ≡ len - (done + n)
+    less len done n = omega arith
 
     last : (n < length u - skip) ⊎ (length u - skip ≤ n) → take (len - (done + n)) (drop n (drop skip u ++ r)) ≡ take (len - (done + n)) r
     last (inl l) = let z : len - (done + n) ≡ 0 = omega arith in rw z
@@ -182,8 +182,7 @@ module _ (v : Disk) (i : ℕ) where
   unfolding contentOf blockBytes
   within-size x size n len e h q =
       let c = concat (map v (dataOf v (inodeAt v i))) in
-      let f : inodeAt v i .size ≡ x + (size - x) = omega arith in
-      sym (ap (λ (k : ℕ). take n (drop x (take k c))) f ∙ ap (take n) (drop-take x (size - x) c) ∙ fewer (lt-or-le n (size - x)))
+      sym (ap (λ (k : ℕ). take n (drop x (take k c))) (sym e) ∙ ap (take n) (drop-take size x c) ∙ fewer (lt-or-le n (size - x)))
     where
       fewer : (n < size - x) ⊎ (size - x ≤ n) → take n (take (size - x) (drop x (concat (map v (dataOf v (inodeAt v i)))))) ≡ take len (drop x (concat (map v (dataOf v (inodeAt v i)))))
       fewer (inl l) = let z : len ≡ n = omega arith in rw z (take-take n (size - x) (drop x (concat (map v (dataOf v (inodeAt v i))))) (omega arith))

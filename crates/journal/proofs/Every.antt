@@ -1,8 +1,8 @@
 -- What holds of all entries of a list. Assumes nothing.
-use Prim.Native.Nat.{ℕ, zero, suc, _<_, _≤_}
-use mathlib.Core.Path.{_≡_, refl, sym, ap}
-use mathlib.Core.Bool.{Bool, true, false, not, _&&_, true≢false}
-use mathlib.Core.List.{List, [], _∷_, map}
+use Prim.Native.Nat.{ℕ, zero, suc, _<_}
+use mathlib.Core.Path.{_≡_, refl, sym}
+use mathlib.Core.Bool.{Bool, true, false, true≢false}
+use mathlib.Core.List.{List, [], _∷_}
 use native.Mathlib.Omega.{arith}
 use borrow.Author.Tests.{eqb-false, ne-eqb}
 use lib.Dec.{eqb}
@@ -40,10 +40,11 @@ module _ {A : Type 0} where
   every-all f [] g = refl
   every-all f (x ∷ xs) g = rw (g .0, every-all f xs (g .1))
 
+-- b is none of them
 abbrev pub Avoids : ℕ → List ℕ → Type 0
 Avoids b xs = Every (λ x. x ≡ b → ⊥) xs
 
-pub no-member : (b : ℕ) (xs : List ℕ) → member b xs ≡ false → Avoids b xs
+no-member : (b : ℕ) (xs : List ℕ) → member b xs ≡ false → Avoids b xs
 no-member b [] h = tt
 no-member b (x ∷ xs) h = go (eqb x b) refl (no-member b xs)
   where
@@ -55,6 +56,7 @@ pub member-no : (b : ℕ) (xs : List ℕ) → Avoids b xs → member b xs ≡ fa
 member-no b [] g = refl
 member-no b (x ∷ xs) g = rw (ne-eqb x b (g .0)) (member-no b xs (g .1))
 
+-- none twice
 abbrev pub Differ : List ℕ → Type 0
 Differ [] = Unit {0}
 Differ (x ∷ xs) = Avoids x xs × Differ xs

@@ -1,9 +1,9 @@
 -- Laws of the stores of a commit and of a recovery, by place. Assumes nothing.
-use Prim.Native.Nat.{ℕ, zero, suc, _+_, _*_, _-_, _<_, _≤_}
+use Prim.Native.Nat.{ℕ, zero, suc, _+_, _*_, _<_, _≤_}
 use mathlib.Core.Path.{_≡_, refl, sym, ap, ap₂, _∙_}
-use mathlib.Core.Bool.{Bool, true, false, cond}
-use mathlib.Core.List.{List, [], _∷_, _++_, map}
-use mathlib.Core.Option.{Option, none, some}
+use mathlib.Core.Bool.{true, false}
+use mathlib.Core.List.{List, [], _∷_, _++_}
+use mathlib.Core.Option.{none, some}
 use native.Mathlib.Nat.{zero-add}
 use native.Mathlib.Omega.{arith}
 use lib.ListN.{length, getD, getElem?, length-append}
@@ -14,7 +14,7 @@ use Rattle.spec.specs.Transaction.{State, BlockStore, put}
 use Rattle.spec.specs.Journal.{headerOf, targetsIn, areTargets, imagesFrom, redoFrom, clearing, stagedStores, commitStores, recoveryStores}
 use Rattle.journal.specs.Order.{rank, blocks, inOrder, sorted}
 use Rattle.journal.proofs.Order.{blank, order-length, order-at, order-blocks, sorted-length, sorted-at}
-use Rattle.journal.proofs.Header.{Listed, listed-by}
+use Rattle.journal.proofs.Listed.{targets-listed}
 
 -- ---- places of lists
 
@@ -33,11 +33,11 @@ module _ {A : Type 0} where
   at-end (x ∷ xs) zero h = absurd (omega arith)
   at-end (x ∷ xs) (suc d) h = at-end xs d (omega arith)
 
-pub length-images : (b : ℕ) (ws : List BlockStore) → length (imagesFrom b ws) ≡ length ws
+length-images : (b : ℕ) (ws : List BlockStore) → length (imagesFrom b ws) ≡ length ws
 length-images b [] = refl
 length-images b (w ∷ ws) = ap suc (length-images (suc b) ws)
 
-pub length-redo : (b : ℕ) (d : Disk) (ts : List ℕ) → length (redoFrom b d ts) ≡ length ts
+length-redo : (b : ℕ) (d : Disk) (ts : List ℕ) → length (redoFrom b d ts) ≡ length ts
 length-redo b d [] = refl
 length-redo b d (t ∷ ts) = ap suc (length-redo (suc b) d ts)
 
@@ -91,7 +91,7 @@ module _ (N : ℕ) (d : Disk) where
 
 -- ---- a commit
 
-staged-are : (s : State) → stagedStores s ≡ inOrder (stagedIn (s .session)) (s .work .block)
+pub staged-are : (s : State) → stagedStores s ≡ inOrder (stagedIn (s .session)) (s .work .block)
 unfolding stagedStores inOrder
 staged-are s = refl
 
@@ -111,7 +111,7 @@ module _ (s : State) where
     ws = inOrder bs (s .work .block)
 
     differ : distinct bs ≡ true
-    differ = listed-by N bs listed .differ
+    differ = targets-listed N bs listed .differ
 
     abbrev rest : List BlockStore
     rest = put 0 (headerOf (sorted bs)) ∷ redo (s .device .block) (sorted bs)

@@ -1,7 +1,8 @@
 pub mod Tables
 pub mod Every
 pub mod Order
-pub mod Loops
+pub mod Listed
 pub mod Header
+pub mod Loops
 pub mod Laws
 pub mod Steps

@@ -1,8 +1,8 @@
 -- What the functions that choose and make a store leave to prove. Assumes nothing.
 use Prim.Native.Nat.{ℕ, suc, _+_, _*_, _-_, _<_, _≤_}
 use mathlib.Core.Path.{_≡_, refl, sym, ap, ap₂, _∙_, fun-ext}
-use mathlib.Core.Bool.{Bool, true, false, cond, not, _||_, true≢false}
-use mathlib.Core.List.{List, [], _∷_, map}
+use mathlib.Core.Bool.{Bool, true, false, not, _||_, true≢false}
+use mathlib.Core.List.{List, [], map}
 use mathlib.Core.Option.{some}
 use native.Mathlib.Numerals.{add-one}
 use native.Mathlib.Omega.{arith}
@@ -13,12 +13,12 @@ use lib.Seq.{length-take-le, getD-take, take-all}
 use Rattle.spec.specs.Bytes.{zeros, patch, bytes2, distinct, leading, upFrom}
 use Rattle.spec.specs.Disk.{Slice, blocksOf, sliceOf}
 use Rattle.spec.specs.declared.Advanced.{Advanced}
+use Rattle.spec.specs.declared.Phase.{Phase}
 use Rattle.spec.specs.declared.Session.{Session}
-use Rattle.spec.specs.declared.Stored.{Stored}
 use Rattle.spec.specs.declared.Stored.the-variants.{Idle}
 use Rattle.spec.specs.Session.{opened, inPhase, stagedIn}
 use Rattle.spec.specs.declared.Phase.the-variants.{Closed, Ready, Committing, Recovering}
-use Rattle.spec.specs.Answers.{Answer, stored, idle, storedOf}
+use Rattle.spec.specs.Answers.{storedOf}
 use Rattle.spec.specs.Transaction.{BlockStore, put, stateOf}
 use Rattle.spec.specs.Journal.{headerOf, targetsIn, areTargets, commitStores, recoveryStores}
 use Rattle.spec.specs.Calls.{Outcome, perform, advanceIn, left}
@@ -26,12 +26,12 @@ use Rattle.block.specs.Stores.{storedIn}
 use Rattle.block.proofs.Laws.{part-number2}
 use Rattle.journal.specs.Header.{listOf, Holds}
 use Rattle.journal.specs.Order.{rank, sorted}
-use Rattle.journal.specs.Entries.{contentOf, storeOf}
+use Rattle.journal.specs.Entries.{entryContent, entryStore, Told}
 use Rattle.journal.specs.declared.Entry.{Entry}
 use Rattle.journal.specs.declared.Targets.{Targets}
-use Rattle.journal.proofs.Every.{every-at}
 use Rattle.journal.proofs.Order.{sorted-length, sorted-at}
-use Rattle.journal.proofs.Header.{Listed, listed-by, listed-within, length-header, header-none, header-more}
+use Rattle.journal.proofs.Listed.{targets-listed, targets-some, listed-at}
+use Rattle.journal.proofs.Header.{length-header, header-none, header-more}
 use Rattle.journal.proofs.Laws.{at-end, commit-none, commit-length, commit-image, commit-list, commit-target, commit-clearing, recovery-none, recovery-stores, recovery-length, redo, redo-target, redo-clearing}
 
 -- ---- the header, with the r lowest of the first n cells listed
@@ -66,18 +66,16 @@ module _ (l : List ℕ) (n : ℕ) (differ : distinct (take n l) ≡ true) (full 
 
 -- ---- entries of a commit
 
-module _ (s : Session) (t : Targets) (h : Holds t (stagedIn s)) (full : length (t .list) ≡ 32) (listed : areTargets (s .blocks) (stagedIn s) ≡ true) (d : ℕ) where
+module _ (s : Session) (t : Targets) (h : Holds t (stagedIn s)) (listed : areTargets (s .blocks) (stagedIn s) ≡ true) (d : ℕ) where
   number : (i : ℕ) → i < t .count → getD (stagedIn s) i 0 ≡ getD (t .list) i 0
   number i k = ap (λ (bs : List ℕ). getD bs i 0) (sym (h .list)) ∙ getD-take (t .count) (t .list) i 0 k
 
   within : (i : ℕ) → i < t .count → (33 ≤ getD (t .list) i 0) × (getD (t .list) i 0 < s .blocks)
-  within i k =
-      let g = listed-within (s .blocks) (stagedIn s) (listed-by (s .blocks) (stagedIn s) listed) in
-      rw (number i k) at (every-at (λ (b : ℕ). (33 ≤ b) × (b < s .blocks)) (stagedIn s) i 0 g (rw (← h .count) k))
+  within i k = rw (number i k) at (listed-at (s .blocks) (stagedIn s) (targets-listed (s .blocks) (stagedIn s) listed) i (rw (← h .count) k))
 
   -- block 0 is on the device: a target is
   header-within : 0 < s .blocks
-  header-within = omega (arith, within 0 (omega (arith, listed-by (s .blocks) (stagedIn s) listed .some, h .count)) .1)
+  header-within = omega (arith, within 0 (omega (arith, targets-some (s .blocks) (stagedIn s) listed, h .count)) .1)
 
   ranks : (i r : ℕ) → i < t .count → rank (getD (t .list) i 0) (listOf t) ≡ r → rank (getD (stagedIn s) i 0) (stagedIn s) ≡ r
   ranks i r k e = rw (number i k, ← h .list) e
@@ -117,9 +115,7 @@ module _ (N : ℕ) (t : Targets) (few : t .count ≤ 32) (full : length (t .list
   cell i k = getD-take (t .count) (t .list) i 0 k
 
   inside : (i : ℕ) → i < t .count → getD (t .list) i 0 < N
-  inside i k =
-      let g = listed-within N (listOf t) (listed-by N (listOf t) listed) in
-      rw (cell i k) at (every-at (λ (b : ℕ). (33 ≤ b) × (b < N)) (listOf t) i 0 g (rw held k) .1)
+  inside i k = rw (cell i k) at (listed-at N (listOf t) (targets-listed N (listOf t) listed) i (rw held k) .1)
 
   redone : (device : List ℕ) → listOf t ≡ targetsIn (blocksOf device 0) → recoveryStores N (blocksOf device) ≡ redo (blocksOf device) (listOf t)
   redone device e = recovery-stores N (blocksOf device) (rw (← e) listed) ∙ ap (redo (blocksOf device)) (sym e)
@@ -135,30 +131,72 @@ module _ (N : ℕ) (t : Targets) (few : t .count ≤ 32) (full : length (t .list
   pub entry-redone : d ≡ t .count → (0 < N) × ((device work : List ℕ) → listOf t ≡ targetsIn (blocksOf device 0)
       → getElem? (recoveryStores N (blocksOf device)) d ≡ some (put 0 (zeros 512)))
   entry-redone k = (
-    omega (arith, inside 0 (omega (arith, listed-by N (listOf t) listed .some, held))),
+    omega (arith, inside 0 (omega (arith, targets-some N (listOf t) listed, held))),
     λ device work e. rw (redone device e) (ap (getElem? (redo (blocksOf device) (listOf t))) (k ∙ sym held) ∙ redo-clearing (blocksOf device) (listOf t)),
   )
 
 -- ---- one step
 
--- nothing is under way, by the code's test
-over : (a : Bool) (n d : ℕ) (stores : List BlockStore) → (a ≡ false → stores ≡ []) → (a ≡ true → length stores ≡ n) → (not a || leb n d) ≡ true → length stores ≤ d
-over false n d stores none all h = rw (none refl) (omega arith)
-over true n d stores none all h = rw (all refl) (leb-true n d h)
+-- what `store_entry` leaves
+pub made : (v w : Slice) (b : ℕ) (x y : List ℕ) → v ≡ storedIn w b x → x ≡ y → v ≡ storedIn w b y
+made v w b x y e q = e ∙ ap (storedIn w b) q
 
-goes-on : (a : Bool) (n d : ℕ) → (not a || leb n d) ≡ false → (a ≡ true) × (d < n)
-goes-on false n d h = absurd (true≢false h)
-goes-on true n d h = (refl, leb-false n d h)
+pub listed-distinct : (N : ℕ) (bs cs : List ℕ) → bs ≡ cs → areTargets N cs ≡ true → distinct bs ≡ true
+listed-distinct N bs cs e h = rw e (targets-listed N cs h .differ)
 
-module _ (s : Session) (device work : List ℕ) (stores : List BlockStore) (d : ℕ) (next last : Session) where
-  perform-idle : (r : Advanced) → length stores ≤ d → (r .session ≡ s) × (r .answer ≡ Idle)
-      → left (r .session) device work (storedOf (r .answer)) ≡ perform (stateOf s device work) stores d next last
-  perform-idle r h e = rw (e .0, e .1, at-end stores d h)
+-- the code's test: are the targets such as a log may list, and is d one of n places?
+goes : (a : Bool) (n d : ℕ) → (not a || leb n d) ≡ false → (a ≡ true) × (d < n)
+goes false n d h = absurd (true≢false h)
+goes true n d h = (refl, leb-false n d h)
 
-  perform-stored : (b : ℕ) (x after : List ℕ) (n : ℕ) (q : Session) → getElem? stores d ≡ some (put b x) → sliceOf after ≡ storedIn (sliceOf device) b x
-      → length stores ≡ n → q ≡ cond (eqb (d + 1) n) last next
-      → left q after work (stored b (eqb (d + 1) n) (d + 1)) ≡ perform (stateOf s device work) stores d next last
-  perform-stored b x after n q e g m h = rw (e, g, h, m, add-one d)
+-- n stores in order, none where the test a fails
+module _ (s : Session) (device work : List ℕ) (stores : List BlockStore) (a : Bool) (n d : ℕ) (none : a ≡ false → stores ≡ []) (all : a ≡ true → length stores ≡ n)
+    (phase : ℕ → Phase) (done : Phase) where
+  abbrev performed : Outcome
+  performed = perform (stateOf s device work) stores d (inPhase s (phase (suc d))) (opened (s .blocks) done)
+
+  step-idle : (r : Advanced) → (not a || leb n d) ≡ true → (r .session ≡ s) × (r .answer ≡ Idle) → left (r .session) device work (storedOf (r .answer)) ≡ performed
+  step-idle r q e = rw (e .0, e .1, at-end stores d (over a refl q))
+    where
+      over : (t : Bool) → a ≡ t → (not t || leb n d) ≡ true → length stores ≤ d
+      over false p h = rw (none p) (omega arith)
+      over true p h = rw (all p) (leb-true n d h)
+
+  step-stored : (r : Advanced) (b : ℕ) (x after : List ℕ) → (not a || leb n d) ≡ false → getElem? stores d ≡ some (put b x)
+      → sliceOf after ≡ storedIn (sliceOf device) b x → Told s b d n (phase (d + 1)) done r → left (r .session) after work (storedOf (r .answer)) ≡ performed
+  step-stored r b x after q e g t = rw (t .session, t .answer, e, g, all (goes a n d q .0), add-one d)
+
+module _ (s : Session) (d : ℕ) (t : Targets) (a : Bool) (test : a ≡ areTargets (s .blocks) (listOf t)) (h : Holds t (stagedIn s)) where
+  may : areTargets (s .blocks) (stagedIn s) ≡ a
+  may = ap (areTargets (s .blocks)) (sym (h .list)) ∙ sym test
+
+  pub commit-goes : (not a || leb (2 * t .count + 2) d) ≡ false → (areTargets (s .blocks) (stagedIn s) ≡ true) × (d < 2 * length (stagedIn s) + 2)
+  commit-goes q = let g = goes a (2 * t .count + 2) d q in (may ∙ g .0, rw (← h .count) (g .1))
+
+  module _ (device work : List ℕ) where
+    abbrev commits : List BlockStore
+    commits = commitStores (stateOf s device work)
+
+    commits-none : a ≡ false → commits ≡ []
+    commits-none e = commit-none (stateOf s device work) (may ∙ e)
+
+    commits-length : a ≡ true → length commits ≡ 2 * t .count + 2
+    commits-length e = commit-length (stateOf s device work) (may ∙ e) ∙ ap (λ (n : ℕ). 2 * n + 2) (sym (h .count))
+
+    pub commit-idle : (r : Advanced) → (not a || leb (2 * t .count + 2) d) ≡ true → (r .session ≡ s) × (r .answer ≡ Idle)
+        → left (r .session) device work (storedOf (r .answer)) ≡ advanceIn (stateOf s device work) (Committing d)
+    unfolding advanceIn
+    commit-idle = step-idle s device work commits a (2 * t .count + 2) d commits-none commits-length Committing Ready
+
+    pub commit-stored : (r : Advanced) (e : Entry) (after : List ℕ) → (not a || leb (2 * t .count + 2) d) ≡ false
+        → getElem? commits d ≡ some (entryStore (stagedIn s) device work e)
+        → sliceOf after ≡ storedIn (sliceOf device) (e .block .0) (entryContent (listOf t) device work (e .source))
+        → Told s (e .block .0) d (2 * t .count + 2) (Committing (d + 1)) Ready r
+        → left (r .session) after work (storedOf (r .answer)) ≡ advanceIn (stateOf s device work) (Committing d)
+    unfolding advanceIn
+    commit-stored r e after q g m =
+        step-stored s device work commits a (2 * t .count + 2) d commits-none commits-length Committing Ready r (e .block .0) (entryContent (stagedIn s) device work (e .source)) after
+        q g (m ∙ ap (λ (bs : List ℕ). storedIn (sliceOf device) (e .block .0) (entryContent bs device work (e .source))) (h .list))
 
 -- the targets of block 0, as far as the device reaches
 head-targets : (device head : List ℕ) → head ≡ take 512 (drop (512 * 0) device) → targetsIn head ≡ targetsIn (blocksOf device 0)
@@ -166,79 +204,36 @@ unfolding targetsIn
 head-targets device head e =
     ap (λ (f : ℕ → ℕ). leading (λ t. not (eqb t 0)) (map f (upFrom 0 32))) (fun-ext (λ i. part-number2 device head 0 (16 * i) e))
 
-pub recovers : (t : Targets) (device head : List ℕ) → head ≡ take 512 (drop (512 * 0) device) → Holds t (targetsIn head) → listOf t ≡ targetsIn (blocksOf device 0)
-recovers t device head e h = h .list ∙ head-targets device head e
+pub recovers : (t : Targets) (device head : List ℕ) → head ≡ take 512 (drop (512 * 0) device) → Holds t (targetsIn head) → Holds t (targetsIn (blocksOf device 0))
+recovers t device head e h = rw (head-targets device head e) at h
 
 pub recovery-goes : (N d : ℕ) (t : Targets) (a : Bool) → a ≡ areTargets N (listOf t) → t .count ≤ 32 → (not a || leb (t .count + 1) d) ≡ false
     → (areTargets N (listOf t) ≡ true) × (t .count ≤ 32) × (d ≤ t .count)
-recovery-goes N d t a test few q = let g = goes-on a (t .count + 1) d q in (sym test ∙ g .0, few, omega (arith, g .1))
+recovery-goes N d t a test few q = let g = goes a (t .count + 1) d q in (sym test ∙ g .0, few, omega (arith, g .1))
 
-module _ (s : Session) (d : ℕ) (t : Targets) (a : Bool) (test : a ≡ areTargets (s .blocks) (listOf t)) where
-  module _ (h : Holds t (stagedIn s)) where
-    may : areTargets (s .blocks) (stagedIn s) ≡ a
-    may = ap (areTargets (s .blocks)) (sym (h .list)) ∙ sym test
+module _ (s : Session) (d : ℕ) (t : Targets) (a : Bool) (test : a ≡ areTargets (s .blocks) (listOf t)) (device : List ℕ) (h : Holds t (targetsIn (blocksOf device 0))) (work : List ℕ) where
+  can : areTargets (s .blocks) (targetsIn (blocksOf device 0)) ≡ a
+  can = ap (areTargets (s .blocks)) (sym (h .list)) ∙ sym test
 
-    pub commit-goes : (not a || leb (2 * t .count + 2) d) ≡ false → (areTargets (s .blocks) (stagedIn s) ≡ true) × (d < 2 * length (stagedIn s) + 2)
-    commit-goes q = let g = goes-on a (2 * t .count + 2) d q in (may ∙ g .0, rw (← h .count) (g .1))
+  abbrev recoveries : List BlockStore
+  recoveries = recoveryStores (s .blocks) (blocksOf device)
 
-    module _ (device work : List ℕ) where
-      abbrev commits : List BlockStore
-      commits = commitStores (stateOf s device work)
+  recoveries-none : a ≡ false → recoveries ≡ []
+  recoveries-none e = recovery-none (s .blocks) (blocksOf device) (can ∙ e)
 
-      commits-length : a ≡ true → length commits ≡ 2 * t .count + 2
-      commits-length e = commit-length (stateOf s device work) (may ∙ e) ∙ ap (λ (n : ℕ). 2 * n + 2) (sym (h .count))
+  recoveries-length : a ≡ true → length recoveries ≡ t .count + 1
+  recoveries-length e = recovery-length (s .blocks) (blocksOf device) (can ∙ e) ∙ ap (λ (n : ℕ). n + 1) (sym (h .count))
 
-      pub commit-idle : (r : Advanced) → (not a || leb (2 * t .count + 2) d) ≡ true → (r .session ≡ s) × (r .answer ≡ Idle)
-          → left (r .session) device work (storedOf (r .answer)) ≡ advanceIn (stateOf s device work) (Committing d)
-      unfolding advanceIn
-      commit-idle r q i =
-          perform-idle s device work commits d (inPhase s (Committing (suc d))) (opened (s .blocks) Ready) r
-          (over a (2 * t .count + 2) d commits (λ e. commit-none (stateOf s device work) (may ∙ e)) commits-length q) i
+  pub recovery-idle : (r : Advanced) → (not a || leb (t .count + 1) d) ≡ true → (r .session ≡ s) × (r .answer ≡ Idle)
+      → left (r .session) device work (storedOf (r .answer)) ≡ advanceIn (stateOf s device work) (Recovering d)
+  unfolding advanceIn
+  recovery-idle = step-idle s device work recoveries a (t .count + 1) d recoveries-none recoveries-length Recovering Closed
 
-      pub commit-stored : (e : Entry) (after : List ℕ) (q : Session) → (not a || leb (2 * t .count + 2) d) ≡ false
-          → getElem? commits d ≡ some (storeOf (stagedIn s) device work e)
-          → sliceOf after ≡ storedIn (sliceOf device) (e .block .0) (contentOf (listOf t) device work (e .source))
-          → q ≡ cond (eqb (d + 1) (2 * t .count + 2)) (opened (s .blocks) Ready) (inPhase s (Committing (d + 1)))
-          → left q after work (stored (e .block .0) (eqb (d + 1) (2 * t .count + 2)) (d + 1)) ≡ advanceIn (stateOf s device work) (Committing d)
-      unfolding advanceIn
-      commit-stored e after q p g m n =
-          perform-stored s device work commits d (inPhase s (Committing (suc d))) (opened (s .blocks) Ready)
-          (e .block .0) (contentOf (stagedIn s) device work (e .source)) after (2 * t .count + 2) q
-          g (m ∙ ap (λ (bs : List ℕ). storedIn (sliceOf device) (e .block .0) (contentOf bs device work (e .source))) (h .list))
-          (commits-length (goes-on a (2 * t .count + 2) d p .0)) (n ∙ rw (add-one d))
-
-  module _ (device head : List ℕ) (read : head ≡ take 512 (drop (512 * 0) device)) (h : Holds t (targetsIn head)) where
-    can : areTargets (s .blocks) (targetsIn (blocksOf device 0)) ≡ a
-    can = ap (areTargets (s .blocks)) (sym (recovers t device head read h)) ∙ sym test
-
-    module _ (work : List ℕ) where
-      abbrev recoveries : List BlockStore
-      recoveries = recoveryStores (s .blocks) (blocksOf device)
-
-      recoveries-length : a ≡ true → length recoveries ≡ t .count + 1
-      recoveries-length e = recovery-length (s .blocks) (blocksOf device) (can ∙ e) ∙ ap (λ (n : ℕ). n + 1) (sym (h .count ∙ ap length (head-targets device head read)))
-
-      pub recovery-idle : (r : Advanced) → (not a || leb (t .count + 1) d) ≡ true → (r .session ≡ s) × (r .answer ≡ Idle)
-          → left (r .session) device work (storedOf (r .answer)) ≡ advanceIn (stateOf s device work) (Recovering d)
-      unfolding advanceIn
-      recovery-idle r q i =
-          perform-idle s device work recoveries d (inPhase s (Recovering (suc d))) (opened (s .blocks) Closed) r
-          (over a (t .count + 1) d recoveries (λ e. recovery-none (s .blocks) (blocksOf device) (can ∙ e)) recoveries-length q) i
-
-      pub recovery-stored : (e : Entry) (after : List ℕ) (q : Session) → (not a || leb (t .count + 1) d) ≡ false
-          → getElem? recoveries d ≡ some (storeOf (listOf t) device work e)
-          → sliceOf after ≡ storedIn (sliceOf device) (e .block .0) (contentOf (listOf t) device work (e .source))
-          → q ≡ cond (eqb (d + 1) (t .count + 1)) (opened (s .blocks) Closed) (inPhase s (Recovering (d + 1)))
-          → left q after work (stored (e .block .0) (eqb (d + 1) (t .count + 1)) (d + 1)) ≡ advanceIn (stateOf s device work) (Recovering d)
-      unfolding advanceIn
-      recovery-stored e after q p g m n =
-          perform-stored s device work recoveries d (inPhase s (Recovering (suc d))) (opened (s .blocks) Closed)
-          (e .block .0) (contentOf (listOf t) device work (e .source)) after (t .count + 1) q
-          g m (recoveries-length (goes-on a (t .count + 1) d p .0)) (n ∙ rw (add-one d))
-
--- what `make` leaves
-pub made : (v w : Slice) (b : ℕ) (x y : List ℕ) → v ≡ storedIn w b x → x ≡ y → v ≡ storedIn w b y
-made v w b x y e q = e ∙ ap (storedIn w b) q
-
-pub listed-distinct : (N : ℕ) (bs cs : List ℕ) → bs ≡ cs → areTargets N cs ≡ true → distinct bs ≡ true
-listed-distinct N bs cs e h = rw e (listed-by N cs h .differ)
+  pub recovery-stored : (r : Advanced) (e : Entry) (after : List ℕ) → (not a || leb (t .count + 1) d) ≡ false
+      → getElem? recoveries d ≡ some (entryStore (listOf t) device work e)
+      → sliceOf after ≡ storedIn (sliceOf device) (e .block .0) (entryContent (listOf t) device work (e .source))
+      → Told s (e .block .0) d (t .count + 1) (Recovering (d + 1)) Closed r
+      → left (r .session) after work (storedOf (r .answer)) ≡ advanceIn (stateOf s device work) (Recovering d)
+  unfolding advanceIn
+  recovery-stored r e after =
+      step-stored s device work recoveries a (t .count + 1) d recoveries-none recoveries-length Recovering Closed r (e .block .0) (entryContent (listOf t) device work (e .source)) after

@@ -1,0 +1,78 @@
+-- What a log may list: laws of `areTargets`. Assumes nothing.
+use Prim.Native.Nat.{ℕ, _<_, _≤_}
+use mathlib.Core.Path.{_≡_, refl, sym, _∙_}
+use mathlib.Core.Bool.{Bool, true, false, not, _&&_, and-false, true≢false}
+use mathlib.Core.List.{List, [], _∷_}
+use native.Mathlib.Omega.{arith}
+use borrow.Author.Tests.{eqb-false, ne-eqb, ltb-true, ltb-false, not-true}
+use lib.Dec.{eqb, ltb}
+use lib.ListN.{length, getD}
+use Rattle.spec.specs.Bytes.{all, distinct}
+use Rattle.spec.specs.Disk.{isTarget, isTargetArea, areaOf}
+use Rattle.spec.specs.Journal.{areTargets}
+use Rattle.transaction.proofs.Laws.{Listed}
+use Rattle.journal.specs.Order.{sorted}
+use Rattle.journal.proofs.Every.{Every, every-at, every-weaken, all-every, every-all, Differ, differ-distinct}
+use Rattle.journal.proofs.Order.{Ascending, order-rises, order-every, sorted-length}
+
+-- within 33 to N-1
+pub target-within : (N b : ℕ) → isTarget N b ≡ true → (33 ≤ b) × (b < N)
+unfolding isTarget areaOf
+target-within N b h = go (ltb b 1) refl (ltb b 33) refl (ltb b N) refl
+  where
+    go : (t : Bool) → ltb b 1 ≡ t → (u : Bool) → ltb b 33 ≡ u → (v : Bool) → ltb b N ≡ v → (33 ≤ b) × (b < N)
+    go true p u q v r = absurd (true≢false (sym (rw p at h)))
+    go false p true q v r = absurd (true≢false (sym (rw (p, q) at h)))
+    go false p false q true r = (ltb-false b 33 q, ltb-true b N r)
+    go false p false q false r = absurd (true≢false (sym (sym (and-false (isTargetArea (areaOf b))) ∙ (rw r at h))))
+
+module _ (N : ℕ) (ts : List ℕ) (l : Listed N ts) where
+  pub listed-every : Every (λ t. isTarget N t ≡ true) ts
+  listed-every = all-every (isTarget N) ts (l .targets)
+
+  pub listed-at : (i : ℕ) → i < length ts → (33 ≤ getD ts i 0) × (getD ts i 0 < N)
+  listed-at i k = target-within N (getD ts i 0) (every-at (λ (t : ℕ). isTarget N t ≡ true) ts i 0 listed-every k)
+
+-- ---- the test apart
+
+both : (a b : Bool) → (a && b) ≡ true → (a ≡ true) × (b ≡ true)
+both true b h = (refl, h)
+both false b h = absurd (true≢false (sym h))
+
+module _ (N : ℕ) (ts : List ℕ) where
+  pub listed-targets : Listed N ts → 0 < length ts → areTargets N ts ≡ true
+  unfolding areTargets
+  listed-targets l h = rw (ne-eqb (length ts) 0 (λ q. omega arith), l .targets, l .differ)
+
+  parts : areTargets N ts ≡ true → (not (eqb (length ts) 0) ≡ true) × Listed N ts
+  unfolding areTargets
+  parts h =
+      let p = both (not (eqb (length ts) 0) && all (isTarget N) ts) (distinct ts) h in
+      let q = both (not (eqb (length ts) 0)) (all (isTarget N) ts) (p .0) in
+      (q .0, record { targets = q .1; differ = p .1 })
+
+  pub targets-listed : areTargets N ts ≡ true → Listed N ts
+  targets-listed h = parts h .1
+
+  pub targets-some : areTargets N ts ≡ true → 0 < length ts
+  targets-some h = omega (arith, eqb-false (length ts) 0 (not-true (eqb (length ts) 0) (parts h .0)))
+
+-- ---- in ascending order
+
+ascending-differ : (xs : List ℕ) → Ascending xs → Differ xs
+ascending-differ [] g = tt
+ascending-differ (x ∷ xs) g =
+    (every-weaken (λ (y : ℕ). x < y) (λ (y : ℕ). y ≡ x → ⊥) xs (λ y k e. omega arith) (g .0), ascending-differ xs (g .1))
+
+pub sorted-listed : (N : ℕ) (bs : List ℕ) → Listed N bs → Listed N (sorted bs)
+unfolding sorted
+sorted-listed N bs l =
+    record {
+      targets = every-all (isTarget N) (sorted bs) (order-every bs (λ i. []) (l .differ) (λ (t : ℕ). isTarget N t ≡ true) (listed-every N bs l));
+      differ = differ-distinct (sorted bs) (ascending-differ (sorted bs) (order-rises bs (λ i. []) (l .differ)));
+    }
+
+pub sorted-targets : (N : ℕ) (bs : List ℕ) → areTargets N bs ≡ true → areTargets N (sorted bs) ≡ true
+sorted-targets N bs h =
+    let l = targets-listed N bs h in
+    listed-targets N (sorted bs) (sorted-listed N bs l) (rw (sorted-length bs (l .differ)) (targets-some N bs h))

@@ -3,7 +3,7 @@ use Prim.Native.Nat.{ℕ, zero, suc, _+_, _*_, _-_, _/_, _%_, _<_, _≤_}
 use mathlib.Core.Path.{_≡_, refl, sym, ap, _∙_}
 use mathlib.Core.Bool.{Bool, true, false, cond, _&&_}
 use mathlib.Core.List.{List, [], _∷_}
-use mathlib.Core.Option.{Option, none, some}
+use mathlib.Core.Option.{Option, none, some, Option·some-ne-none, Option·some-injective}
 use native.Mathlib.Nat.{add-zero}
 use native.Mathlib.Numerals.{add-one}
 use native.Mathlib.Omega.{arith}
@@ -296,3 +296,28 @@ view-length s device work b = go (place b (stagedIn s))
     go : (o : Option ℕ) → length (found o (blocksOf device b) (blocksOf work)) ≡ 512
     go none = block-length device b
     go (some i) = block-length work i
+
+-- what an answer of a search says
+pub found-at : (o : Option ℕ) (i : ℕ) → foundOf o ≡ At i → o ≡ some i
+found-at none i e = let z : _≡_ {A = ℕ} 0 1 = cc in absurd (omega arith)
+found-at (some j) i e = let z : j ≡ i = cc in ap some z
+
+pub found-nothing : (o : Option ℕ) → foundOf o ≡ Nothing → o ≡ none
+found-nothing none e = refl
+found-nothing (some j) e = let z : _≡_ {A = ℕ} 0 1 = cc in absurd (omega arith)
+
+lowest-low : (f : ℕ → Bool) (a n i : ℕ) → lowest a n f ≡ some i → i < a + n
+lowest-low f a zero i h = absurd (Option·some-ne-none i (sym h))
+lowest-low f a (suc n) i h = go (f a) refl (lowest-low f (suc a) n i)
+  where
+    go : (t : Bool) → f a ≡ t → (lowest (suc a) n f ≡ some i → i < suc a + n) → i < a + suc n
+    go true q ih = let z : a ≡ i = Option·some-injective a i (rw q at h) in omega arith
+    go false q ih = let z : i < suc a + n = ih (rw q at h) in omega arith
+
+pub find-low : (v : Disk) (name : List ℕ) (i : ℕ) → foundOf (find v name) ≡ At i → i < 128
+unfolding find
+find-low v name i h = lowest-low (λ k. same (nameAt v k) name) 0 128 i (found-at (find v name) i h)
+
+pub find-empty-low : (v : Disk) (i : ℕ) → foundOf (findEmpty v) ≡ At i → i < 128
+unfolding findEmpty
+find-empty-low v i h = lowest-low (isEmpty v) 0 128 i (found-at (findEmpty v) i h)

@@ -4,7 +4,7 @@ use mathlib.Core.Path.{_≡_, refl, sym, _∙_}
 use mathlib.Core.Bool.{Bool, true, false, not, _&&_, and-false, true≢false}
 use mathlib.Core.List.{List, [], _∷_}
 use native.Mathlib.Omega.{arith}
-use borrow.Author.Tests.{eqb-false, ne-eqb, ltb-true, ltb-false, not-true}
+use borrow.Author.Tests.{eqb-false, ltb-true, ltb-false, not-true}
 use lib.Dec.{eqb, ltb}
 use lib.ListN.{length, getD}
 use Rattle.spec.specs.Bytes.{all, distinct}
@@ -13,7 +13,7 @@ use Rattle.spec.specs.Journal.{areTargets}
 use Rattle.transaction.proofs.Laws.{Listed}
 use Rattle.journal.specs.Order.{sorted}
 use Rattle.journal.proofs.Every.{Every, every-at, every-weaken, all-every, every-all, Differ, differ-distinct}
-use Rattle.journal.proofs.Order.{Ascending, order-rises, order-every, sorted-length}
+use Rattle.journal.proofs.Order.{Ascending, order-rises, order-every}
 
 -- within 33 to N-1
 pub target-within : (N b : ℕ) → isTarget N b ≡ true → (33 ≤ b) × (b < N)
@@ -40,10 +40,6 @@ both true b h = (refl, h)
 both false b h = absurd (true≢false (sym h))
 
 module _ (N : ℕ) (ts : List ℕ) where
-  pub listed-targets : Listed N ts → 0 < length ts → areTargets N ts ≡ true
-  unfolding areTargets
-  listed-targets l h = rw (ne-eqb (length ts) 0 (λ q. omega arith), l .targets, l .differ)
-
   parts : areTargets N ts ≡ true → (not (eqb (length ts) 0) ≡ true) × Listed N ts
   unfolding areTargets
   parts h =
@@ -71,8 +67,3 @@ sorted-listed N bs l =
       targets = every-all (isTarget N) (sorted bs) (order-every bs (λ i. []) (l .differ) (λ (t : ℕ). isTarget N t ≡ true) (listed-every N bs l));
       differ = differ-distinct (sorted bs) (ascending-differ (sorted bs) (order-rises bs (λ i. []) (l .differ)));
     }
-
-pub sorted-targets : (N : ℕ) (bs : List ℕ) → areTargets N bs ≡ true → areTargets N (sorted bs) ≡ true
-sorted-targets N bs h =
-    let l = targets-listed N bs h in
-    listed-targets N (sorted bs) (sorted-listed N bs l) (rw (sorted-length bs (l .differ)) (targets-some N bs h))

@@ -16,7 +16,7 @@ returns-2 c = search needs
 stage-requires : tie.Need-stage-requires
 stage-requires c κs =
     let s = c .before .before .before .before .before .before .args .s in
-    (omega arith, omega (arith, spot-le s (c .before .before .before .before .before .before .args .b), c .before .before .before .staged-count .ensures .0), search needs)
+    (omega arith, omega (arith, spot-le s (c .before .before .before .before .before .before .args .b), c .before .before .before .staged-count .ensures .0))
 
 same-length : tie.Need-same-length
 same-length c = search needs

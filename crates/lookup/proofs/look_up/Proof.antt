@@ -1,7 +1,8 @@
+use Rattle.inode.proofs.Laws.{find-low}
 use mathlib.Core.Path.{sym, ap, _∙_}
 use mathlib.Core.Bool.{true}
 use Rattle.checks.specs.Checks.{resultOf}
-use Rattle.lookup.proofs.Laws.{find-lt, look-bad, look-at, look-nothing}
+use Rattle.lookup.proofs.Laws.{look-bad, look-at, look-nothing}
 use borrow.Author.Needs.{needs}
 use Rattle.lookup.proofs.look_up.Statement.{statement}
 use Rattle.lookup.proofs.look_up.Tie as tie
@@ -31,7 +32,7 @@ returns c =
 returns-2 : tie.Need-returns-2
 returns-2 c =
     let f = sym (c .before .before .before .find .ensures) ∙ c .before .i .given .1 in
-    (look-at (c .before .before .before .before .before .before .before .before .before .before .args .session) (c .before .before .before .before .before .before .before .before .before .before .args .device .now) (c .before .before .before .before .before .before .before .before .before .before .args .work .now) (c .before .before .before .before .before .before .before .before .before .before .args .name .now) true _ (sym (ap resultOf (c .before .before .before .before .enum-told .given .1)) ∙ c .before .before .before .before .before .before .named .ensures) f, find-lt _ _ _ f)
+    (look-at (c .before .before .before .before .before .before .before .before .before .before .args .session) (c .before .before .before .before .before .before .before .before .before .before .args .device .now) (c .before .before .before .before .before .before .before .before .before .before .args .work .now) (c .before .before .before .before .before .before .before .before .before .before .args .name .now) true _ (sym (ap resultOf (c .before .before .before .before .enum-told .given .1)) ∙ c .before .before .before .before .before .before .named .ensures) f, find-low _ _ _ f)
 
 returns-3 : tie.Need-returns-3
 returns-3 c =

@@ -1,5 +1,5 @@
 -- Wrong stores, each of which some row of the table refutes.
-use Prim.Native.Nat.{ℕ, zero, suc, _-_}
+use Prim.Native.Nat.{ℕ, suc, _+_, _-_, _/_}
 use mathlib.Core.Bool.{Bool, true, false, cond, not}
 use mathlib.Core.List.{List, [], _∷_, _++_, reverse}
 use lib.ListN.{length, take, drop}
@@ -102,6 +102,13 @@ reordered f = withAdvance (λ s. advanceOver f s (s .session .phase))
 abbrev pub clearsEarly : Store
 clearsEarly = reordered (λ ws. take (length ws - 2) ws ++ reverse (drop (length ws - 2) ws))
 
+-- "storing the list before the last image"
+abbrev pub listsEarly : Store
+listsEarly =
+    reordered (λ ws.
+    let k = (length ws - 2) / 2 in
+    take (k - 1) ws ++ (reverse (take 2 (drop (k - 1) ws)) ++ drop (k + 1) ws))
+
 -- "says 'nothing under way' early"
 abbrev pub stopsEarly : Store
 stopsEarly = reordered (λ ws. take (length ws - 1) ws)
@@ -130,7 +137,7 @@ readsCommitted s (Ask q) =
     record { answer = o .answer; after = s; buffer = o .buffer; list = o .list }
 
 abbrev pub wrongStores : List Store
-wrongStores = refusesAll ∷ opensAll ∷ startsNothing ∷ countsFromZero ∷ feigns ∷ clearsEarly ∷ stopsEarly ∷ copiesAll ∷ readsCommitted ∷ []
+wrongStores = refusesAll ∷ opensAll ∷ startsNothing ∷ countsFromZero ∷ feigns ∷ clearsEarly ∷ listsEarly ∷ stopsEarly ∷ copiesAll ∷ readsCommitted ∷ []
 
 -- each is refuted
 pub every-wrong : T (all (λ w. not (allHold w table)) wrongStores)

@@ -1,10 +1,16 @@
 // The public calls of the purse store. Each promise is one equation: what is answered and left is the call's outcome at what was given.
+use block::DiskBlock;
+use block::block_in;
 use checks::Checked;
 use checks::is_allowed;
 use checks::lent;
 use checks::ready;
+use fsck::is_sound;
+use journal::Fault;
 use journal::commit_step;
+use journal::header_fault;
 use journal::recovery_step;
+use journal::targets_in;
 use mkfs::make_empty;
 pub use query::free_count;
 pub use query::nth_extent;
@@ -26,9 +32,11 @@ ghost use mathlib.Core.Path.{_≡_};
 ghost use mathlib.Core.List.{List};
 ghost use Prim.Native.Nat.{ℕ, _*_};
 ghost use lib.ListN.{length};
+ghost use Rattle.spec.specs.declared.Done.{Done};
+ghost use Rattle.spec.specs.declared.Done.the-variants.{Refused};
 ghost use Rattle.spec.specs.Answers.{doneOf, startedOf, storedOf};
 ghost use Rattle.spec.specs.Transaction.{stateOf};
-ghost use Rattle.spec.specs.Calls.{left, format, advanceIn, advance, commit, abort};
+ghost use Rattle.spec.specs.Calls.{left, format, openStore, advanceIn, advance, commit, abort};
 
 // Makes an empty store. The work space is not lent: whatever it holds stays.
 pub fn format(device: &mut [u8], session: Session) -> Finished
@@ -48,6 +56,47 @@ pub fn format(device: &mut [u8], session: Session) -> Finished
         session: next,
         answer: Done::Done,
     }
+}
+
+fn refuse(session: Session, why: Refusal) -> Finished
+    ensures { λ r. ⌜ (r .session ≡ session) × (r .answer ≡ Refused why) ⌝ }
+{
+    Finished {
+        session: session,
+        answer: Done::Refused(why),
+    }
+}
+
+fn finish(session: Session) -> Finished
+    ensures { λ r. ⌜ (r .session ≡ session) × (r .answer ≡ Done.Done) ⌝ }
+{
+    Finished {
+        session: session,
+        answer: Done::Done,
+    }
+}
+
+// Opens a device: recovering where the header lists targets, else ready if the volume is sound.
+pub fn open_store(device: &[u8], session: Session) -> Finished
+    ensures { λ r. ⌜ ((work : List ℕ) → left (r .session) (now (device .entry)) work (doneOf (r .answer))
+        ≡ openStore (stateOf session (now (device .entry)) work)) ⌝ }
+{
+    if !is_allowed(device.len()) {
+        return refuse(session, Refusal::DeviceSize);
+    }
+    let n = device.len() / Limits::BLOCK_SIZE;
+    let head = block_in(device, DiskBlock(0));
+    if let Fault::At(i) = header_fault(n, head) {
+        return refuse(session, Refusal::BadHeader(i));
+    }
+    let t = targets_in(head);
+    if t.count != 0 {
+        return finish(Session::opened(n, Phase::Recovering(0)));
+    }
+    if !is_sound(device, n) {
+        return refuse(session, Refusal::Unsound);
+    }
+    finish(Session::opened(n, Phase::Ready))
 }
 
 // What advance does in a phase: nothing where nothing is under way, else one store of the commit or the recovery.

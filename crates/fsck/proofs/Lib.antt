@@ -1,0 +1,4 @@
+pub mod Runs
+pub mod Slots
+pub mod Walks
+pub mod Shape

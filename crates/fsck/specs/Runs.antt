@@ -1,0 +1,74 @@
+-- The tests of a file's tree as running results over its extents and nodes.
+use Prim.Native.Nat.{ℕ, _+_, _-_, _/_, _%_}
+use mathlib.Core.Bool.{Bool, true, cond, not, _&&_, Bool·beq}
+use mathlib.Core.List.{List, [], _∷_}
+use lib.ListN.{length, drop}
+use lib.Dec.{eqb, leb, ltb}
+use Rattle.spec.specs.declared.Extent.{Extent}
+use Rattle.spec.specs.Bytes.{all, allZero}
+use Rattle.spec.specs.Disk.{Disk, inData}
+use Rattle.spec.specs.Inode.{Inode, slotsAt, used, counts, treeDepth, extentsOf, levelsOf, nodesOf, blocksFor, nodesFor}
+use Rattle.spec.specs.Sound.{slotsPacked, extentInside, countsAgree, apart, levelPacked, tailZero}
+use Rattle.inode.specs.declared.Cursor.{Cursor}
+use Rattle.fsck.specs.declared.Run.{Run}
+use Rattle.fsck.specs.declared.Nodes.{Nodes}
+
+-- block k of the file, if the next extent holds it
+unfoldable pub tailAt : ℕ → Run → Extent → ℕ
+tailAt k r e = cond (leb (r .blocks) k && ltb k (r .blocks + e .count)) (e .first + (k - r .blocks)) (r .tail)
+
+-- one more extent, some more
+unfoldable pub withExtent : ℕ → ℕ → Run → Extent → Run
+withExtent N k r e =
+    record {
+      inside = r .inside && extentInside N e;
+      apart = r .apart && not (ltb 0 (r .extents) && eqb (e .first) (r .end));
+      end = e .first + e .count;
+      extents = r .extents + 1;
+      blocks = r .blocks + e .count;
+      tail = tailAt k r e;
+    }
+
+unfoldable pub overExtents : ℕ → ℕ → Run → List Extent → Run
+overExtents N k r [] = r
+overExtents N k r (e ∷ es) = overExtents N k (withExtent N k r e) es
+
+abbrev pub noRun : Run
+noRun = record { inside = true; apart = true; end = 0; extents = 0; blocks = 0; tail = 0 }
+
+-- n slots from a byte of a block on
+unfoldable pub regionOf : ℕ → ℕ → ℕ → Cursor
+regionOf b at n = record { block = b; at = at; left = n; top = 0; tops = 0 }
+
+-- one more node, named by a slot, and some more
+unfoldable pub withNode : ℕ → ℕ → Disk → Nodes → Extent → Nodes
+withNode N k v f e =
+    record {
+      run = overExtents N k (f .run) (used (slotsAt v (e .first)));
+      sound = f .sound && (inData N (e .first) && slotsPacked (slotsAt v (e .first)));
+      agree = f .agree && eqb (e .count) (counts (used (slotsAt v (e .first))));
+      filled = f .filled && f .full;
+      full = eqb (length (used (slotsAt v (e .first)))) 128;
+    }
+
+unfoldable pub overNodes : ℕ → ℕ → Disk → Nodes → List Extent → Nodes
+overNodes N k v f [] = f
+overNodes N k v f (e ∷ es) = overNodes N k v (withNode N k v f e) es
+
+abbrev pub noNodes : Nodes
+noNodes = record { run = noRun; sound = true; agree = true; filled = true; full = true }
+
+-- the bytes after a size in block b
+unfoldable pub lastClear : Disk → ℕ → ℕ → Bool
+lastClear v size b = cond (eqb (size % 512) 0) true (allZero (drop (size % 512) (v b)))
+
+-- S4 to S6 and S8 of a file
+unfoldable pub treeSound : ℕ → Disk → Inode → Bool
+treeSound N v n =
+    slotsPacked (n .slots) && all (λ b. inData N b && slotsPacked (slotsAt v b)) (nodesOf v n)
+    && all (extentInside N) (extentsOf v n)
+    && countsAgree v (treeDepth n) (used (n .slots)) && eqb (counts (used (n .slots))) (blocksFor (n .size))
+    && apart (extentsOf v n)
+    && Bool·beq (eqb (n .depth) 1) (ltb 4 (length (extentsOf v n)))
+    && eqb (length (nodesOf v n)) (nodesFor (length (extentsOf v n))) && all (levelPacked v) (levelsOf v n)
+    && tailZero v n

@@ -1,6 +1,6 @@
 -- Entries below a number: bits, bytes, and lists made of them. Assumes nothing.
 use Prim.Native.Nat.{ℕ, zero, suc, _+_, _^_, _<_}
-use mathlib.Core.Path.{_≡_, refl}
+use mathlib.Core.Path.{_≡_}
 use mathlib.Core.List.{List, [], _∷_, _++_, map}
 use lib.ListN.{take, drop, getD, replicate}
 use lib.Seq.{getD-drop}

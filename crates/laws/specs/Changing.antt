@@ -1,8 +1,8 @@
 -- A change of record i: bits for what is taken and given back, the record, and more edits at its own and free blocks. Assumes nothing.
-use Prim.Native.Nat.{ℕ, zero, suc, _+_, _*_, _/_, _%_, _≤_, _<_}
-use mathlib.Core.Path.{_≡_, refl, sym, ap, _∙_}
-use mathlib.Core.Bool.{Bool, true, false, not, _&&_, _||_}
-use mathlib.Core.List.{List, [], _∷_, _++_, map}
+use Prim.Native.Nat.{ℕ, zero, suc, _+_, _*_, _≤_, _<_}
+use mathlib.Core.Path.{_≡_, refl, ap, _∙_}
+use mathlib.Core.Bool.{true, false, not, _&&_, _||_}
+use mathlib.Core.List.{List, _++_, map}
 use lib.Dec.{eqb}
 use lib.ListN.{length, drop, getD}
 use native.Mathlib.Omega.{arith}
@@ -21,7 +21,7 @@ use Rattle.bitmap.proofs.Laws.{length-bits, bits-binary, bits-bytes}
 use Rattle.laws.specs.Bytes.{bytes-small}
 use Rattle.laws.specs.Soundness.{Inside, FileSound}
 use Rattle.laws.specs.Volume.{bit, bitCount, VolumeSound}
-use Rattle.laws.specs.Reached.{bit-count, reach-inside}
+use Rattle.laws.specs.Reached.{reach-inside}
 use Rattle.laws.specs.Replace.{Replaced}
 use Rattle.laws.specs.Patch.{inode-other}
 use Rattle.laws.specs.Edits.{blocksOf, changed-member, changed-targets, changed-fresh, changed-long, changed-own, changed-other, over-fresh}

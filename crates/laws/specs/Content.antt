@@ -1,15 +1,15 @@
 -- The content of a file is as long as its size. Assumes nothing.
-use Prim.Native.Nat.{ℕ, zero, suc, _+_, _*_, _<_}
-use mathlib.Core.Path.{_≡_, refl, sym, ap, ap₂, _∙_}
+use Prim.Native.Nat.{ℕ, zero, suc, _*_, _<_}
+use mathlib.Core.Path.{_≡_, refl, _∙_}
 use mathlib.Core.Bool.{Bool, true, false}
-use mathlib.Core.List.{List, [], _∷_, _++_, map}
+use mathlib.Core.List.{List, [], _∷_, map}
 use mathlib.Core.Option.{some}
 use lib.Dec.{eqb}
-use lib.ListN.{length, take, getD, length-append, length-take}
+use lib.ListN.{length, getD, length-append, length-take}
 use native.Mathlib.Omega.{arith}
 use borrow.Author.Tests.{eqb-true}
 use Rattle.spec.specs.Layout.{blockSize, inodeCount}
-use Rattle.spec.specs.Bytes.{concat, allZero, number4}
+use Rattle.spec.specs.Bytes.{concat, allZero}
 use Rattle.spec.specs.Disk.{Disk}
 use Rattle.spec.specs.Inode.{Inode, inodeOf, inodeBytes, inodeAt, isEmpty, find, dataOf}
 use Rattle.spec.specs.Map.{contentOf}

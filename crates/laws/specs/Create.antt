@@ -1,45 +1,43 @@
 -- Create: refused as the sentences tell, or the lowest empty record becomes an empty file of that name. Assumes nothing.
-use Prim.Native.Nat.{ℕ, _+_, _*_, _-_, _/_, _%_, _≤_, _<_}
+use Prim.Native.Nat.{ℕ, _/_, _%_, _≤_, _<_}
 use mathlib.Core.Path.{_≡_, refl, sym, ap, ap₂, _∙_, subst}
-use mathlib.Core.Bool.{Bool, true, false, not, _&&_, _||_, true≢false}
-use mathlib.Core.List.{List, [], _∷_, _++_, append-nil}
+use mathlib.Core.Bool.{Bool, true, false, not, _&&_, _||_}
+use mathlib.Core.List.{List, [], _++_, append-nil}
 use mathlib.Core.Option.{Option, none, some}
-use lib.Dec.{eqb, ltb}
+use lib.Dec.{eqb}
 use lib.ListN.{length, take, drop, getD, drop-of-length-le}
 use native.Mathlib.Nat.{not-suc-le-zero}
 use native.Mathlib.Omega.{arith}
-use borrow.Author.Tests.{eqb-true, ne-eqb, eq-eqb, eqb-false, le-ltb}
-use Rattle.spec.specs.Layout.{fewestBlocks, mostBlocks, bitmapBlock, inodeCount, inodeSize, nameSize, inodeStart, inodesPerBlock, blockSize}
+use borrow.Author.Tests.{le-ltb}
+use Rattle.spec.specs.Layout.{fewestBlocks, mostBlocks, bitmapBlock, inodeCount, inodeSize, nameSize, blockSize}
 use Rattle.spec.specs.Bytes.{found, isSome, patch, part, same, member, allZero}
 use Rattle.spec.specs.Disk.{Disk}
-use Rattle.spec.specs.Inode.{isName, inodeBytes, inodeOf, inodeAt, nameAt, isEmpty, blockOfInode, placeOfInode, find, findEmpty, dataOf, nodesOf, reachedFrom}
+use Rattle.spec.specs.Inode.{isName, inodeBytes, inodeOf, inodeAt, nameAt, isEmpty, blockOfInode, placeOfInode, find, findEmpty, dataOf, nodesOf}
 use Rattle.spec.specs.Map.{contentOf, filesOf}
-use Rattle.spec.specs.declared.Refusal.{Refusal}
-use Rattle.spec.specs.declared.Refusal.the-variants.{Unknown, Taken, NoInode}
-use Rattle.spec.specs.Answers.{Result, refuse, accept, require, _>>=_, _>>_}
-use Rattle.spec.specs.Transaction.{State, view, BlockStore, ascending}
+use Rattle.spec.specs.declared.Refusal.the-variants.{Taken, NoInode}
+use Rattle.spec.specs.Answers.{refuse, accept, require, _>>=_, _>>_}
+use Rattle.spec.specs.Transaction.{State, view}
 use Rattle.spec.specs.Plan.{ifChanged, storesOf, inodeEdit, creates}
 use Rattle.spec.specs.Calls.{Change, Create, Do}
 use Rattle.spec.specs.Plain.{Plain, at}
-use Rattle.spec.specs.Sentences.{File, fileAt, fileThen, reaches, isNew, nodeChanges, bitChanges, recordChanges, shortens, callStages}
-use Rattle.spec.specs.Refusals.{wrongName, lacksRoom, isScattered, nameUnknown, nameTaken, noRecord, ofRecord}
-use Rattle.log.specs.Stores.{Whole, applied, targetsOf}
+use Rattle.spec.specs.Sentences.{File, fileAt, fileThen, isNew, nodeChanges, bitChanges, recordChanges, shortens, callStages}
+use Rattle.spec.specs.Refusals.{lacksRoom, isScattered, nameTaken, noRecord, ofRecord}
+use Rattle.log.specs.Stores.{Whole, targetsOf}
 use Rattle.block.proofs.Laws.{same-true}
 use Rattle.crash.specs.Interface.{planned, Makes, Plans, hindered, stages}
-use Rattle.crash.specs.Tests.{one-name}
 use Rattle.laws.specs.Lists.{not-both, false-of}
 use Rattle.laws.specs.Soundness.{FileSound}
-use Rattle.laws.specs.Volume.{VolumeSound, find-none}
-use Rattle.laws.specs.Good.{InBytes, Good}
-use Rattle.laws.specs.Reached.{bit-count, reached-empty, reached-used, name-used}
+use Rattle.laws.specs.Volume.{find-none}
+use Rattle.laws.specs.Good.{Good}
+use Rattle.laws.specs.Reached.{bit-count, reached-empty, reached-used}
 use Rattle.laws.specs.Content.{zero-byte}
 use Rattle.laws.specs.Replace.{Replaced, replace-good, replace-created}
 use Rattle.laws.specs.Patch.{length-record, inode-new}
 use Rattle.laws.specs.Edits.{sorted-keep}
 use Rattle.laws.specs.Records.{name-length, name-nonzero, blank, blank-length, blank-name, blank-rest, blank-bare, blank-sound, bare-data, bare-nodes, zero-bare}
 use Rattle.laws.specs.OwnSize.{empty-fitted, own-room, own-extents}
-use Rattle.laws.specs.Tests.{firstOf, first-none, first-taken, first-inode, one-of, named-known, none-empty, empty-some, bits-same, and-false, eqb-turn, two-of-six, file-is}
-use Rattle.laws.specs.OneRecord.{laidOver, after, one-targets, one-long, one-own, one-rest, one-member, one-others, one-table, one-replaced}
+use Rattle.laws.specs.Tests.{first-none, first-taken, first-inode, one-of, named-known, none-empty, empty-some, bits-same, and-false, eqb-turn, two-of-six, file-is}
+use Rattle.laws.specs.OneRecord.{laidOver, after, one-targets, one-long, one-own, one-member, one-others, one-table, one-replaced}
 
 -- ---- what the stores make
 

@@ -1,20 +1,18 @@
 -- Numbers that occur at most once: targets, places, and stores to them. Assumes nothing.
-use Prim.Native.Nat.{ℕ, zero, suc, _+_, _-_, _≤_, _<_}
+use Prim.Native.Nat.{ℕ, zero, suc, _≤_, _<_}
 use mathlib.Core.Path.{_≡_, refl, sym, ap, _∙_}
 use mathlib.Core.Bool.{Bool, true, false}
-use mathlib.Core.Logic.{_⊎_, inl, inr}
-use mathlib.Core.List.{List, [], _∷_, _++_, map}
+use mathlib.Core.List.{List, [], _∷_, _++_}
 use lib.Dec.{eqb}
 use lib.ListN.{length, getD}
 use native.Mathlib.Nat.{not-suc-le-zero}
 use native.Mathlib.Omega.{arith}
-use borrow.Author.Tests.{eqb-true, eqb-false, eq-eqb}
-use Rattle.spec.specs.Layout.{bitmapBlock, dataStart}
+use borrow.Author.Tests.{eqb-false, eq-eqb}
 use Rattle.spec.specs.Bytes.{occurs}
 use Rattle.spec.specs.Disk.{Disk}
 use Rattle.spec.specs.Transaction.{BlockStore}
 use Rattle.log.specs.Targets.{Fresh, Targets}
-use Rattle.log.specs.Stores.{upd, upd-other, upd-agree, over, targetsOf, Long}
+use Rattle.log.specs.Stores.{upd-other, upd-agree, over, targetsOf, Long}
 use Rattle.laws.specs.Lists.{occurs-head, occurs-at}
 use Rattle.laws.specs.Soundness.{Inside}
 

@@ -1,23 +1,22 @@
 -- What edits make of a disk, and which blocks they stage. Assumes nothing.
 use Prim.Native.Nat.{ℕ, zero, suc, _+_, _-_, _≤_, _<_}
 use mathlib.Core.Path.{_≡_, refl, sym, ap, ap₂, _∙_, subst}
-use mathlib.Core.Bool.{Bool, true, false, cond, not, _&&_, _||_, true≢false}
+use mathlib.Core.Bool.{Bool, true, false, cond, not, _&&_, _||_}
 use mathlib.Core.Logic.{_⊎_, inl, inr}
-use mathlib.Core.List.{List, [], _∷_, _++_, map, append-nil}
+use mathlib.Core.List.{List, [], _∷_, _++_}
 use lib.Dec.{eqb, ltb}
 use lib.ListN.{length}
-use native.Mathlib.Nat.{not-suc-le-zero, eq-or-lt-of-le}
+use native.Mathlib.Nat.{eq-or-lt-of-le}
 use native.Mathlib.Omega.{arith}
-use borrow.Author.Tests.{eqb-true, eqb-false, eq-eqb, ne-eqb}
+use borrow.Author.Tests.{eqb-true, eq-eqb, ne-eqb}
 use Rattle.spec.specs.Layout.{blockSize, bitmapBlock}
 use Rattle.spec.specs.Bytes.{same, all, keep, member, upFrom}
 use Rattle.spec.specs.Disk.{Disk}
 use Rattle.spec.specs.Transaction.{BlockStore, put, insert, ascending}
-use Rattle.spec.specs.Plan.{Edit, edit, ifChanged, storesOf}
+use Rattle.spec.specs.Plan.{Edit, ifChanged, storesOf}
 use Rattle.block.proofs.Laws.{same-true}
 use Rattle.log.specs.Targets.{Fresh, Targets}
-use Rattle.log.specs.Stores.{upd, upd-same, upd-other, Long, applied, over, targetsOf, Ascending, Sorted, sorted}
-use Rattle.laws.specs.Lists.{All}
+use Rattle.log.specs.Stores.{upd-same, upd-other, Long, over, targetsOf, Ascending, sorted}
 
 -- ---- members
 

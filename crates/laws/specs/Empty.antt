@@ -1,20 +1,20 @@
 -- "Format makes an empty store": a sound volume with no files, of bytes below 256. Assumes nothing.
-use Prim.Native.Nat.{ℕ, zero, suc, _+_, _*_, _-_, _/_, _%_, _^_, _≤_, _<_}
+use Prim.Native.Nat.{ℕ, zero, suc, _+_, _-_, _≤_, _<_}
 use mathlib.Core.Path.{_≡_, refl, sym, ap, _∙_}
 use mathlib.Core.Bool.{Bool, true, false}
-use mathlib.Core.List.{List, [], _∷_, _++_, map}
+use mathlib.Core.List.{List, [], _∷_, _++_}
 use mathlib.Core.Logic.{_⊎_, inl, inr}
 use mathlib.Core.Option.{Option, none, some}
 use lib.Dec.{eqb}
 use lib.ListN.{length, take, drop, getD, replicate, length-append, length-replicate, getD-replicate, List·getD-append}
-use lib.Seq.{getD-append-add, getD-drop}
-use native.Mathlib.Nat.{not-suc-le-zero, pow-suc}
+use lib.Seq.{getD-append-add}
+use native.Mathlib.Nat.{not-suc-le-zero}
 use native.Mathlib.Omega.{arith}
-use Rattle.spec.specs.Layout.{blockSize, bitmapBlock, dataStart, mostBlocks, inodeCount, inodeSize, nameSize}
-use Rattle.spec.specs.Bytes.{found, occurs, zeros, allZero, pieces}
+use Rattle.spec.specs.Layout.{blockSize, bitmapBlock, dataStart, mostBlocks, inodeSize, nameSize}
+use Rattle.spec.specs.Bytes.{found, occurs, zeros, allZero}
 use Rattle.spec.specs.Disk.{Disk}
-use Rattle.spec.specs.Bitmap.{bitsOf, byteOf, bytesOf}
-use Rattle.spec.specs.Inode.{isName, inodeBytes, inodeAt, nameAt, isEmpty, find, blockOfInode, placeOfInode, reachedFrom, reached}
+use Rattle.spec.specs.Bitmap.{bitsOf, bytesOf}
+use Rattle.spec.specs.Inode.{isName, inodeBytes, inodeAt, isEmpty, blockOfInode, placeOfInode, reached}
 use Rattle.spec.specs.Map.{contentOf, filesOf}
 use Rattle.spec.specs.Calls.{emptyBits, emptyDisk}
 use Rattle.log.specs.Targets.{both-true}
@@ -27,7 +27,7 @@ use Rattle.laws.specs.Bytes.{bytes-small, below-append, below-replicate}
 use Rattle.laws.specs.Soundness.{Inside}
 use Rattle.laws.specs.Volume.{bit, bitCount, VolumeSound, find-no}
 use Rattle.laws.specs.Reached.{name-used, files-named, files-unnamed, reached-empty, reached-by}
-use Rattle.laws.specs.Good.{InBytes, Good}
+use Rattle.laws.specs.Good.{Good}
 use Rattle.laws.specs.Content.{zero-byte}
 
 -- ---- zeros

@@ -1,10 +1,10 @@
 -- A file rests on its record's bytes and on its own blocks alone. Assumes nothing.
-use Prim.Native.Nat.{ℕ, zero, suc, _+_, _-_, _/_, _%_, _≤_, _<_}
+use Prim.Native.Nat.{ℕ, zero, suc, _+_, _-_, _/_, _≤_, _<_}
 use mathlib.Core.Path.{_≡_, refl, sym, ap, ap₂, _∙_}
 use mathlib.Core.List.{List, [], _∷_, _++_, map}
-use lib.ListN.{length, take, drop, getD}
+use lib.ListN.{length, take, getD}
 use native.Mathlib.Omega.{arith}
-use Rattle.spec.specs.Layout.{blockSize, slotsPerNode}
+use Rattle.spec.specs.Layout.{blockSize}
 use Rattle.spec.specs.Bytes.{occurs, concat}
 use Rattle.spec.specs.Disk.{Disk}
 use Rattle.spec.specs.declared.Extent.{Extent}

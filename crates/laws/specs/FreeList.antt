@@ -20,7 +20,7 @@ use Rattle.laws.specs.Soundness.{Inside}
 use Rattle.laws.specs.Volume.{bit, bitCount, VolumeSound}
 use Rattle.laws.specs.Reached.{bit-count}
 use Rattle.laws.specs.Marks.{member-occurs, absent-occurs}
-use Rattle.laws.specs.Picks.{picks-append, length-picks, zerosFrom, length-zeros, picks-zeros}
+use Rattle.laws.specs.Picks.{picks-append, zerosFrom, length-zeros, picks-zeros}
 
 -- ---- what is kept
 

@@ -1,9 +1,8 @@
 -- What files keep true of a volume beside S1 to S8: what it tells in numbers is told in bytes. Names and data are as the caller gave them. Assumes nothing.
 use Prim.Native.Nat.{ℕ, _≤_, _<_}
-use mathlib.Core.Path.{_≡_, refl, sym, ap, _∙_}
+use mathlib.Core.Path.{_≡_, sym, ap, _∙_}
 use mathlib.Core.Bool.{false}
-use mathlib.Core.List.{List}
-use lib.ListN.{drop, getD}
+use lib.ListN.{drop}
 use Rattle.spec.specs.Layout.{bitmapBlock, inodeCount, nameSize}
 use Rattle.spec.specs.Bytes.{occurs}
 use Rattle.spec.specs.Disk.{Disk}

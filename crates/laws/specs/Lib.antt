@@ -34,3 +34,12 @@ pub mod Readback
 pub mod WrittenFile
 pub mod Distinct
 pub mod TreeEdits
+pub mod NewContent
+pub mod AfterContent
+pub mod Rewrite
+pub mod Rewritten
+pub mod RecordBytes
+pub mod Restaged
+pub mod Places
+pub mod Staged
+pub mod Extended

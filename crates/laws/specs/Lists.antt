@@ -1,19 +1,18 @@
 -- Laws of tests, counts and searches that know nothing of the store. Assumes nothing.
-use Prim.Native.Nat.{ℕ, zero, suc, _+_, _-_, _≤_, _<_}
-use mathlib.Core.Path.{_≡_, refl, sym, ap, ap₂, _∙_}
-use mathlib.Core.Bool.{Bool, true, false, cond, not, _&&_, Bool·beq, true≢false, false≢true}
+use Prim.Native.Nat.{ℕ, zero, suc, _+_, _≤_, _<_}
+use mathlib.Core.Path.{_≡_, refl, sym, ap, _∙_}
+use mathlib.Core.Bool.{Bool, true, false, _&&_, Bool·beq, true≢false, false≢true}
 use mathlib.Core.Logic.{_⊎_, inl, inr}
-use mathlib.Core.List.{List, [], _∷_, _++_, map}
+use mathlib.Core.List.{List, [], _∷_}
 use mathlib.Core.Option.{Option, none, some, Option·some-ne-none, Option·some-injective}
 use lib.Dec.{eqb}
 use lib.ListN.{length, take, getD}
 use native.Mathlib.Nat.{not-suc-le-zero, eq-or-lt-of-le}
 use native.Mathlib.Omega.{arith}
-use borrow.Author.Tests.{eqb-true, eqb-false, eq-eqb, ne-eqb}
-use Rattle.spec.specs.Bytes.{same, all, occurs, concat, upFrom, lowest, allZero}
+use borrow.Author.Tests.{eqb-true, eqb-false, eq-eqb}
+use Rattle.spec.specs.Bytes.{same, all, occurs, upFrom, lowest}
 use Rattle.log.specs.Targets.{both-true}
 use Rattle.block.proofs.Laws.{same-self}
-use Rattle.bitmap.proofs.Laws.{occurs-append}
 
 -- ---- tests
 

@@ -1,18 +1,17 @@
 -- Soundness and files rest on the blocks from 33 up. Assumes nothing.
-use Prim.Native.Nat.{ℕ, _+_, _/_, _≤_, _<_}
+use Prim.Native.Nat.{ℕ, _≤_, _<_}
 use mathlib.Core.Path.{_≡_, refl, sym, ap, _∙_}
 use mathlib.Core.Bool.{Bool, true, false}
 use mathlib.Core.List.{List}
 use mathlib.Core.Option.{Option, none, some}
 use lib.ListN.{length, getD}
 use native.Mathlib.Omega.{arith}
-use Rattle.spec.specs.Layout.{bitmapBlock, inodeStart, inodesPerBlock, inodeSize, inodeCount}
+use Rattle.spec.specs.Layout.{bitmapBlock, inodeSize, inodeCount}
 use Rattle.spec.specs.Bytes.{found, part, same, occurs, allZero}
 use Rattle.spec.specs.Disk.{Disk}
 use Rattle.spec.specs.Bitmap.{bitsOf}
-use Rattle.spec.specs.Inode.{isName, inodeBytes, inodeAt, nameAt, isEmpty, find, blockOfInode, placeOfInode, reachedFrom, reached}
+use Rattle.spec.specs.Inode.{isName, inodeBytes, inodeAt, isEmpty, find, blockOfInode, placeOfInode, reachedFrom, reached}
 use Rattle.spec.specs.Map.{contentOf, filesOf}
-use Rattle.laws.specs.Soundness.{Inside, FileSound}
 use Rattle.laws.specs.Volume.{bit, bitCount, VolumeSound, find-some, find-agree}
 use Rattle.laws.specs.Frame.{Agree}
 use Rattle.laws.specs.Good.{InBytes, kept-bytes}

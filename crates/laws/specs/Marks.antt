@@ -1,22 +1,22 @@
 -- Bits marked for blocks taken and given back: what becomes of each, by counting, and when the bitmap changes. Assumes nothing.
 use Prim.Native.Nat.{ℕ, zero, suc, _+_, _*_, _-_, _≤_, _<_}
-use mathlib.Core.Path.{_≡_, refl, sym, ap, ap₂, _∙_}
-use mathlib.Core.Bool.{Bool, true, false, cond, not, _&&_, _||_, Bool·beq, true≢false}
+use mathlib.Core.Path.{_≡_, refl, sym, ap, _∙_}
+use mathlib.Core.Bool.{Bool, true, false, not, _||_, Bool·beq, true≢false}
 use mathlib.Core.Logic.{_⊎_, inl, inr}
-use mathlib.Core.List.{List, [], _∷_, _++_, map}
+use mathlib.Core.List.{List, [], _∷_, _++_}
 use lib.Dec.{eqb}
-use lib.ListN.{length, drop, getD, set, length-set, List·getD-eq-default}
+use lib.ListN.{length, getD, set, length-set, List·getD-eq-default}
 use lib.Seq.{getD-set-same, getD-set-other, ext-getD}
 use native.Mathlib.Nat.{not-suc-le-zero}
 use native.Mathlib.Omega.{arith}
-use borrow.Author.Tests.{eqb-true, eqb-false, not-true}
-use Rattle.spec.specs.Layout.{blockSize, dataStart, mostBlocks}
-use Rattle.spec.specs.Bytes.{occurs, member, all, any, same, upFrom, pieces}
-use Rattle.spec.specs.Bitmap.{bitsOf, byteOf, bytesOf, mark}
+use borrow.Author.Tests.{eqb-true, eqb-false}
+use Rattle.spec.specs.Layout.{dataStart}
+use Rattle.spec.specs.Bytes.{occurs, member, same}
+use Rattle.spec.specs.Bitmap.{bitsOf, bytesOf, mark}
 use Rattle.spec.specs.Sentences.{File, reaches, bitChanges}
 use Rattle.block.proofs.Laws.{lt-or-le, same-true}
 use Rattle.bitmap.specs.Words.{Below, Table}
-use Rattle.bitmap.proofs.Laws.{occurs-append, length-bits, bits-binary, bytes-bits, bits-bytes}
+use Rattle.bitmap.proofs.Laws.{length-bits, bits-binary, bytes-bits, bits-bytes}
 use Rattle.laws.specs.Lists.{both-ways, not-both, false-of, same-of, beq-true}
 use Rattle.laws.specs.Soundness.{Inside}
 use Rattle.laws.specs.Edits.{member-cons, member-append}

@@ -11,10 +11,10 @@ use native.Mathlib.Nat.{mod-eq-of-lt, add-mul-mod-self-left, add-mul-div-left, d
 use native.Mathlib.Omega.{arith}
 use borrow.Author.Tests.{eqb-true}
 use Rattle.spec.specs.Layout.{blockSize, slotsPerNode}
-use Rattle.spec.specs.Bytes.{all, concat, exactly, bytes2, occurs}
+use Rattle.spec.specs.Bytes.{all, exactly, occurs}
 use Rattle.spec.specs.Disk.{Disk}
 use Rattle.spec.specs.declared.Extent.{Extent}
-use Rattle.spec.specs.Inode.{extent, Inode, inodeOf, inodeBytes, inodeAt, slotsIn, slotsAt, used, below, bytesOfSlots, extentsOf, levelsOf, nodesOf, dataOf, runs}
+use Rattle.spec.specs.Inode.{extent, inodeBytes, inodeAt, slotsIn, slotsAt, used, below, bytesOfSlots, nodesOf}
 use Rattle.spec.specs.Sound.{slotsPacked}
 use Rattle.spec.specs.Sentences.{fileAt, nodeContent}
 use Rattle.log.specs.Targets.{both-true}

@@ -1,12 +1,12 @@
 -- Bytes laid over one record, staged where they change its block: create and rename. Assumes nothing.
-use Prim.Native.Nat.{ℕ, _+_, _*_, _/_, _%_, _≤_, _<_}
-use mathlib.Core.Path.{_≡_, refl, sym, ap, _∙_, subst}
-use mathlib.Core.Bool.{Bool, true, false, not, _&&_, _||_}
-use mathlib.Core.List.{List, [], _∷_, _++_}
+use Prim.Native.Nat.{ℕ, _≤_, _<_}
+use mathlib.Core.Path.{_≡_, ap, _∙_}
+use mathlib.Core.Bool.{false, not, _&&_}
+use mathlib.Core.List.{List, [], _++_}
 use lib.Dec.{eqb}
 use lib.ListN.{length, getD}
 use native.Mathlib.Omega.{arith}
-use Rattle.spec.specs.Layout.{bitmapBlock, dataStart, inodeCount, inodeSize, mostBlocks, blockSize}
+use Rattle.spec.specs.Layout.{bitmapBlock, dataStart, inodeCount, inodeSize}
 use Rattle.spec.specs.Bytes.{patch, occurs, same, member}
 use Rattle.spec.specs.Disk.{Disk}
 use Rattle.spec.specs.Bitmap.{bitsOf}
@@ -18,10 +18,9 @@ use Rattle.log.specs.Stores.{Whole, Long, applied, over, targetsOf, sorted}
 use Rattle.block.proofs.Laws.{length-patch}
 use Rattle.laws.specs.Lists.{not-both}
 use Rattle.laws.specs.Soundness.{Inside, FileSound}
-use Rattle.laws.specs.Volume.{bit, bitCount, VolumeSound}
-use Rattle.laws.specs.Reached.{bit-count}
+use Rattle.laws.specs.Volume.{bit, bitCount}
 use Rattle.laws.specs.Replace.{Replaced}
-use Rattle.laws.specs.Patch.{room, inode-other}
+use Rattle.laws.specs.Patch.{inode-other}
 use Rattle.laws.specs.Edits.{changed-member, changed-targets, changed-long, changed-own, changed-other}
 use Rattle.laws.specs.Tests.{or-false}
 

@@ -1,18 +1,17 @@
 -- A file that keeps its size wants no block: refusals 16 and 17 do not fire. Assumes nothing.
-use Prim.Native.Nat.{ℕ, _+_, _-_, _≤_, _<_}
-use mathlib.Core.Path.{_≡_, refl, sym, ap, ap₂, _∙_}
-use mathlib.Core.Bool.{Bool, true, false, _||_}
-use mathlib.Core.List.{List, [], _++_, append-nil}
+use Prim.Native.Nat.{ℕ, _+_, _-_, _≤_}
+use mathlib.Core.Path.{_≡_, sym, ap, ap₂, _∙_}
+use mathlib.Core.Bool.{true, false, _||_}
+use mathlib.Core.List.{List, _++_, append-nil}
 use lib.Dec.{ltb}
 use lib.ListN.{length, take, drop}
 use lib.Seq.{take-all}
-use native.Mathlib.Nat.{sub-self}
 use native.Mathlib.Omega.{arith}
 use borrow.Author.Tests.{le-ltb}
 use Rattle.spec.specs.Layout.{blockSize, maxExtents}
 use Rattle.spec.specs.Bytes.{quotientUp, allZero}
 use Rattle.spec.specs.Disk.{Disk}
-use Rattle.spec.specs.Inode.{inodeOf, inodeBytes, inodeAt, dataOf, nodesOf, extentsOf, nodesFor}
+use Rattle.spec.specs.Inode.{inodeOf, inodeBytes, inodeAt, dataOf, extentsOf}
 use Rattle.spec.specs.Transaction.{State, view}
 use Rattle.spec.specs.Calls.{Change}
 use Rattle.spec.specs.Sentences.{File, fileAt, sizeFor, freeList, moreBlocks, blocksThen, extentCount, nodesWanted, moreNodes, nodesThen}
@@ -20,7 +19,7 @@ use Rattle.spec.specs.Refusals.{lacksRoom, isScattered}
 use Rattle.laws.specs.Soundness.{FileSound}
 use Rattle.laws.specs.Tree.{data-length}
 use Rattle.laws.specs.Runs.{runs-data, count-runs, nodes-wanted, few-extents}
-use Rattle.laws.specs.Records.{Bare, bare-data, bare-nodes, zero-bare}
+use Rattle.laws.specs.Records.{bare-data, bare-nodes, zero-bare}
 
 -- a file has the blocks and nodes that its size and its extents ask for
 pub record Fitted (f : File) : Type 0 where
@@ -62,6 +61,12 @@ module _ (N : ℕ) (v : Disk) (f : File) (t : Fitted f) where
 
   own-nodes : moreNodes N v f (f .size) ≡ 0
   own-nodes = ap (λ (bs : List ℕ). nodesWanted (extentCount bs) - length (f .nodes)) own-blocks ∙ (let e : nodesWanted (extentCount (f .blocks)) - length (f .nodes) ≡ 0 = omega (arith, t .nodes) in e)
+
+  pub own-then : nodesThen N v f (f .size) ≡ f .nodes
+  own-then =
+      ap₂ (λ (x y : List ℕ). x ++ y)
+      (ap (λ (bs : List ℕ). take (nodesWanted (extentCount bs)) (f .nodes)) own-blocks ∙ take-all (nodesWanted (extentCount (f .blocks))) (f .nodes) (omega (arith, t .nodes)))
+      (ap (λ k. take k (drop (moreBlocks f (f .size)) (freeList N v))) own-nodes) ∙ append-nil (f .nodes)
 
 module _ (N : ℕ) (s : State) (i : ℕ) (c : Change) (keeps : sizeFor (fileAt (view s) i .size) c ≡ fileAt (view s) i .size) (t : Fitted (fileAt (view s) i)) where
   abbrev f : File

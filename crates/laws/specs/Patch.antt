@@ -1,16 +1,16 @@
 -- A part of a patched list, and the records of a block in which one is patched. Assumes nothing.
-use Prim.Native.Nat.{ℕ, zero, suc, _+_, _*_, _-_, _/_, _%_, _≤_, _<_}
+use Prim.Native.Nat.{ℕ, zero, suc, _+_, _-_, _%_, _≤_, _<_}
 use mathlib.Core.Path.{_≡_, refl, sym, ap, _∙_}
 use mathlib.Core.Bool.{Bool, true, false}
 use mathlib.Core.Logic.{_⊎_, inl, inr}
 use mathlib.Core.List.{List, [], _∷_, _++_}
 use lib.Dec.{eqb}
-use lib.ListN.{length, take, drop, getD, length-append, length-take, length-drop, take-append-drop}
+use lib.ListN.{length, take, drop, getD, length-take, length-drop, take-append-drop}
 use lib.Seq.{drop-at, take-append-add, drop-drop, length-take-le, getD-take, getD-drop, ext-getD}
 use native.Mathlib.Nat.{zero-sub, sub-zero}
 use native.Mathlib.Omega.{arith}
 use borrow.Author.Tests.{eqb-true, eqb-false}
-use Rattle.spec.specs.Layout.{blockSize, inodeSize, inodesPerBlock}
+use Rattle.spec.specs.Layout.{inodeSize, inodesPerBlock}
 use Rattle.spec.specs.Bytes.{part, patch}
 use Rattle.spec.specs.Disk.{Disk}
 use Rattle.spec.specs.Inode.{blockOfInode, placeOfInode, inodeBytes}
@@ -80,9 +80,6 @@ module _ (v w : Disk) (i : ℕ) (new : List ℕ) (whole : Whole v) (short : leng
     pub inode-new : inodeBytes w i ≡ new ++ drop (length new) (inodeBytes v i)
     unfolding inodeBytes
     inode-new = ap (part (placeOfInode i) inodeSize) own ∙ part-patch (placeOfInode i) new (v (blockOfInode i)) room inodeSize short
-
-    pub length-inode-block : length (w (blockOfInode i)) ≡ blockSize
-    length-inode-block = ap length own ∙ length-patch (placeOfInode i) new (v (blockOfInode i)) room ∙ whole (blockOfInode i)
 
     pub inode-other : (j : ℕ) → (j ≡ i → ⊥) → ((blockOfInode j ≡ blockOfInode i → ⊥) → w (blockOfInode j) ≡ v (blockOfInode j)) → inodeBytes w j ≡ inodeBytes v j
     unfolding inodeBytes

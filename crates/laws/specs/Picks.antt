@@ -1,5 +1,5 @@
 -- Picks in turn: free blocks, each once, and the first of those that are free. Assumes nothing.
-use Prim.Native.Nat.{ℕ, zero, suc, _+_, _-_, _≤_, _<_}
+use Prim.Native.Nat.{ℕ, zero, suc, _+_, _≤_, _<_}
 use mathlib.Core.Path.{_≡_, refl, sym, ap, _∙_}
 use mathlib.Core.Bool.{Bool, true, false, cond}
 use mathlib.Core.List.{List, [], _∷_, _++_}
@@ -9,13 +9,13 @@ use lib.ListN.{length, take, getD, set, length-set}
 use lib.Seq.{getD-set-same, getD-set-other}
 use native.Mathlib.Nat.{not-suc-le-zero}
 use native.Mathlib.Omega.{arith}
-use borrow.Author.Tests.{eqb-true, eqb-false, eq-eqb}
+use borrow.Author.Tests.{eqb-true, eqb-false}
 use Rattle.spec.specs.Bytes.{occurs, place, placeFrom}
 use Rattle.spec.specs.Bitmap.{freeBits, mark, pick, picks}
 use Rattle.lists.specs.Places.{place-stands}
 use Rattle.bitmap.specs.Words.{Below}
 use Rattle.bitmap.proofs.Laws.{free-set, none-free, Lowest, lowest-says}
-use Rattle.laws.specs.Marks.{length-mark, below-mark}
+use Rattle.laws.specs.Marks.{below-mark}
 
 -- ---- one pick
 

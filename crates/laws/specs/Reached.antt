@@ -1,18 +1,17 @@
 -- What the records of a volume reach: all of it inside, each block once. A record that is kept, with its blocks, reaches and holds what it did. Assumes nothing.
 use Prim.Native.Nat.{ℕ, zero, suc, _+_, _*_, _≤_, _<_}
 use mathlib.Core.Path.{_≡_, refl, sym, ap, ap₂, _∙_}
-use mathlib.Core.Bool.{Bool, true, false, not, _&&_}
+use mathlib.Core.Bool.{Bool, true, false, not}
 use mathlib.Core.List.{List, [], _++_}
-use mathlib.Core.Option.{Option, none, some}
+use mathlib.Core.Option.{none, some}
 use lib.Dec.{eqb}
-use lib.ListN.{length, take, getD}
+use lib.ListN.{length, take}
 use native.Mathlib.Nat.{not-suc-le-zero}
 use native.Mathlib.Omega.{arith}
 use borrow.Author.Tests.{not-true}
 use Rattle.spec.specs.Layout.{bitmapBlock, inodeCount, nameSize, mostBlocks}
 use Rattle.spec.specs.Bytes.{found, occurs, allZero}
 use Rattle.spec.specs.Disk.{Disk}
-use Rattle.spec.specs.Bitmap.{bitsOf}
 use Rattle.spec.specs.Inode.{Inode, isName, inodeBytes, inodeOf, inodeAt, nameAt, isEmpty, find, dataOf, nodesOf, reachedFrom, reached}
 use Rattle.spec.specs.Map.{contentOf, filesOf}
 use Rattle.log.specs.Targets.{both-true}
@@ -115,18 +114,17 @@ module _ (N : ℕ) (v : Disk) (s : VolumeSound N v) where
             let inn = reach-inside i b h (omega arith) in
             omega (arith, s .counted b (omega arith) inn, reached-one v b i h, bit-small v b)
 
+    pub reach-bit : (i b : ℕ) → i < inodeCount → occurs b (reachedFrom v i) ≤ bit v b
+    reach-bit i b h = go (occurs b (reachedFrom v i)) refl
+      where
+        go : (k : ℕ) → occurs b (reachedFrom v i) ≡ k → k ≤ bit v b
+        go zero q = omega arith
+        go (suc k) q = omega (arith, reach-marked i b h (omega arith), reach-once i b h)
+
     pub reach-apart : (i j b : ℕ) → i < inodeCount → j < inodeCount → (i ≡ j → ⊥) → 1 ≤ occurs b (reachedFrom v i) → occurs b (reachedFrom v j) ≡ 0
     reach-apart i j b h k ne o =
         let inn = reach-inside i b h o in
         omega (arith, s .counted b (omega arith) inn, reached-two v b i j h k ne, bit-small v b)
-
-    -- a free block is reached by none
-    pub free-unreached : (i b : ℕ) → i < inodeCount → bit v b ≡ 0 → occurs b (reachedFrom v i) ≡ 0
-    free-unreached i b h z = go (occurs b (reachedFrom v i)) refl
-      where
-        go : (k : ℕ) → occurs b (reachedFrom v i) ≡ k → k ≡ 0
-        go zero q = refl
-        go (suc k) q = absurd (let m = reach-marked i b h (omega arith) in omega arith)
 
 -- ---- a record that is kept
 

@@ -1,25 +1,27 @@
 -- A file's record and nodes, as written, are read back, and are sound: S3 to S6. Assumes nothing.
 use Prim.Native.Nat.{ℕ, zero, suc, _+_, _*_, _-_, _/_, _%_, _≤_, _<_}
-use mathlib.Core.Path.{_≡_, refl, sym, ap, ap₂, _∙_, subst}
-use mathlib.Core.Bool.{Bool, true, false, cond, not, _&&_, and-true}
-use mathlib.Core.List.{List, [], _∷_, _++_, map, append-nil}
+use mathlib.Core.Path.{_≡_, refl, sym, ap, ap₂, _∙_}
+use mathlib.Core.Bool.{Bool, true, false, _&&_}
+use mathlib.Core.List.{List, [], _∷_, _++_, map}
 use lib.Dec.{eqb}
-use lib.ListN.{length, take, drop, getD, replicate, take-append-drop, length-append, length-drop, length-take}
-use lib.Seq.{drop-append-seam}
+use lib.ListN.{length, take, drop, replicate, take-append-drop, length-append, length-drop, length-take}
+use lib.Seq.{drop-at, drop-append-seam}
+use native.Mathlib.Nat.{not-suc-le-zero}
 use native.Mathlib.Omega.{arith}
-use borrow.Author.Tests.{eq-eqb, ne-eqb}
+use borrow.Author.Tests.{eqb-true, ne-eqb}
 use Rattle.spec.specs.Layout.{blockSize, nameSize, inodeSize, slotsPerInode, slotsPerNode, maxFileSize, mostBlocks}
-use Rattle.spec.specs.Bytes.{part, all, allZero, concat, exactly, number4, bytes2, bytes4, occurs}
+use Rattle.spec.specs.Bytes.{part, all, allZero, exactly, bytes4, occurs}
 use Rattle.spec.specs.Disk.{Disk}
 use Rattle.spec.specs.declared.Extent.{Extent}
-use Rattle.spec.specs.Inode.{extent, Inode, slotsIn, used, bytesOfSlots, bytesOfInode, inodeOf, slotsAt, below, nodeSlots, nodeBytes, counts}
+use Rattle.spec.specs.Inode.{extent, slotsIn, used, bytesOfSlots, bytesOfInode, inodeOf, slotsAt, below, nodeSlots, nodeBytes, counts}
 use Rattle.spec.specs.Sound.{slotsPacked}
-use Rattle.block.proofs.Laws.{length-exactly, number4-bytes4}
+use Rattle.block.proofs.Laws.{length-exactly, exactly-small, number4-bytes4}
 use Rattle.bitmap.specs.Words.{Below}
 use Rattle.laws.specs.Lists.{All, and-both}
-use Rattle.laws.specs.Soundness.{Inside, ExtentInside, Counted}
+use Rattle.laws.specs.Bytes.{below-append}
+use Rattle.laws.specs.Soundness.{Inside, Counted}
 use Rattle.laws.specs.RunsOf.{Fits}
-use Rattle.laws.specs.Records.{told, told-is, told-reserved}
+use Rattle.laws.specs.Records.{told-is, told-reserved}
 
 -- ---- slots
 
@@ -124,6 +126,27 @@ module _ (name : List ℕ) (size depth : ℕ) (ss : List Extent) (eight : length
   unfolding rest
   length-written = ap length written-is ∙ length-append name rest ∙ omega (arith, length-exactly 16 (bytesOfSlots ss))
 
+  -- behind the name it is told in bytes
+  pub written-small : depth < 256 → Below 256 (drop nameSize written)
+  unfolding rest
+  written-small d =
+      rw (ap (drop nameSize) written-is ∙ drop-at name rest nameSize eight)
+      (below-append 256 (bytes4 size) (depth ∷ 0 ∷ 0 ∷ 0 ∷ exactly 16 (bytesOfSlots ss)) number-small tail-small)
+    where
+      number-small : Below 256 (bytes4 size)
+      number-small zero = omega arith
+      number-small (suc zero) = omega arith
+      number-small (suc (suc zero)) = omega arith
+      number-small (suc (suc (suc zero))) = omega arith
+      number-small (suc (suc (suc (suc i)))) = omega arith
+
+      tail-small : Below 256 (depth ∷ 0 ∷ 0 ∷ 0 ∷ exactly 16 (bytesOfSlots ss))
+      tail-small zero = d
+      tail-small (suc zero) = omega arith
+      tail-small (suc (suc zero)) = omega arith
+      tail-small (suc (suc (suc zero))) = omega arith
+      tail-small (suc (suc (suc (suc i)))) = exactly-small 16 256 (bytesOfSlots ss) (omega arith) (slots-small ss) i
+
 -- ---- the slots that name nodes
 
 pub counts-split : (n : ℕ) (es : List Extent) → counts es ≡ counts (take n es) + counts (drop n es)
@@ -168,6 +191,14 @@ counts-nodeSlots (b ∷ bs) es h =
 abbrev pub Filled : Disk → List ℕ → List Extent → Type 0
 Filled w [] es = Unit {0}
 Filled w (b ∷ bs) es = (w b ≡ nodeBytes (take slotsPerNode es)) × Filled w bs (drop slotsPerNode es)
+
+pub filled-small : (w : Disk) (bs : List ℕ) (es : List Extent) → Filled w bs es → (b : ℕ) → 1 ≤ occurs b bs → Below 256 (w b)
+filled-small w [] es f b o = absurd (not-suc-le-zero o)
+filled-small w (c ∷ bs) es f b o = go (eqb c b) refl (filled-small w bs (drop slotsPerNode es) (f .1) b)
+  where
+    go : (t : Bool) → eqb c b ≡ t → (1 ≤ occurs b bs → Below 256 (w b)) → Below 256 (w b)
+    go true e ih = rw (sym (eqb-true c b e), f .0) (exactly-small blockSize 256 (bytesOfSlots (take slotsPerNode es)) (omega arith) (slots-small (take slotsPerNode es)))
+    go false e ih = ih (let z = rw e at o in omega arith)
 
 abbrev pub Packed : Disk → List ℕ → List Extent → Type 0
 Packed w [] es = Unit {0}

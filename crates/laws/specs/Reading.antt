@@ -16,7 +16,7 @@ use Rattle.spec.specs.Map.{contentOf, filesOf}
 use Rattle.spec.specs.Calls.{emptyDisk}
 use Rattle.log.specs.Stores.{Whole}
 use Rattle.laws.specs.Bytes.{below-drop, record-small}
-use Rattle.laws.specs.Good.{InBytes, Good}
+use Rattle.laws.specs.Good.{Good}
 use Rattle.laws.specs.Volume.{volume-sound, own-name}
 use Rattle.laws.specs.Local.{local-sound, local-bytes, local-files}
 use Rattle.laws.specs.Free.{free-count}

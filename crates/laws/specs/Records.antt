@@ -1,25 +1,25 @@
 -- Records of 32 bytes: what a name and 24 bytes tell, a file without blocks, and that soundness does not rest on the name. Assumes nothing.
-use Prim.Native.Nat.{ℕ, zero, suc, _+_, _*_, _/_, _%_, _≤_, _<_}
+use Prim.Native.Nat.{ℕ, _+_, _*_}
 use mathlib.Core.Path.{_≡_, refl, sym, ap, ap₂, _∙_}
-use mathlib.Core.Bool.{Bool, true, false, not, _&&_, _||_, Bool·beq}
-use mathlib.Core.List.{List, [], _∷_, _++_, map}
+use mathlib.Core.Bool.{Bool, true, false, not, _&&_, Bool·beq}
+use mathlib.Core.List.{List, [], _∷_, _++_}
 use lib.Dec.{eqb, leb, ltb}
 use lib.ListN.{length, take, drop, getD, length-append}
 use lib.Seq.{take-at, drop-at, drop-drop, getD-drop}
 use native.Mathlib.Nat.{not-suc-le-zero}
 use native.Mathlib.Omega.{arith}
 use borrow.Author.Tests.{eqb-true, eq-eqb, not-true}
-use Rattle.spec.specs.Layout.{blockSize, nameSize, inodeSize, slotsPerInode, maxDepth, maxFileSize}
-use Rattle.spec.specs.Bytes.{part, all, allZero, number2, number4, bytes4, exactly}
+use Rattle.spec.specs.Layout.{nameSize, inodeSize, slotsPerInode, maxDepth, maxFileSize}
+use Rattle.spec.specs.Bytes.{part, all, allZero, number4, bytes4, exactly}
 use Rattle.spec.specs.Disk.{Disk, inData}
 use Rattle.spec.specs.declared.Extent.{Extent}
-use Rattle.spec.specs.Inode.{extent, Inode, isName, inodeOf, inodeWith, bytesOfInode, slotsIn, used, slotsAt, treeDepth, extentsOf, levelsOf, nodesOf, blocksIn, dataOf, blocksFor, levelsFor, nodesFor, counts}
+use Rattle.spec.specs.Inode.{Inode, isName, inodeOf, inodeWith, bytesOfInode, slotsIn, used, slotsAt, treeDepth, extentsOf, levelsOf, nodesOf, blocksIn, dataOf, blocksFor, levelsFor, nodesFor, counts}
 use Rattle.spec.specs.Map.{contentOf}
 use Rattle.spec.specs.Sound.{slotsPacked, extentInside, countsAgree, apart, levelPacked, tailZero, fileSound}
 use Rattle.log.specs.Targets.{both-true}
-use Rattle.laws.specs.Soundness.{FileSound, CountsAgree, file-of, file-test}
+use Rattle.laws.specs.Soundness.{FileSound, file-of, file-test}
 use Rattle.laws.specs.Tree.{extents-flat, levels-flat, nodes-flat}
-use Rattle.laws.specs.Content.{zero-byte}
+use Rattle.laws.specs.Content.{zero-byte, zero-size}
 
 pub name-length : (name : List ℕ) → isName name ≡ true → length name ≡ nameSize
 unfolding isName
@@ -100,7 +100,7 @@ zero-bare bytes h =
     let b : getD (drop 16 bytes) 3 0 ≡ 0 = getD-drop 16 bytes 3 0 ∙ zero-byte bytes 19 h in
     let c : getD (drop 16 bytes) 2 0 + 256 * getD (drop 16 bytes) 3 0 ≡ 0 = omega arith in
     record {
-      size = omega (arith, zero-byte bytes 8 h, zero-byte bytes 9 h, zero-byte bytes 10 h, zero-byte bytes 11 h);
+      size = zero-size bytes h;
       depth = zero-byte bytes 12 h;
       slots = rw (eq-eqb (getD (drop 16 bytes) 2 0 + 256 * getD (drop 16 bytes) 3 0) 0 c);
     }

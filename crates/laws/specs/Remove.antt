@@ -1,36 +1,34 @@
 -- Remove: refused as the sentences tell, or record i is emptied and its blocks are given back. Assumes nothing.
-use Prim.Native.Nat.{ℕ, zero, suc, _+_, _*_, _-_, _/_, _%_, _≤_, _<_}
-use mathlib.Core.Path.{_≡_, refl, sym, ap, ap₂, _∙_, subst}
+use Prim.Native.Nat.{ℕ, _/_, _≤_, _<_}
+use mathlib.Core.Path.{_≡_, refl, sym, ap, ap₂, _∙_}
 use mathlib.Core.Bool.{Bool, true, false, not, _&&_, _||_}
-use mathlib.Core.List.{List, [], _∷_, _++_, append-nil}
+use mathlib.Core.List.{List, [], _++_, append-nil}
 use mathlib.Core.Option.{Option, none, some}
 use lib.Dec.{eqb, ltb}
-use lib.ListN.{length, take, drop, getD, length-replicate, drop-of-length-le}
+use lib.ListN.{length, take, drop, getD, drop-of-length-le}
 use native.Mathlib.Nat.{not-suc-le-zero}
 use native.Mathlib.Omega.{arith}
 use Rattle.spec.specs.Layout.{blockSize, fewestBlocks, mostBlocks, bitmapBlock, dataStart, inodeCount, inodeSize, nameSize}
 use Rattle.spec.specs.Bytes.{found, isSome, patch, part, same, member, occurs, allZero, zeros}
 use Rattle.spec.specs.Disk.{Disk}
 use Rattle.spec.specs.Bitmap.{bitsOf, bytesOf}
-use Rattle.spec.specs.Inode.{isName, inodeBytes, inodeOf, inodeAt, nameAt, isEmpty, blockOfInode, placeOfInode, find, dataOf, nodesOf, reachedFrom}
+use Rattle.spec.specs.Inode.{isName, inodeBytes, inodeAt, nameAt, isEmpty, blockOfInode, placeOfInode, find, dataOf, nodesOf, reachedFrom}
 use Rattle.spec.specs.Map.{filesOf}
 use Rattle.spec.specs.declared.Refusal.the-variants.{Unknown}
-use Rattle.spec.specs.Answers.{Result, refuse, accept, _>>=_}
+use Rattle.spec.specs.Answers.{refuse, accept, _>>=_}
 use Rattle.spec.specs.Transaction.{State, view, BlockStore, ascending}
 use Rattle.spec.specs.Plan.{ifChanged, storesOf, bitmapEdit, inodeEdit, removes}
 use Rattle.spec.specs.Calls.{Change, Remove, Do}
 use Rattle.spec.specs.Plain.{Plain, at}
-use Rattle.spec.specs.Sentences.{File, fileAt, noFile, fileThen, bitChanges, recordChanges, shortens, callStages}
+use Rattle.spec.specs.Sentences.{File, fileAt, noFile, bitChanges, recordChanges, shortens, callStages}
 use Rattle.spec.specs.Refusals.{lacksRoom, isScattered, nameUnknown, ofRecord}
 use Rattle.log.specs.Stores.{Whole, applied, targetsOf}
 use Rattle.block.proofs.Laws.{same-true}
-use Rattle.bitmap.specs.Words.{Table}
 use Rattle.crash.specs.Interface.{planned, Makes, Plans, hindered, stages}
 use Rattle.laws.specs.Lists.{not-both, false-of}
-use Rattle.laws.specs.Soundness.{Inside}
-use Rattle.laws.specs.Volume.{bit, bitCount, VolumeSound, find-some}
-use Rattle.laws.specs.Good.{InBytes, Good}
-use Rattle.laws.specs.Reached.{bit-small, bit-count, name-used, reached-empty, reached-used, reach-inside, reach-once, reach-marked}
+use Rattle.laws.specs.Volume.{bit, bitCount, find-some}
+use Rattle.laws.specs.Good.{Good}
+use Rattle.laws.specs.Reached.{bit-small, bit-count, name-used, reached-empty, reached-used, reach-inside, reach-bit}
 use Rattle.laws.specs.Content.{zero-byte}
 use Rattle.laws.specs.Empty.{zero-take, zero-drop}
 use Rattle.laws.specs.Replace.{Replaced, replace-good, replace-removed}
@@ -40,7 +38,7 @@ use Rattle.laws.specs.Records.{bare-data, bare-nodes, zero-bare}
 use Rattle.laws.specs.OwnSize.{sound-fitted, own-room, own-extents}
 use Rattle.laws.specs.Tests.{first-none, first-unknown, unknown-one, named-known, eqb-turn, or-false, two-of-six, file-is}
 use Rattle.laws.specs.Marks.{Exchange, bitsThen, table-changes}
-use Rattle.laws.specs.Changing.{edits, Own, after, change-targets, change-long, change-table, change-record, change-member, change-others, change-bytes, change-replaced}
+use Rattle.laws.specs.Changing.{edits, Own, change-targets, change-long, change-record, change-member, change-others, change-bytes, change-replaced}
 
 -- ---- a record of zeros
 
@@ -103,20 +101,13 @@ module _ (N : ℕ) (v : Disk) (name : List ℕ) (i : ℕ) (lo : fewestBlocks ≤
     now-empty : isEmpty w i ≡ true
     now-empty = zero-take nameSize (inodeBytes w i) all-zero
 
-    marked : (b : ℕ) → occurs b (reachedFrom v i) ≤ bit v b
-    marked b = go (occurs b (reachedFrom v i)) refl
-      where
-        go : (k : ℕ) → occurs b (reachedFrom v i) ≡ k → k ≤ bit v b
-        go zero q = omega arith
-        go (suc k) q = omega (arith, reach-marked N v (g .sound) in-table i b hi (omega arith), reach-once N v (g .sound) in-table i b hi)
-
     given-back : Exchange (bitsOf (v bitmapBlock)) [] gone gone []
     unfolding bit
     given-back =
         record {
           fresh = λ x. omega (arith, bit-small v x);
           within = λ x o. absurd (not-suc-le-zero o);
-          marked = λ x. omega (arith, marked x, ap (occurs x) (reached-used v i used));
+          marked = λ x. omega (arith, reach-bit N v (g .sound) in-table i x hi, ap (occurs x) (reached-used v i used));
           part = λ x. omega arith;
           balance = λ x. omega arith;
         }

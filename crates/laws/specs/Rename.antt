@@ -1,35 +1,35 @@
 -- Rename: refused as the sentences tell, or record i gets the new name in its place. Assumes nothing.
-use Prim.Native.Nat.{ℕ, zero, suc, _+_, _*_, _-_, _/_, _%_, _≤_, _<_}
+use Prim.Native.Nat.{ℕ, _/_, _%_, _≤_, _<_}
 use mathlib.Core.Path.{_≡_, refl, sym, ap, ap₂, _∙_, subst}
-use mathlib.Core.Bool.{Bool, true, false, cond, not, _&&_, _||_, and-true}
-use mathlib.Core.List.{List, [], _∷_, _++_, append-nil}
+use mathlib.Core.Bool.{Bool, true, false, cond, not, _&&_}
+use mathlib.Core.List.{List, _++_, append-nil}
 use mathlib.Core.Option.{Option, none, some}
-use lib.Dec.{eqb, ltb}
+use lib.Dec.{eqb}
 use lib.ListN.{length, take, drop, getD}
 use lib.Seq.{take-at, drop-at}
 use native.Mathlib.Omega.{arith}
-use borrow.Author.Tests.{eqb-true, eq-eqb, le-ltb}
+use borrow.Author.Tests.{eqb-true, le-ltb}
 use Rattle.spec.specs.Layout.{blockSize, fewestBlocks, mostBlocks, bitmapBlock, dataStart, inodeCount, inodeSize, nameSize}
 use Rattle.spec.specs.Bytes.{found, isSome, patch, part, same, member, occurs, allZero}
 use Rattle.spec.specs.Disk.{Disk}
 use Rattle.spec.specs.Inode.{isName, inodeBytes, inodeOf, inodeAt, nameAt, isEmpty, blockOfInode, placeOfInode, find, dataOf, nodesOf, reachedFrom}
 use Rattle.spec.specs.Map.{contentOf, filesOf}
 use Rattle.spec.specs.declared.Refusal.the-variants.{Unknown, Taken}
-use Rattle.spec.specs.Answers.{Result, refuse, accept, require, _>>=_, _>>_}
-use Rattle.spec.specs.Transaction.{State, view, BlockStore, ascending}
+use Rattle.spec.specs.Answers.{refuse, accept, require, _>>=_, _>>_}
+use Rattle.spec.specs.Transaction.{State, view, ascending}
 use Rattle.spec.specs.Plan.{ifChanged, storesOf, inodeEdit, renames}
 use Rattle.spec.specs.Calls.{Change, Rename, Do}
-use Rattle.spec.specs.Plain.{Plain, at, changedFiles}
+use Rattle.spec.specs.Plain.{Plain, at}
 use Rattle.spec.specs.Sentences.{File, fileAt, fileThen, reaches, isNew, nodeContent, nodeChanges, bitChanges, recordChanges, shortens, callStages}
 use Rattle.spec.specs.Refusals.{lacksRoom, isScattered, nameUnknown, nameTaken, ofRecord}
 use Rattle.log.specs.Stores.{Whole, applied, targetsOf}
-use Rattle.block.proofs.Laws.{same-self, same-true}
+use Rattle.block.proofs.Laws.{same-true}
 use Rattle.crash.specs.Interface.{planned, Makes, Plans, hindered, stages}
-use Rattle.laws.specs.Lists.{not-both, false-of, same-of}
-use Rattle.laws.specs.Soundness.{Inside, FileSound}
-use Rattle.laws.specs.Volume.{bit, bitCount, VolumeSound, find-some, find-none}
+use Rattle.laws.specs.Lists.{false-of, same-of}
+use Rattle.laws.specs.Soundness.{FileSound}
+use Rattle.laws.specs.Volume.{bitCount, find-some, find-none}
 use Rattle.laws.specs.Frame.{Agree, agree-left, agree-right, nodes-frame, data-frame, content-frame, file-frame}
-use Rattle.laws.specs.Good.{InBytes, Good}
+use Rattle.laws.specs.Good.{Good}
 use Rattle.laws.specs.Reached.{bit-count, name-used, files-named, reached-used, reach-inside}
 use Rattle.laws.specs.Replace.{Replaced, replace-good, replace-used}
 use Rattle.laws.specs.Patch.{inode-new}

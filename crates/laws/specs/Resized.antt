@@ -1,29 +1,28 @@
 -- A file's tree at a new size: its blocks and nodes are those of the sentences, and refusals 16 and 17 fire as they tell. Assumes nothing.
-use Prim.Native.Nat.{ℕ, zero, suc, _+_, _*_, _-_, _/_, _≤_, _<_, min}
+use Prim.Native.Nat.{ℕ, zero, suc, _+_, _-_, _≤_, _<_}
 use mathlib.Core.Path.{_≡_, refl, sym, ap, ap₂, _∙_}
-use mathlib.Core.Bool.{Bool, true, false, cond, not, _||_}
+use mathlib.Core.Bool.{Bool, true, false, _||_}
 use mathlib.Core.Logic.{_⊎_, inl, inr}
 use mathlib.Core.List.{List, [], _∷_, _++_, append-nil}
 use lib.Dec.{leb, ltb}
-use lib.ListN.{length, take, drop, getD, length-append, length-take, length-drop, take-append-drop}
-use lib.Seq.{take-all}
+use lib.ListN.{length, take, drop, getD, length-append, length-take, take-append-drop, List·getD-append}
+use lib.Seq.{take-all, getD-take}
 use native.Mathlib.Nat.{zero-sub}
 use native.Mathlib.Omega.{arith}
-use borrow.Author.Tests.{le-leb, lt-leb, le-ltb, lt-ltb, leb-true, leb-false}
-use Rattle.spec.specs.Layout.{blockSize, bitmapBlock, dataStart, inodeCount, mostBlocks, slotsPerInode, slotsPerNode, maxExtents, maxDepth}
+use borrow.Author.Tests.{le-leb, lt-leb, le-ltb, lt-ltb}
+use Rattle.spec.specs.Layout.{bitmapBlock, dataStart, mostBlocks, slotsPerInode, slotsPerNode, maxExtents}
 use Rattle.spec.specs.Bytes.{concat, occurs, quotientUp}
 use Rattle.spec.specs.Disk.{Disk}
 use Rattle.spec.specs.Bitmap.{bitsOf, freeBits, mark, picks}
-use Rattle.spec.specs.Inode.{inodeBytes, inodeAt, dataOf, levelsOf, nodesOf, runs, blocksFor, levelsFor}
+use Rattle.spec.specs.Inode.{inodeBytes, inodeAt, dataOf, levelsOf, runs, blocksFor, levelsFor}
 use Rattle.spec.specs.declared.Refusal.the-variants.{NoSpace, TooManyExtents}
 use Rattle.spec.specs.Answers.{Result, refuse, accept, require, _>>=_, _>>_}
 use Rattle.spec.specs.Plan.{Tree, lowestLevel, dealt, lacking, surplus, resized, fits, treeFor}
 use Rattle.spec.specs.Sentences.{File, fileAt, freeList, moreBlocks, blocksThen, extentCount, nodesWanted, moreNodes, nodesThen}
 use Rattle.log.specs.Stores.{Whole}
 use Rattle.block.proofs.Laws.{lt-or-le}
-use Rattle.bitmap.specs.Words.{Below}
 use Rattle.bitmap.proofs.Laws.{occurs-append, bits-binary}
-use Rattle.laws.specs.Soundness.{Inside, FileSound}
+use Rattle.laws.specs.Soundness.{FileSound}
 use Rattle.laws.specs.Volume.{VolumeSound}
 use Rattle.laws.specs.Tree.{levels-few}
 use Rattle.laws.specs.Runs.{count-runs}
@@ -39,13 +38,21 @@ low-is (ns ∷ []) h = sym (append-nil ns)
 low-is (ns ∷ ms ∷ ls) h = absurd (omega arith)
 
 -- no level, or one
-level-sizes : (k : ℕ) → ((levelsFor k ≡ []) × (nodesWanted k ≡ 0)) ⊎ (levelsFor k ≡ nodesWanted k ∷ [])
+pub level-sizes : (k : ℕ) → ((levelsFor k ≡ []) × (nodesWanted k ≡ 0)) ⊎ (levelsFor k ≡ nodesWanted k ∷ [])
 unfolding levelsFor
 level-sizes k = go (lt-or-le slotsPerInode k)
   where
     go : (slotsPerInode < k) ⊎ (k ≤ slotsPerInode) → ((levelsFor k ≡ []) × (nodesWanted k ≡ 0)) ⊎ (levelsFor k ≡ nodesWanted k ∷ [])
     go (inl l) = inr (rw (lt-ltb 4 k l, lt-leb k 4 l))
     go (inr l) = inl (rw (le-leb k 4 l), rw (le-ltb 4 k l))
+
+levels-none : (k : ℕ) → k ≤ slotsPerInode → levelsFor k ≡ []
+unfolding levelsFor
+levels-none k l = rw (le-leb k 4 l)
+
+levels-one : (k : ℕ) → slotsPerInode < k → levelsFor k ≡ quotientUp k slotsPerNode ∷ []
+unfolding levelsFor
+levels-one k l = rw (lt-leb k 4 l)
 
 module _ (k : ℕ) (ls : List (List ℕ)) (few : length ls ≤ 1) where
   lacking-is : lacking (levelsFor k) ls ≡ nodesWanted k - length (concat ls)
@@ -113,7 +120,7 @@ module _ (N : ℕ) (v : Disk) (i : ℕ) (low : dataStart ≤ N) (most : N ≤ mo
   unfolding resized
   new-data = refl
 
-  extents-are : treeAt .extents ≡ runs (treeAt .blocks)
+  pub extents-are : treeAt .extents ≡ runs (treeAt .blocks)
   unfolding resized
   extents-are = refl
 
@@ -123,8 +130,18 @@ module _ (N : ℕ) (v : Disk) (i : ℕ) (low : dataStart ≤ N) (most : N ≤ mo
     unfolding resized
     tree-blocks = ap (λ (xs : List ℕ). take (blocksFor size) (f .blocks) ++ xs) (picks-free N v low most whole s (moreBlocks f size) room)
 
-    abbrev count : ℕ
-    count = extentCount (blocksThen N v f size)
+    pub tree-length : length (treeAt .blocks) ≡ blocksFor size
+    unfolding resized
+    tree-length =
+        length-append (take (blocksFor size) (f .blocks)) (treeAt .newData)
+        ∙ omega (arith, length-take (blocksFor size) (f .blocks), length-picks bits (moreBlocks f size))
+
+    -- the blocks held stay in their places
+    pub tree-held : (p : ℕ) → p < length (f .blocks) → p < blocksFor size → getD (treeAt .blocks) p 0 ≡ getD (f .blocks) p 0
+    unfolding resized
+    tree-held p h k =
+        List·getD-append (take (blocksFor size) (f .blocks)) (treeAt .newData) 0 p (omega (arith, length-take (blocksFor size) (f .blocks)))
+        ∙ getD-take (blocksFor size) (f .blocks) p 0 k
 
     pub tree-extents : length (treeAt .extents) ≡ extentCount (blocksThen N v f size)
     tree-extents = ap length extents-are ∙ sym (count-runs (treeAt .blocks)) ∙ ap extentCount tree-blocks
@@ -150,6 +167,21 @@ module _ (N : ℕ) (v : Disk) (i : ℕ) (low : dataStart ≤ N) (most : N ≤ mo
         dealt-is (length (treeAt .extents)) (levelsOf v (inodeAt v i)) few-levels (treeAt .newNodes)
         (ap length new-nodes ∙ length-picks (mark 1 (picks bits (moreBlocks f size)) bits) (moreNodes N v f size) ∙ ap (λ k. nodesWanted k - length (f .nodes)) (sym tree-extents))
 
+    -- no level where the record holds all extents, else one
+    pub tree-levels : ((treeAt .levels ≡ []) × (length (treeAt .extents) ≤ slotsPerInode))
+        ⊎ ((treeAt .levels ≡ concat (treeAt .levels) ∷ []) × (slotsPerInode < length (treeAt .extents)))
+    unfolding resized
+    tree-levels = go (lt-or-le slotsPerInode (length (treeAt .extents)))
+      where
+        one : (ls : List ℕ) (k : ℕ) (ns : List ℕ) → ls ≡ k ∷ [] → (held : List (List ℕ)) → dealt ls held ns ≡ concat (dealt ls held ns) ∷ []
+        one ls k ns e held =
+            rw e (ap (λ (xs : List ℕ). xs ∷ []) (sym (append-nil (take k (lowestLevel held) ++ take (k - length (lowestLevel held)) ns))))
+
+        go : (slotsPerInode < length (treeAt .extents)) ⊎ (length (treeAt .extents) ≤ slotsPerInode)
+            → ((treeAt .levels ≡ []) × (length (treeAt .extents) ≤ slotsPerInode)) ⊎ ((treeAt .levels ≡ concat (treeAt .levels) ∷ []) × (slotsPerInode < length (treeAt .extents)))
+        go (inl l) = inr (one (levelsFor (length (treeAt .extents))) (quotientUp (length (treeAt .extents)) slotsPerNode) (treeAt .newNodes) (levels-one (length (treeAt .extents)) l) (levelsOf v (inodeAt v i)), l)
+        go (inr l) = inl (ap (λ (ns : List ℕ). dealt ns (levelsOf v (inodeAt v i)) (treeAt .newNodes)) (levels-none (length (treeAt .extents)) l), l)
+
     pub dropped-are : treeAt .dropped ≡ drop (blocksFor size) (f .blocks) ++ drop (nodesWanted (length (treeAt .extents))) (f .nodes)
     unfolding resized
     dropped-are = ap (λ (xs : List ℕ). drop (blocksFor size) (f .blocks) ++ xs) (surplus-is (length (treeAt .extents)) (levelsOf v (inodeAt v i)) few-levels)
@@ -161,6 +193,19 @@ module _ (N : ℕ) (v : Disk) (i : ℕ) (low : dataStart ≤ N) (most : N ≤ mo
           levels-are
           ∙ ap₂ (λ (k : ℕ) (xs : List ℕ). take (nodesWanted k) (f .nodes) ++ xs) tree-extents
           (new-nodes ∙ picks-behind N v low most whole s (moreBlocks f size) (moreNodes N v f size) all-room)
+
+      pub tree-many : slotsPerInode < length (treeAt .extents) → length (concat (treeAt .levels)) ≡ quotientUp (length (treeAt .extents)) slotsPerNode
+      tree-many l =
+          let k = length (treeAt .extents) in
+          let e : nodesWanted k ≡ quotientUp k slotsPerNode = rw (lt-ltb 4 k l) in
+          ap length levels-are ∙ length-append (take (nodesWanted k) (f .nodes)) (treeAt .newNodes)
+          ∙ (let z : length (take (nodesWanted k) (f .nodes)) + length (treeAt .newNodes) ≡ quotientUp k slotsPerNode =
+          omega (
+            arith,
+            e,
+            length-take (nodesWanted k) (f .nodes),
+            ap length new-nodes ∙ length-picks (mark 1 (picks bits (moreBlocks f size)) bits) (moreNodes N v f size) ∙ ap (λ k. nodesWanted k - length (f .nodes)) (sym tree-extents),
+          ) in z)
 
       -- what is taken and given back
       pub tree-exchange : ((x : ℕ) → occurs x (f .blocks ++ f .nodes) ≤ getD bits x 0)

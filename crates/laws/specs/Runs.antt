@@ -1,21 +1,21 @@
 -- A sound file's extents are the runs of its data blocks, and at most 512. Assumes nothing.
-use Prim.Native.Nat.{ℕ, zero, suc, _+_, _*_, _-_, _≤_, _<_, min}
+use Prim.Native.Nat.{ℕ, zero, suc, _+_, _*_, _≤_, _<_}
 use mathlib.Core.Path.{_≡_, refl, sym, ap, _∙_, subst}
-use mathlib.Core.Bool.{Bool, true, false, cond, not, _&&_}
+use mathlib.Core.Bool.{Bool, true, false, cond, not}
 use mathlib.Core.Logic.{_⊎_, inl, inr}
-use mathlib.Core.List.{List, [], _∷_, _++_, map}
-use lib.Dec.{eqb, leb, ltb}
+use mathlib.Core.List.{List, [], _∷_, _++_}
+use lib.Dec.{eqb}
 use lib.ListN.{length, drop, length-append}
-use native.Mathlib.Nat.{not-suc-le-zero, mul-suc, add-comm}
+use native.Mathlib.Nat.{not-suc-le-zero}
 use native.Mathlib.Omega.{arith}
-use borrow.Author.Tests.{eqb-true, eqb-false, eq-eqb, ne-eqb, not-true, le-leb, lt-leb, le-ltb, lt-ltb}
+use borrow.Author.Tests.{eqb-false, eq-eqb, ne-eqb, not-true, le-leb, lt-leb, le-ltb, lt-ltb}
 use Rattle.spec.specs.Layout.{slotsPerInode, slotsPerNode, maxDepth, maxExtents}
-use Rattle.spec.specs.Bytes.{concat, upFrom}
+use Rattle.spec.specs.Bytes.{upFrom}
 use Rattle.spec.specs.Disk.{Disk}
 use Rattle.spec.specs.declared.Extent.{Extent}
 use Rattle.spec.specs.Inode.{extent, Inode, inodeOf, slotsIn, slotsAt, used, below, extentsBelow, treeDepth, extentsOf, dataOf, blocksIn, prepend, runs, levelsFor, nodesFor}
 use Rattle.spec.specs.Sound.{apart}
-use Rattle.spec.specs.Sentences.{breaks, extentCount, nodesWanted}
+use Rattle.spec.specs.Sentences.{extentCount, nodesWanted}
 use Rattle.log.specs.Targets.{both-true}
 use Rattle.block.proofs.Laws.{lt-or-le}
 use Rattle.laws.specs.Lists.{All}

@@ -1,5 +1,5 @@
 -- The runs of a list of blocks: they hold these blocks, lie where they lie, do not touch, and fit their slots. Assumes nothing.
-use Prim.Native.Nat.{ℕ, zero, suc, _+_, _-_, _≤_, _<_}
+use Prim.Native.Nat.{ℕ, suc, _+_, _≤_}
 use mathlib.Core.Path.{_≡_, refl, sym, ap, _∙_}
 use mathlib.Core.Bool.{Bool, true, false, cond}
 use mathlib.Core.List.{List, [], _∷_, _++_}
@@ -7,15 +7,13 @@ use lib.Dec.{eqb}
 use lib.ListN.{length}
 use native.Mathlib.Omega.{arith}
 use borrow.Author.Tests.{eqb-true, eqb-false, ne-eqb}
-use Rattle.spec.specs.Layout.{mostBlocks}
-use Rattle.spec.specs.Bytes.{occurs, upFrom, concat}
+use Rattle.spec.specs.Bytes.{occurs, upFrom}
 use Rattle.spec.specs.declared.Extent.{Extent}
 use Rattle.spec.specs.Inode.{extent, prepend, runs, blocksIn, counts}
 use Rattle.spec.specs.Sound.{apart}
 use Rattle.laws.specs.Lists.{All, occurs-head}
 use Rattle.laws.specs.Soundness.{Inside, ExtentInside}
 use Rattle.laws.specs.Tree.{length-blocks}
-use Rattle.laws.specs.Runs.{Real}
 
 -- ---- the blocks again
 

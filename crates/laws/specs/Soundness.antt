@@ -1,14 +1,14 @@
 -- S3 to S6 and S8 of one file as propositions, and that the tests decide them. Assumes nothing.
 use Prim.Native.Nat.{ℕ, zero, suc, _+_, _-_, _/_, _%_, _≤_, _<_}
 use mathlib.Core.Path.{_≡_, refl, sym, _∙_}
-use mathlib.Core.Bool.{Bool, true, false, cond, not, _&&_, Bool·beq, false≢true}
-use mathlib.Core.List.{List, [], _∷_, map}
+use mathlib.Core.Bool.{Bool, true, false, cond, _&&_, Bool·beq, false≢true}
+use mathlib.Core.List.{List}
 use lib.Dec.{eqb, leb, ltb}
 use lib.ListN.{length, take, drop, getD}
 use native.Mathlib.Omega.{arith}
 use borrow.Author.Tests.{eqb-true, eqb-false, eq-eqb, ne-eqb, ltb-true, ltb-false, lt-ltb, le-ltb, leb-true, le-leb}
 use Rattle.spec.specs.Layout.{blockSize, dataStart, slotsPerInode, slotsPerNode, maxDepth, maxFileSize}
-use Rattle.spec.specs.Bytes.{part, all, occurs, concat, allZero}
+use Rattle.spec.specs.Bytes.{part, all, occurs, allZero}
 use Rattle.spec.specs.Disk.{Disk, areaOf, isDataArea, inData}
 use Rattle.spec.specs.declared.Area.the-variants.{Header, Log, Bitmap, Inodes, Data}
 use Rattle.spec.specs.declared.Extent.{Extent}

@@ -1,15 +1,13 @@
 -- Refusals 13 to 17 and the sentences of staging, over what their tests come to. Assumes nothing.
 use Prim.Native.Nat.{ℕ, zero, suc, _+_, _-_, _≤_, _<_}
-use mathlib.Core.Path.{_≡_, refl, sym, ap, ap₂, _∙_}
+use mathlib.Core.Path.{_≡_, refl, sym, ap, _∙_}
 use mathlib.Core.Bool.{Bool, true, false, cond, not, _&&_, _||_, Bool·beq, true≢false}
 use mathlib.Core.List.{List, [], _∷_}
 use mathlib.Core.Option.{Option, none, some}
-use lib.Dec.{eqb, ltb}
-use lib.ListN.{length}
-use native.Mathlib.Omega.{arith}
+use lib.Dec.{eqb}
 use borrow.Author.Tests.{eqb-true, eq-eqb, not-false}
 use Rattle.spec.specs.Layout.{dataStart, inodeCount}
-use Rattle.spec.specs.Bytes.{found, all, any, upFrom, lowest, isSome, same}
+use Rattle.spec.specs.Bytes.{found, all, any, upFrom, lowest, isSome}
 use Rattle.spec.specs.Disk.{Disk}
 use Rattle.spec.specs.Inode.{isName, inodeAt, isEmpty, find, findEmpty}
 use Rattle.spec.specs.Map.{contentOf, filesOf}

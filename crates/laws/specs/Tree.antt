@@ -1,9 +1,9 @@
 -- The tree of a sound file: its levels, its data blocks, and that none of them is cut off or lies outside. Assumes nothing.
-use Prim.Native.Nat.{ℕ, zero, suc, _+_, _-_, _≤_, _<_}
+use Prim.Native.Nat.{ℕ, zero, suc, _+_, _≤_, _<_}
 use mathlib.Core.Path.{_≡_, refl, sym, ap, ap₂, _∙_}
 use mathlib.Core.Logic.{_⊎_, inl, inr}
 use mathlib.Core.List.{List, [], _∷_, _++_, map, append-nil}
-use lib.ListN.{length, take, length-append}
+use lib.ListN.{length, length-append}
 use lib.Seq.{take-all}
 use native.Mathlib.Nat.{not-suc-le-zero, eq-or-lt-of-le}
 use native.Mathlib.Omega.{arith}
@@ -11,7 +11,7 @@ use Rattle.spec.specs.Layout.{maxDepth, maxFileBlocks}
 use Rattle.spec.specs.Bytes.{occurs, concat, upFrom}
 use Rattle.spec.specs.Disk.{Disk}
 use Rattle.spec.specs.declared.Extent.{Extent}
-use Rattle.spec.specs.Inode.{Inode, inodeOf, used, slotsAt, below, extentsBelow, levelsBelow, treeDepth, extentsOf, levelsOf, nodesOf, blocksIn, dataOf, blocksFor, counts}
+use Rattle.spec.specs.Inode.{Inode, inodeOf, used, slotsAt, below, extentsBelow, treeDepth, extentsOf, levelsOf, nodesOf, blocksIn, dataOf, blocksFor, counts}
 use Rattle.bitmap.proofs.Laws.{occurs-append}
 use Rattle.laws.specs.Lists.{All, occurs-take, occurs-upFrom, length-upFrom}
 use Rattle.laws.specs.Soundness.{Inside, ExtentInside, Counted, CountsAgree, FileSound}

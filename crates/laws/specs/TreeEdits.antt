@@ -1,29 +1,28 @@
 -- The edits of a file's nodes and data blocks: where they go, and what they leave there. Assumes nothing.
-use Prim.Native.Nat.{ℕ, zero, suc, _+_, _-_, _≤_, _<_}
-use mathlib.Core.Path.{_≡_, refl, sym, ap, ap₂, _∙_}
-use mathlib.Core.Bool.{Bool, true, false, cond, not, _&&_, _||_}
+use Prim.Native.Nat.{ℕ, zero, suc, _+_, _≤_, _<_}
+use mathlib.Core.Path.{_≡_, refl, sym, ap, _∙_}
+use mathlib.Core.Bool.{Bool, true, false, cond}
 use mathlib.Core.Logic.{_⊎_, inl, inr}
-use mathlib.Core.List.{List, [], _∷_, _++_, map, append-nil}
-use lib.Dec.{eqb}
+use mathlib.Core.List.{List, [], _∷_, _++_, map}
 use lib.ListN.{length, take, drop, getD}
-use native.Mathlib.Nat.{not-suc-le-zero, eq-or-lt-of-le}
+use native.Mathlib.Nat.{eq-or-lt-of-le}
 use native.Mathlib.Omega.{arith}
-use borrow.Author.Tests.{eqb-true, eqb-false, eq-eqb, ne-eqb}
 use Rattle.spec.specs.Layout.{blockSize, slotsPerNode}
-use Rattle.spec.specs.Bytes.{occurs, same, keep, upFrom}
+use Rattle.spec.specs.Bytes.{occurs, same, keep, concat, upFrom}
 use Rattle.spec.specs.Disk.{Disk}
 use Rattle.spec.specs.declared.Extent.{Extent}
-use Rattle.spec.specs.Inode.{nodeBytes, bytesOfSlots}
+use Rattle.spec.specs.Inode.{nodeBytes, nodeSlots, bytesOfSlots}
 use Rattle.spec.specs.Transaction.{BlockStore, put}
-use Rattle.spec.specs.Plan.{Edit, edit, ifChanged, storesOf, nodeEdits}
+use Rattle.spec.specs.Plan.{Edit, edit, ifChanged, storesOf, lowestLevel, nodeEdits, levelEdits}
 use Rattle.block.proofs.Laws.{length-exactly}
+use Rattle.bitmap.proofs.Laws.{occurs-append}
 use Rattle.log.specs.Targets.{Fresh}
 use Rattle.log.specs.Header.{map-up}
 use Rattle.log.specs.Stores.{upd-same, upd-other, Long, over}
 use Rattle.laws.specs.Lists.{occurs-head}
 use Rattle.laws.specs.Edits.{blocksOf, changed-own, changed-other, changed-long, over-fresh}
 use Rattle.laws.specs.Readback.{Filled}
-use Rattle.laws.specs.Distinct.{fresh-none, head-once}
+use Rattle.laws.specs.Distinct.{fresh-none, head-once, long-append}
 
 -- ---- nodes
 
@@ -72,6 +71,34 @@ module _ (v : Disk) where
             (λ c p. changed-other v (nodeEdit b es) rest c (λ q. let z = head-once b bs (o b) in let y = ap (λ m. occurs m bs) q in omega arith))
             (nodes-filled held bs (drop slotsPerNode es) (λ c. let z = o c in omega arith)),
       )
+
+  -- ---- level by level
+
+  pub stores-append : (es fs : List Edit) → storesOf v (es ++ fs) ≡ storesOf v es ++ storesOf v fs
+  stores-append [] fs = refl
+  stores-append (e ∷ es) fs = ap (λ (l : List BlockStore). put (e .block) (e .change (v (e .block))) ∷ l) (stores-append es fs)
+
+  pub occurs-edits : (es fs : List Edit) (b : ℕ) → occurs b (blocksOf v (es ++ fs)) ≡ occurs b (blocksOf v es) + occurs b (blocksOf v fs)
+  occurs-edits [] fs b = omega arith
+  occurs-edits (e ∷ es) fs b = omega (arith, occurs-edits es fs b)
+
+  pub levels-occur : (held ls : List (List ℕ)) (es : List Extent) (b : ℕ) → occurs b (blocksOf v (levelEdits v held ls es)) ≤ occurs b (concat ls)
+  levels-occur held [] es b = omega arith
+  levels-occur held (ns ∷ ls) es b =
+      omega (
+        arith,
+        occurs-edits (nodeEdits v (length (lowestLevel held)) ns es) (levelEdits v (drop 1 held) ls (nodeSlots ns es)) b,
+        nodes-occur (length (lowestLevel held)) ns es b,
+        levels-occur (drop 1 held) ls (nodeSlots ns es) b,
+        occurs-append b ns (concat ls),
+      )
+
+  pub levels-long : (held ls : List (List ℕ)) (es : List Extent) → Long (storesOf v (levelEdits v held ls es))
+  levels-long held [] es = tt
+  levels-long held (ns ∷ ls) es =
+      rw (stores-append (nodeEdits v (length (lowestLevel held)) ns es) (levelEdits v (drop 1 held) ls (nodeSlots ns es)))
+      (long-append (storesOf v (nodeEdits v (length (lowestLevel held)) ns es)) (storesOf v (levelEdits v (drop 1 held) ls (nodeSlots ns es)))
+      (nodes-long (length (lowestLevel held)) ns es) (levels-long (drop 1 held) ls (nodeSlots ns es)))
 
 -- ---- data blocks, by place
 
@@ -125,6 +152,14 @@ module _ (v : Disk) (B : ℕ → ℕ) (C : ℕ → List ℕ → List ℕ) (f : �
           → occurs b (blocksOf v (map (λ p. edit (B p) (C p)) (cond t (a ∷ keep f (upFrom (suc a) n)) (keep f (upFrom (suc a) n))))) ≤ occurs b (map B (upFrom a (suc n)))
       go true ih = omega arith
       go false ih = omega arith
+
+  pub placed-long : (a n : ℕ) → ((p : ℕ) → a ≤ p → p < a + n → length (C p (v (B p))) ≡ blockSize) → Long (storesOf v (placed a n))
+  placed-long a zero h = tt
+  placed-long a (suc n) h = go (f a) (placed-long (suc a) n (λ p l u. h p (omega arith) (omega arith)))
+    where
+      go : (t : Bool) → Long (storesOf v (placed (suc a) n)) → Long (storesOf v (map (λ p. edit (B p) (C p)) (cond t (a ∷ keep f (upFrom (suc a) n)) (keep f (upFrom (suc a) n)))))
+      go true r = (h a (omega arith) (omega arith), r)
+      go false r = r
 
 pub map-places : (xs : List ℕ) → map (λ p. getD xs p 0) (upFrom 0 (length xs)) ≡ xs
 map-places [] = refl

@@ -1,5 +1,5 @@
 -- S1 to S8 of a volume as propositions, and that the tests decide them. Assumes nothing.
-use Prim.Native.Nat.{ℕ, zero, suc, _+_, _≤_, _<_}
+use Prim.Native.Nat.{ℕ, zero, suc, _+_, _<_}
 use mathlib.Core.Path.{_≡_, refl, sym, ap, _∙_}
 use mathlib.Core.Bool.{Bool, true, false, cond, not, _&&_, false≢true}
 use mathlib.Core.Logic.{_↔_}
@@ -9,9 +9,9 @@ use lib.Dec.{T, eqb}
 use lib.ListN.{length, getD}
 use native.Mathlib.Nat.{not-suc-le-zero, add-zero, zero-add}
 use native.Mathlib.Omega.{arith}
-use borrow.Author.Tests.{eqb-true, eq-eqb, not-true, not-false}
+use borrow.Author.Tests.{eqb-true, eq-eqb, not-false}
 use Rattle.spec.specs.Layout.{bitmapBlock, inodeCount}
-use Rattle.spec.specs.Bytes.{same, occurs, lowest, found, isSome, allZero}
+use Rattle.spec.specs.Bytes.{same, occurs, found, isSome, allZero}
 use Rattle.spec.specs.Disk.{Disk, inData}
 use Rattle.spec.specs.Bitmap.{bitsOf}
 use Rattle.spec.specs.Inode.{inodeBytes, nameAt, isEmpty, find, reached}

@@ -1,8 +1,8 @@
 -- A record written for some blocks tells a sound file with these blocks, over nodes that hold their runs. Assumes nothing.
-use Prim.Native.Nat.{ℕ, zero, suc, _+_, _*_, _-_, _/_, _%_, _≤_, _<_}
-use mathlib.Core.Path.{_≡_, refl, sym, ap, ap₂, _∙_, subst}
-use mathlib.Core.Bool.{Bool, true, false}
-use mathlib.Core.List.{List, [], _∷_, _++_, map, append-nil}
+use Prim.Native.Nat.{ℕ, _/_, _%_, _≤_, _<_}
+use mathlib.Core.Path.{_≡_, sym, ap, _∙_}
+use mathlib.Core.Bool.{true}
+use mathlib.Core.List.{List, [], _∷_, map, append-nil}
 use lib.ListN.{length, take, drop, getD}
 use lib.Seq.{take-all}
 use native.Mathlib.Nat.{not-suc-le-zero}
@@ -12,11 +12,11 @@ use Rattle.spec.specs.Layout.{blockSize, nameSize, slotsPerInode, slotsPerNode,
 use Rattle.spec.specs.Bytes.{allZero, concat, occurs, quotientUp}
 use Rattle.spec.specs.Disk.{Disk}
 use Rattle.spec.specs.declared.Extent.{Extent}
-use Rattle.spec.specs.Inode.{Inode, inodeOf, inodeWith, bytesOfInode, slotsAt, used, below, treeDepth, extentsOf, levelsOf, nodesOf, blocksIn, dataOf, blocksFor, levelsFor, nodesFor, nodeSlots, counts, runs}
+use Rattle.spec.specs.Inode.{Inode, inodeOf, inodeWith, bytesOfInode, slotsAt, used, below, treeDepth, extentsOf, levelsOf, nodesOf, blocksIn, dataOf, blocksFor, levelsFor, nodeSlots, counts, runs}
 use Rattle.spec.specs.Sound.{slotsPacked, apart}
 use Rattle.laws.specs.Lists.{All, occurs-head, all-at}
-use Rattle.laws.specs.Soundness.{Inside, ExtentInside, CountsAgree, LevelPacked, packed-of, FileSound}
-use Rattle.laws.specs.Tree.{extents-flat, extents-deep, levels-flat, levels-deep, nodes-flat, nodes-deep}
+use Rattle.laws.specs.Soundness.{Inside, ExtentInside, CountsAgree, packed-of, FileSound}
+use Rattle.laws.specs.Tree.{extents-flat, extents-deep, levels-flat, levels-deep, nodes-flat}
 use Rattle.laws.specs.RunsOf.{Fits, runs-blocks, runs-counts, runs-fit, runs-apart}
 use Rattle.laws.specs.Readback.{Slot, slot-of, padded, used-padded, padded-packed, read-inode, read-reserved, length-nodeSlots, tops-nodeSlots, nodeSlots-slot, counts-nodeSlots, Filled, Packed, packed, packed-slots, packed-counts, packed-below, packed-full}
 

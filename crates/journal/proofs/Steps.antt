@@ -18,7 +18,7 @@ use Rattle.spec.specs.declared.Session.{Session}
 use Rattle.spec.specs.declared.Stored.the-variants.{Idle}
 use Rattle.spec.specs.Session.{opened, inPhase, stagedIn}
 use Rattle.spec.specs.declared.Phase.the-variants.{Closed, Ready, Committing, Recovering}
-use Rattle.spec.specs.Answers.{storedOf}
+use Rattle.spec.specs.Answers.{idle, storedOf}
 use Rattle.spec.specs.Transaction.{BlockStore, put, stateOf}
 use Rattle.spec.specs.Journal.{headerOf, targetsIn, areTargets, commitStores, recoveryStores}
 use Rattle.spec.specs.Calls.{Outcome, perform, advanceIn, left}
@@ -237,3 +237,13 @@ module _ (s : Session) (d : ℕ) (t : Targets) (a : Bool) (test : a ≡ areTarge
   unfolding advanceIn
   recovery-stored r e after =
       step-stored s device work recoveries a (t .count + 1) d recoveries-none recoveries-length Recovering Closed r (e .block .0) (entryContent (listOf t) device work (e .source)) after
+
+-- where nothing is under way
+module _ (s : Session) (d w : List ℕ) where
+  pub idle-closed : (p : Phase) → p ≡ Closed → left s d w idle ≡ advanceIn (stateOf s d w) p
+  unfolding advanceIn
+  idle-closed p e = rw e
+
+  pub idle-ready : (p : Phase) → p ≡ Ready → left s d w idle ≡ advanceIn (stateOf s d w) p
+  unfolding advanceIn
+  idle-ready p e = rw e

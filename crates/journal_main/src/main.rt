@@ -163,12 +163,7 @@ fn advance(device: &mut [u8], work: &[u8], s: Session) -> Advanced {
         return idle(s);
     }
     let p = s.phase;
-    match p {
-        Phase::Closed => idle(s),
-        Phase::Ready => idle(s),
-        Phase::Committing(d) => journal::commit_step(device, work, s, d),
-        Phase::Recovering(d) => journal::recovery_step(device, work, s, d),
-    }
+    journal::advance_in(device, work, s, p)
 }
 
 fn run(device: &mut [u8], work: &[u8], s: Session, steps: usize) {

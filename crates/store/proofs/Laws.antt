@@ -22,7 +22,7 @@ use Rattle.spec.specs.declared.Phase.the-variants.{Closed, Ready, Committing, R
 use Rattle.spec.specs.declared.Refusal.{Refusal}
 use Rattle.spec.specs.declared.Refusal.the-variants.{DeviceSize, BadHeader, Unsound}
 use Rattle.spec.specs.Session.{opened, closedOn, inPhase, stagedIn}
-use Rattle.spec.specs.Answers.{done, started, idle, refusalOf, doneOf, refuse, accept}
+use Rattle.spec.specs.Answers.{done, started, refusalOf, doneOf, refuse, accept}
 use Rattle.spec.specs.Transaction.{stateOf}
 use Rattle.spec.specs.Calls.{Outcome, outcome, left, lentOk, readyOk, startCommit, emptyDisk, format, openPhase, openStore, advanceIn, advance, commit, abort}
 
@@ -102,14 +102,6 @@ module _ (s : Session) (d w : List ℕ) where
 -- ---- advance
 
 module _ (s : Session) (d w : List ℕ) where
-  pub idle-closed : (p : Phase) → p ≡ Closed → left s d w idle ≡ advanceIn (stateOf s d w) p
-  unfolding advanceIn
-  idle-closed p e = rw e
-
-  pub idle-ready : (p : Phase) → p ≡ Ready → left s d w idle ≡ advanceIn (stateOf s d w) p
-  unfolding advanceIn
-  idle-ready p e = rw e
-
   pub advance-bad : (r : Refusal) → refuse r ≡ lentOk (stateOf s d w) → left s d w (refusalOf r) ≡ advance (stateOf s d w)
   unfolding advance
   advance-bad r e = rw (← e)

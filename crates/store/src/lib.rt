@@ -7,9 +7,8 @@ use checks::lent;
 use checks::ready;
 use fsck::is_sound;
 use journal::Fault;
-use journal::commit_step;
+use journal::advance_in;
 use journal::header_fault;
-use journal::recovery_step;
 use journal::targets_in;
 use mkfs::make_empty;
 pub use query::free_count;
@@ -36,7 +35,7 @@ ghost use Rattle.spec.specs.declared.Done.{Done};
 ghost use Rattle.spec.specs.declared.Done.the-variants.{Refused};
 ghost use Rattle.spec.specs.Answers.{doneOf, startedOf, storedOf};
 ghost use Rattle.spec.specs.Transaction.{stateOf};
-ghost use Rattle.spec.specs.Calls.{left, format, openStore, advanceIn, advance, commit, abort};
+ghost use Rattle.spec.specs.Calls.{left, format, openStore, advance, commit, abort};
 
 // Makes an empty store. The work space is not lent: whatever it holds stays.
 pub fn format(device: &mut [u8], session: Session) -> Finished
@@ -97,26 +96,6 @@ pub fn open_store(device: &[u8], session: Session) -> Finished
         return refuse(session, Refusal::Unsound);
     }
     finish(Session::opened(n, Phase::Ready))
-}
-
-// What advance does in a phase: nothing where nothing is under way, else one store of the commit or the recovery.
-fn advance_in(device: &mut [u8], work: &[u8], session: Session, phase: Phase) -> Advanced
-    requires { ⌜ 512 * session .blocks ≡ length (now device) ⌝ }
-    ensures { λ r. ⌜ left (r .session) (now (device .exit)) (now (work .entry)) (storedOf (r .answer))
-        ≡ advanceIn (stateOf session (now (device .entry)) (now (work .entry))) phase ⌝ }
-{
-    match phase {
-        Phase::Closed => Advanced {
-            session: session,
-            answer: Stored::Idle,
-        },
-        Phase::Ready => Advanced {
-            session: session,
-            answer: Stored::Idle,
-        },
-        Phase::Committing(d) => commit_step(device, work, session, d),
-        Phase::Recovering(d) => recovery_step(device, work, session, d),
-    }
 }
 
 // Stores the next block of a commit or a recovery under way.

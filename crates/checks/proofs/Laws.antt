@@ -1,11 +1,11 @@
 -- The cases of the tests at the head of a call. Assumes nothing.
-use Prim.Native.Nat.{ℕ, _+_, _*_, _/_, _%_, _<_, _≤_}
+use Prim.Native.Nat.{ℕ, _+_, _*_, _-_, _/_, _%_, _<_, _≤_}
 use mathlib.Core.Path.{_≡_, refl, sym, ap, _∙_}
 use mathlib.Core.Bool.{Bool, true, false, not, _&&_}
 use mathlib.Core.List.{List, _∷_}
 use native.Mathlib.Numerals.{add-one}
 use native.Mathlib.Omega.{arith}
-use borrow.Author.Tests.{eqb-true, eqb-false, eq-eqb, ne-eqb, lt-leb, le-leb, leb-true}
+use borrow.Author.Tests.{eqb-true, eqb-false, eq-eqb, ne-eqb, lt-leb, le-leb, leb-true, leb-false}
 use lib.Dec.{eqb, leb}
 use lib.ListN.{length, drop, getD, drop-of-length-le}
 use lib.Seq.{drop-cons}
@@ -16,11 +16,12 @@ use Rattle.spec.specs.declared.Session.{Session}
 use Rattle.spec.specs.declared.Phase.{Phase}
 use Rattle.spec.specs.declared.Phase.the-variants.{Closed, Ready, Committing, Recovering}
 use Rattle.spec.specs.declared.Refusal.{Refusal}
-use Rattle.spec.specs.declared.Refusal.the-variants.{DeviceSize, WorkSize, BadName, NotReady}
-use Rattle.spec.specs.Answers.{Result, refuse, accept, require}
+use Rattle.spec.specs.declared.Refusal.the-variants.{DeviceSize, WorkSize, BadName, TooLarge, NotReady}
+use Rattle.spec.specs.declared.Done.{Done}
+use Rattle.spec.specs.Answers.{Result, refuse, accept, require, doneOf}
 use Rattle.spec.specs.Transaction.{stateOf}
-use Rattle.spec.specs.Calls.{lentOk, readyOk, nameOk, isReady}
-use Rattle.checks.specs.Checks.{resultOf, readyPhase}
+use Rattle.spec.specs.Calls.{Outcome, left, lentOk, readyOk, nameOk, isReady}
+use Rattle.checks.specs.Checks.{resultOf, readyPhase, namesOk, nameSizeOk}
 use Rattle.checks.specs.declared.Checked.the-variants.{Fine, Bad}
 
 -- ---- 1
@@ -72,6 +73,19 @@ module _ (name : List ℕ) where
   pub byte-end : (k : ℕ) → length name ≤ k → allZero (drop k name) ≡ true
   byte-end k h = rw (drop-of-length-le name h)
 
+-- ---- 4
+
+module _ (x n : ℕ) where
+  pub data-large : 1048576 < n → false ≡ leb (x + n) 1048576
+  data-large h = sym (lt-leb (x + n) 1048576 (omega arith))
+
+  pub end-fits : n ≤ 1048576 → leb x (1048576 - n) ≡ leb (x + n) 1048576
+  end-fits h = go (leb x (1048576 - n)) refl
+    where
+      go : (t : Bool) → leb x (1048576 - n) ≡ t → t ≡ leb (x + n) 1048576
+      go true e = sym (le-leb (x + n) 1048576 (let z = leb-true x (1048576 - n) e in omega arith))
+      go false e = sym (lt-leb (x + n) 1048576 (let z = leb-false x (1048576 - n) e in omega arith))
+
 -- ---- 1 and 2, and 12
 
 accept≢refuse : (a : Bool) (r : Refusal) → accept a ≡ refuse r → ⊥
@@ -121,6 +135,40 @@ module _ (s : Session) (d w : List ℕ) where
     unfolding nameOk
     named-fine e f = rw (← e, f) (phase-ready (s .phase))
 
+    module _ (new : List ℕ) where
+      pub names-lent : (r : Refusal) → refuse r ≡ lentOk (stateOf s d w) → refuse r ≡ namesOk (stateOf s d w) name new
+      unfolding namesOk
+      names-lent r e = rw (← e)
+
+      pub names-first : accept true ≡ lentOk (stateOf s d w) → isName name ≡ false → refuse BadName ≡ namesOk (stateOf s d w) name new
+      unfolding namesOk
+      names-first e f = rw (← e, f)
+
+      pub names-second : accept true ≡ lentOk (stateOf s d w) → isName name ≡ true → isName new ≡ false → refuse BadName ≡ namesOk (stateOf s d w) name new
+      unfolding namesOk
+      names-second e f g = rw (← e, f, g)
+
+      pub names-fine : accept true ≡ lentOk (stateOf s d w) → isName name ≡ true → isName new ≡ true → resultOf (readyPhase (s .phase)) ≡ namesOk (stateOf s d w) name new
+      unfolding namesOk
+      names-fine e f g = rw (← e, f, g) (phase-ready (s .phase))
+
+    module _ (size : ℕ) where
+      pub sized-lent : (r : Refusal) → refuse r ≡ lentOk (stateOf s d w) → refuse r ≡ nameSizeOk (stateOf s d w) name size
+      unfolding nameSizeOk
+      sized-lent r e = rw (← e)
+
+      pub sized-name : accept true ≡ lentOk (stateOf s d w) → isName name ≡ false → refuse BadName ≡ nameSizeOk (stateOf s d w) name size
+      unfolding nameSizeOk
+      sized-name e f = rw (← e, f)
+
+      pub sized-large : accept true ≡ lentOk (stateOf s d w) → isName name ≡ true → leb size 1048576 ≡ false → refuse TooLarge ≡ nameSizeOk (stateOf s d w) name size
+      unfolding nameSizeOk
+      sized-large e f g = rw (← e, f, g)
+
+      pub sized-fine : accept true ≡ lentOk (stateOf s d w) → isName name ≡ true → leb size 1048576 ≡ true → resultOf (readyPhase (s .phase)) ≡ nameSizeOk (stateOf s d w) name size
+      unfolding nameSizeOk
+      sized-fine e f g = rw (← e, f, g) (phase-ready (s .phase))
+
   -- what the tests 1 and 2 have shown
   pub record Lent : Type 0 where
     pub allowed : isAllowed (length d) ≡ true
@@ -136,3 +184,9 @@ module _ (s : Session) (d w : List ℕ) where
       go true p true q false r = absurd (accept≢refuse true WorkSize (rw (p, q, r) at h))
       go true p false q x r = absurd (accept≢refuse true DeviceSize (rw (p, q) at h))
       go false p b q x r = absurd (accept≢refuse true DeviceSize (rw p at h))
+
+-- ---- answers
+
+-- what is told of a session and an answer
+pub told : (q s : Session) (a b : Done) (d w : List ℕ) (o : Outcome) → q ≡ s → a ≡ b → left s d w (doneOf b) ≡ o → left q d w (doneOf a) ≡ o
+told q s a b d w o e f g = rw (e, f) g

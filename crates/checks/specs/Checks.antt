@@ -1,9 +1,14 @@
 -- The answers of the tests, for the contracts of this crate.
-use mathlib.Core.Bool.{Bool, true}
+use Prim.Native.Nat.{ℕ}
+use mathlib.Core.Bool.{Bool, true, _&&_}
+use mathlib.Core.List.{List}
 use Rattle.spec.specs.declared.Phase.{Phase}
 use Rattle.spec.specs.declared.Phase.the-variants.{Closed, Ready, Committing, Recovering}
-use Rattle.spec.specs.declared.Refusal.the-variants.{NotReady}
-use Rattle.spec.specs.Answers.{Result, refuse, accept}
+use Rattle.spec.specs.declared.Refusal.the-variants.{BadName, TooLarge, NotReady}
+use Rattle.spec.specs.Inode.{isName}
+use Rattle.spec.specs.Answers.{Result, refuse, accept, require, _>>_}
+use Rattle.spec.specs.Transaction.{State}
+use Rattle.spec.specs.Calls.{lentOk, sizeFits, isReady}
 use Rattle.checks.specs.declared.Checked.{Checked}
 use Rattle.checks.specs.declared.Checked.the-variants.{Fine, Bad}
 
@@ -16,3 +21,18 @@ readyPhase Closed = Bad NotReady
 readyPhase Ready = Fine
 readyPhase (Committing d) = Bad NotReady
 readyPhase (Recovering d) = Bad NotReady
+
+-- 1, 2, 3 of two names, and 12: the head of rename
+unfoldable pub namesOk : State → List ℕ → List ℕ → Result Bool
+namesOk s name new = do
+  lentOk s
+  require (isName name && isName new) BadName
+  require (isReady (s .session .phase)) NotReady
+
+-- 1, 2, 3, 4 and 12: the head of write and set size
+unfoldable pub nameSizeOk : State → List ℕ → ℕ → Result Bool
+nameSizeOk s name size = do
+  lentOk s
+  require (isName name) BadName
+  require (sizeFits size) TooLarge
+  require (isReady (s .session .phase)) NotReady

@@ -1,16 +1,19 @@
 // The tests at the head of a call, in the order of the refusals' numbers.
+use spec::Done;
+use spec::Finished;
 use spec::Limits;
 use spec::Phase;
 use spec::Refusal;
 use spec::Session;
 ghost use mathlib.Core.Path.{_≡_};
-ghost use Prim.Native.Nat.{_*_};
-ghost use lib.Dec.{eqb};
+ghost use Prim.Native.Nat.{_+_, _*_};
+ghost use lib.Dec.{eqb, leb};
 ghost use Rattle.spec.specs.Disk.{isAllowed};
 ghost use Rattle.spec.specs.Inode.{isName};
 ghost use Rattle.spec.specs.Transaction.{stateOf};
 ghost use Rattle.spec.specs.Calls.{lentOk, readyOk, nameOk};
-ghost use Rattle.checks.specs.Checks.{resultOf, readyPhase};
+ghost use Rattle.spec.specs.declared.Done.the-variants as answers;
+ghost use Rattle.checks.specs.Checks.{resultOf, readyPhase, namesOk, nameSizeOk};
 
 // Passed, or the first test that failed.
 pub enum Checked {
@@ -111,5 +114,73 @@ pub fn named(device: &[u8], work: &[u8], session: Session, name: &[u8]) -> Check
             }
             ready_phase(phase)
         }
+    }
+}
+
+// 1, 2, 3 of two names, and 12
+pub fn both_named(device: &[u8], work: &[u8], session: Session, name: &[u8], new: &[u8]) -> Checked
+    ensures { λ r. ⌜ resultOf r ≡ namesOk (stateOf session (now (device .entry)) (now (work .entry))) (now (name .entry)) (now (new .entry)) ⌝ }
+{
+    let phase = session.phase;
+    match lent(device, work, session) {
+        Checked::Bad(why) => Checked::Bad(why),
+        Checked::Fine => {
+            if !is_name(name) {
+                return Checked::Bad(Refusal::BadName);
+            }
+            if !is_name(new) {
+                return Checked::Bad(Refusal::BadName);
+            }
+            ready_phase(phase)
+        }
+    }
+}
+
+// 4, "x plus data length" as whole numbers
+fn size_fits(x: usize, n: usize) -> bool
+    ensures { λ r. ⌜ r ≡ leb (x + n) 1048576 ⌝ }
+{
+    if Limits::MAX_FILE_SIZE < n {
+        return false;
+    }
+    x <= Limits::MAX_FILE_SIZE - n
+}
+
+// 1, 2, 3, 4 and 12
+pub fn sized(device: &[u8], work: &[u8], session: Session, name: &[u8], x: usize, n: usize) -> Checked
+    ensures { λ r. ⌜ resultOf r ≡ nameSizeOk (stateOf session (now (device .entry)) (now (work .entry))) (now (name .entry)) (x + n) ⌝ }
+{
+    let phase = session.phase;
+    match lent(device, work, session) {
+        Checked::Bad(why) => Checked::Bad(why),
+        Checked::Fine => {
+            if !is_name(name) {
+                return Checked::Bad(Refusal::BadName);
+            }
+            if !size_fits(x, n) {
+                return Checked::Bad(Refusal::TooLarge);
+            }
+            ready_phase(phase)
+        }
+    }
+}
+
+// A call refused: the session is the one it was given.
+pub fn refused(session: Session, why: Refusal) -> Finished
+    ensures { λ r. ⌜ (r .session ≡ session) × (r .answer ≡ answers.Refused why) ⌝ }
+{
+    Finished {
+        session: session,
+        answer: Done::Refused(why),
+    }
+}
+
+// A call done, with the session it leaves.
+pub fn done(session: Session) -> Finished
+    ensures { λ r. ⌜ (r .session ≡ session) × (r .answer ≡ answers.Done) ⌝ }
+{
+    Finished {
+        session: session,
+        answer: Done::Done,
     }
 }

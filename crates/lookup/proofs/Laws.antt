@@ -1,28 +1,101 @@
 -- The cases of a look-up. Assumes nothing.
-use Prim.Native.Nat.{ℕ}
-use mathlib.Core.Path.{_≡_}
-use mathlib.Core.Bool.{Bool}
+use Prim.Native.Nat.{ℕ, _+_}
+use mathlib.Core.Path.{_≡_, refl, sym, ap, _∙_}
+use mathlib.Core.Bool.{Bool, true}
 use mathlib.Core.List.{List}
-use Rattle.spec.specs.Inode.{find}
+use Rattle.spec.specs.Inode.{isName, find, findEmpty}
 use Rattle.spec.specs.declared.Session.{Session}
 use Rattle.spec.specs.declared.Refusal.{Refusal}
-use Rattle.spec.specs.declared.Refusal.the-variants.{Unknown}
-use Rattle.spec.specs.Answers.{refuse, accept}
+use Rattle.spec.specs.declared.Refusal.the-variants.{BadName, TooLarge, NotReady, Unknown, Taken, NoInode}
+use Rattle.spec.specs.Answers.{Result, refuse, accept, require, _>>_}
 use Rattle.spec.specs.Transaction.{stateOf, view}
-use Rattle.spec.specs.Calls.{nameOk, fileOk}
+use Rattle.spec.specs.Calls.{lentOk, nameOk, sizeFits, isReady, known, emptyInode, fileOk, sizedOk}
+use Rattle.checks.specs.Checks.{namesOk, nameSizeOk}
 use Rattle.inode.specs.Records.{foundOf}
 use Rattle.inode.proofs.Laws.{found-at, found-nothing}
 use Rattle.inode.specs.declared.Found.the-variants.{At, Nothing}
+use Rattle.lookup.specs.Looks.{newOk, unlessTaken, renameOk}
+
+then-assoc : {A B C : Type 0} (a : Result A) (b : Result B) (x : Result C) → (a >> b) >> x ≡ a >> (b >> x)
+then-assoc (refuse r) b x = refl
+then-assoc (accept a) b x = refl
 
 module _ (s : Session) (d w name : List ℕ) where
+  -- ---- 13 and 15
+
+  pub known-at : (i : ℕ) → foundOf (find (view (stateOf s d w)) name) ≡ At i → accept i ≡ known (stateOf s d w) name
+  known-at i f = rw (found-at (find (view (stateOf s d w)) name) i f)
+
+  pub known-nothing : foundOf (find (view (stateOf s d w)) name) ≡ Nothing → refuse Unknown ≡ known (stateOf s d w) name
+  known-nothing f = rw (found-nothing (find (view (stateOf s d w)) name) f)
+
+  pub empty-at : (i : ℕ) → foundOf (findEmpty (view (stateOf s d w))) ≡ At i → accept i ≡ emptyInode (stateOf s d w)
+  empty-at i f = rw (found-at (findEmpty (view (stateOf s d w))) i f)
+
+  pub empty-nothing : foundOf (findEmpty (view (stateOf s d w))) ≡ Nothing → refuse NoInode ≡ emptyInode (stateOf s d w)
+  empty-nothing f = rw (found-nothing (findEmpty (view (stateOf s d w))) f)
+
+  -- ---- a file
+
   pub look-bad : (r : Refusal) → refuse r ≡ nameOk (stateOf s d w) name → refuse r ≡ fileOk (stateOf s d w) name
   unfolding fileOk
   look-bad r e = rw (← e)
 
-  pub look-at : (t : Bool) (i : ℕ) → accept t ≡ nameOk (stateOf s d w) name → foundOf (find (view (stateOf s d w)) name) ≡ At i → accept i ≡ fileOk (stateOf s d w) name
+  pub look-fine : (t : Bool) → accept t ≡ nameOk (stateOf s d w) name → known (stateOf s d w) name ≡ fileOk (stateOf s d w) name
   unfolding fileOk
-  look-at t i e f = rw (← e, found-at (find (view (stateOf s d w)) name) i f)
+  look-fine t e = rw (← e)
 
-  pub look-nothing : (t : Bool) → accept t ≡ nameOk (stateOf s d w) name → foundOf (find (view (stateOf s d w)) name) ≡ Nothing → refuse Unknown ≡ fileOk (stateOf s d w) name
-  unfolding fileOk
-  look-nothing t e f = rw (← e, found-nothing (find (view (stateOf s d w)) name) f)
+  -- ---- a file and a size
+
+  module _ (size : ℕ) where
+    sized-parts : nameSizeOk (stateOf s d w) name size >> known (stateOf s d w) name ≡ sizedOk (stateOf s d w) name size
+    unfolding nameSizeOk sizedOk
+    sized-parts =
+        then-assoc (lentOk (stateOf s d w)) _ (known (stateOf s d w) name)
+        ∙ ap (λ (x : Result ℕ). lentOk (stateOf s d w) >> x)
+        (then-assoc (require (isName name) BadName) _ (known (stateOf s d w) name)
+        ∙ ap (λ (x : Result ℕ). require (isName name) BadName >> x)
+        (then-assoc (require (sizeFits size) TooLarge) (require (isReady (s .phase)) NotReady) (known (stateOf s d w) name)))
+
+    pub sized-bad : (r : Refusal) → refuse r ≡ nameSizeOk (stateOf s d w) name size → refuse r ≡ sizedOk (stateOf s d w) name size
+    sized-bad r e = ap (λ (x : Result Bool). x >> known (stateOf s d w) name) e ∙ sized-parts
+
+    pub sized-fine : (t : Bool) → accept t ≡ nameSizeOk (stateOf s d w) name size → known (stateOf s d w) name ≡ sizedOk (stateOf s d w) name size
+    sized-fine t e = ap (λ (x : Result Bool). x >> known (stateOf s d w) name) e ∙ sized-parts
+
+  -- ---- a new file
+
+  pub new-bad : (r : Refusal) → refuse r ≡ nameOk (stateOf s d w) name → refuse r ≡ newOk (stateOf s d w) name
+  unfolding newOk
+  new-bad r e = rw (← e)
+
+  pub new-taken : (t : Bool) (i : ℕ) → accept t ≡ nameOk (stateOf s d w) name → foundOf (find (view (stateOf s d w)) name) ≡ At i → refuse Taken ≡ newOk (stateOf s d w) name
+  unfolding newOk
+  new-taken t i e f = rw (← e, found-at (find (view (stateOf s d w)) name) i f)
+
+  pub new-fine : (t : Bool) → accept t ≡ nameOk (stateOf s d w) name → foundOf (find (view (stateOf s d w)) name) ≡ Nothing → emptyInode (stateOf s d w) ≡ newOk (stateOf s d w) name
+  unfolding newOk
+  new-fine t e f = rw (← e, found-nothing (find (view (stateOf s d w)) name) f)
+
+  -- ---- two names
+
+  module _ (new : List ℕ) where
+    pub pair-unknown : foundOf (find (view (stateOf s d w)) name) ≡ Nothing → refuse Unknown ≡ unlessTaken (stateOf s d w) name new
+    unfolding unlessTaken
+    pair-unknown f = rw (found-nothing (find (view (stateOf s d w)) name) f)
+
+    pub pair-taken : (i j : ℕ) → foundOf (find (view (stateOf s d w)) name) ≡ At i → foundOf (find (view (stateOf s d w)) new) ≡ At j → refuse Taken ≡ unlessTaken (stateOf s d w) name new
+    unfolding unlessTaken
+    pair-taken i j f g = rw (found-at (find (view (stateOf s d w)) name) i f, found-at (find (view (stateOf s d w)) new) j g)
+
+    pub pair-fine : (i : ℕ) → foundOf (find (view (stateOf s d w)) name) ≡ At i → foundOf (find (view (stateOf s d w)) new) ≡ Nothing → accept i ≡ unlessTaken (stateOf s d w) name new
+    unfolding unlessTaken
+    pair-fine i f g = rw (found-at (find (view (stateOf s d w)) name) i f, found-nothing (find (view (stateOf s d w)) new) g)
+
+    pub rename-bad : (r : Refusal) → refuse r ≡ namesOk (stateOf s d w) name new → refuse r ≡ renameOk (stateOf s d w) name new
+    unfolding renameOk
+    rename-bad r e = rw (← e)
+
+    pub rename-fine : (t : Bool) → accept t ≡ namesOk (stateOf s d w) name new → unlessTaken (stateOf s d w) name new ≡ renameOk (stateOf s d w) name new
+    unfolding renameOk
+    rename-fine t e = rw (← e)

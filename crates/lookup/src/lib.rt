@@ -1,19 +1,43 @@
 // A file looked up by its name, behind the tests at the head of a call.
 use checks::Checked;
+use checks::both_named;
 use checks::named;
+use checks::sized;
 use inode::Found;
 use inode::find;
+use inode::find_empty;
 use spec::Refusal;
 use spec::Session;
 ghost use mathlib.Core.Path.{_≡_};
+ghost use Prim.Native.Nat.{_+_};
 ghost use Rattle.spec.specs.Transaction.{stateOf};
-ghost use Rattle.spec.specs.Calls.{fileOk};
-ghost use Rattle.lookup.specs.Looks.{lookedOf, InTable};
+ghost use Rattle.spec.specs.Calls.{known, emptyInode, fileOk, sizedOk};
+ghost use Rattle.lookup.specs.Looks.{lookedOf, InTable, newOk, unlessTaken, renameOk};
 
 // The record of the file, or the first test that failed.
 pub enum Looked {
     At(usize),
     Bad(Refusal),
+}
+
+// 13
+fn known<'a>(device: &'a [u8], work: &'a [u8], session: Session, name: &[u8]) -> Looked
+    ensures { λ r. ⌜ (lookedOf r ≡ known (stateOf session (now (device .entry)) (now (work .entry))) (now (name .entry))) × InTable r ⌝ }
+{
+    match find(device, work, session, name) {
+        Found::At(i) => Looked::At(i),
+        Found::Nothing => Looked::Bad(Refusal::Unknown),
+    }
+}
+
+// 15
+fn empty_inode<'a>(device: &'a [u8], work: &'a [u8], session: Session) -> Looked
+    ensures { λ r. ⌜ (lookedOf r ≡ emptyInode (stateOf session (now (device .entry)) (now (work .entry)))) × InTable r ⌝ }
+{
+    match find_empty(device, work, session) {
+        Found::At(i) => Looked::At(i),
+        Found::Nothing => Looked::Bad(Refusal::NoInode),
+    }
 }
 
 // 1, 2, 3, 12 and 13
@@ -22,9 +46,52 @@ pub fn look_up<'a>(device: &'a [u8], work: &'a [u8], session: Session, name: &[u
 {
     match named(device, work, session, name) {
         Checked::Bad(why) => Looked::Bad(why),
+        Checked::Fine => known(device, work, session, name),
+    }
+}
+
+// 1, 2, 3, 4, 12 and 13, for n bytes at x
+pub fn look_up_sized<'a>(device: &'a [u8], work: &'a [u8], session: Session, name: &[u8], x: usize, n: usize) -> Looked
+    ensures { λ r. ⌜ (lookedOf r ≡ sizedOk (stateOf session (now (device .entry)) (now (work .entry))) (now (name .entry)) (x + n)) × InTable r ⌝ }
+{
+    match sized(device, work, session, name, x, n) {
+        Checked::Bad(why) => Looked::Bad(why),
+        Checked::Fine => known(device, work, session, name),
+    }
+}
+
+// 1, 2, 3, 12, 14 and 15: the record for a new file
+pub fn look_up_new<'a>(device: &'a [u8], work: &'a [u8], session: Session, name: &[u8]) -> Looked
+    ensures { λ r. ⌜ (lookedOf r ≡ newOk (stateOf session (now (device .entry)) (now (work .entry))) (now (name .entry))) × InTable r ⌝ }
+{
+    match named(device, work, session, name) {
+        Checked::Bad(why) => Looked::Bad(why),
         Checked::Fine => match find(device, work, session, name) {
-            Found::At(i) => Looked::At(i),
-            Found::Nothing => Looked::Bad(Refusal::Unknown),
+            Found::At(_) => Looked::Bad(Refusal::Taken),
+            Found::Nothing => empty_inode(device, work, session),
         },
+    }
+}
+
+// 13 of a name and 14 of a new one
+fn renamed<'a>(device: &'a [u8], work: &'a [u8], session: Session, name: &[u8], new: &[u8]) -> Looked
+    ensures { λ r. ⌜ (lookedOf r ≡ unlessTaken (stateOf session (now (device .entry)) (now (work .entry))) (now (name .entry)) (now (new .entry))) × InTable r ⌝ }
+{
+    match find(device, work, session, name) {
+        Found::Nothing => Looked::Bad(Refusal::Unknown),
+        Found::At(i) => match find(device, work, session, new) {
+            Found::At(_) => Looked::Bad(Refusal::Taken),
+            Found::Nothing => Looked::At(i),
+        },
+    }
+}
+
+// 1, 2, 3 of both names, 12, 13 and 14: the record to rename
+pub fn look_up_pair<'a>(device: &'a [u8], work: &'a [u8], session: Session, name: &[u8], new: &[u8]) -> Looked
+    ensures { λ r. ⌜ (lookedOf r ≡ renameOk (stateOf session (now (device .entry)) (now (work .entry))) (now (name .entry)) (now (new .entry))) × InTable r ⌝ }
+{
+    match both_named(device, work, session, name, new) {
+        Checked::Bad(why) => Looked::Bad(why),
+        Checked::Fine => renamed(device, work, session, name, new),
     }
 }

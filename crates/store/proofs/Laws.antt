@@ -10,7 +10,6 @@ use lib.ListN.{length, take, drop, length-take, length-drop}
 use Rattle.spec.specs.Disk.{Slice, blocksOf, isAllowed, sliceOf}
 use Rattle.spec.specs.Sound.{volumeSound}
 use Rattle.spec.specs.Journal.{headerFault, targetsIn}
-use Rattle.spec.specs.declared.Done.{Done}
 use Rattle.journal.specs.declared.Fault.{Fault}
 use Rattle.journal.specs.declared.Fault.the-variants.{At, Nothing}
 use Rattle.journal.specs.declared.Targets.{Targets}
@@ -22,7 +21,7 @@ use Rattle.spec.specs.declared.Phase.the-variants.{Closed, Ready, Committing, R
 use Rattle.spec.specs.declared.Refusal.{Refusal}
 use Rattle.spec.specs.declared.Refusal.the-variants.{DeviceSize, BadHeader, Unsound}
 use Rattle.spec.specs.Session.{opened, closedOn, inPhase, stagedIn}
-use Rattle.spec.specs.Answers.{done, started, refusalOf, doneOf, refuse, accept}
+use Rattle.spec.specs.Answers.{done, started, refusalOf, refuse, accept}
 use Rattle.spec.specs.Transaction.{stateOf}
 use Rattle.spec.specs.Calls.{Outcome, outcome, left, lentOk, readyOk, startCommit, emptyDisk, format, openPhase, openStore, advanceIn, advance, commit, abort}
 
@@ -69,10 +68,6 @@ module _ (d x : List ℕ) (e : isAllowed (length d) ≡ true) (h : x ≡ take 51
 
   pub counted : (t : Targets) → Holds t (targetsIn x) → t .count ≡ length (targetsIn (blocksOf d 0))
   counted t k = rw head (k .count)
-
--- what is told of a session and an answer
-pub told : (q s : Session) (a b : Done) (d w : List ℕ) (o : Outcome) → q ≡ s → a ≡ b → left s d w (doneOf b) ≡ o → left q d w (doneOf a) ≡ o
-told q s a b d w o e f g = rw (e, f) g
 
 module _ (s : Session) (d w : List ℕ) where
   pub open-device : isAllowed (length d) ≡ false → left s d w (refusalOf DeviceSize) ≡ openStore (stateOf s d w)

@@ -2,9 +2,11 @@
 use block::DiskBlock;
 use block::block_in;
 use checks::Checked;
+use checks::done;
 use checks::is_allowed;
 use checks::lent;
 use checks::ready;
+use checks::refused;
 use fsck::is_sound;
 use journal::Fault;
 use journal::advance_in;
@@ -18,7 +20,6 @@ pub use query::record_at;
 pub use query::size;
 use spec::Advanced;
 use spec::Committed;
-use spec::Done;
 use spec::Finished;
 use spec::Limits;
 use spec::Phase;
@@ -29,10 +30,7 @@ use spec::Stored;
 use transaction::staged_count;
 ghost use mathlib.Core.Path.{_≡_};
 ghost use mathlib.Core.List.{List};
-ghost use Prim.Native.Nat.{ℕ, _*_};
-ghost use lib.ListN.{length};
-ghost use Rattle.spec.specs.declared.Done.{Done};
-ghost use Rattle.spec.specs.declared.Done.the-variants.{Refused};
+ghost use Prim.Native.Nat.{ℕ};
 ghost use Rattle.spec.specs.Answers.{doneOf, startedOf, storedOf};
 ghost use Rattle.spec.specs.Transaction.{stateOf};
 ghost use Rattle.spec.specs.Calls.{left, format, openStore, advance, commit, abort};
@@ -42,37 +40,12 @@ pub fn format(device: &mut [u8], session: Session) -> Finished
     ensures { λ r. ⌜ ((work : List ℕ) → left (r .session) (now (device .exit)) work (doneOf (r .answer))
         ≡ format (stateOf session (now (device .entry)) work)) ⌝ }
 {
-    if !is_allowed(device.len()) {
-        return Finished {
-            session: session,
-            answer: Done::Refused(Refusal::DeviceSize),
-        };
+    let size = device.len();
+    if !is_allowed(size) {
+        return refused(session, Refusal::DeviceSize);
     }
-    let n = device.len() / Limits::BLOCK_SIZE;
     make_empty(device);
-    let next = Session::closed_on(n);
-    Finished {
-        session: next,
-        answer: Done::Done,
-    }
-}
-
-fn refuse(session: Session, why: Refusal) -> Finished
-    ensures { λ r. ⌜ (r .session ≡ session) × (r .answer ≡ Refused why) ⌝ }
-{
-    Finished {
-        session: session,
-        answer: Done::Refused(why),
-    }
-}
-
-fn finish(session: Session) -> Finished
-    ensures { λ r. ⌜ (r .session ≡ session) × (r .answer ≡ Done.Done) ⌝ }
-{
-    Finished {
-        session: session,
-        answer: Done::Done,
-    }
+    done(Session::closed_on(size / Limits::BLOCK_SIZE))
 }
 
 // Opens a device: recovering where the header lists targets, else ready if the volume is sound.
@@ -81,21 +54,21 @@ pub fn open_store(device: &[u8], session: Session) -> Finished
         ≡ openStore (stateOf session (now (device .entry)) work)) ⌝ }
 {
     if !is_allowed(device.len()) {
-        return refuse(session, Refusal::DeviceSize);
+        return refused(session, Refusal::DeviceSize);
     }
     let n = device.len() / Limits::BLOCK_SIZE;
     let head = block_in(device, DiskBlock(0));
     if let Fault::At(i) = header_fault(n, head) {
-        return refuse(session, Refusal::BadHeader(i));
+        return refused(session, Refusal::BadHeader(i));
     }
     let t = targets_in(head);
     if t.count != 0 {
-        return finish(Session::opened(n, Phase::Recovering(0)));
+        return done(Session::opened(n, Phase::Recovering(0)));
     }
     if !is_sound(device, n) {
-        return refuse(session, Refusal::Unsound);
+        return refused(session, Refusal::Unsound);
     }
-    finish(Session::opened(n, Phase::Ready))
+    done(Session::opened(n, Phase::Ready))
 }
 
 // Stores the next block of a commit or a recovery under way.
@@ -148,17 +121,10 @@ pub fn abort(device: &[u8], work: &[u8], session: Session) -> Finished
         ≡ abort (stateOf session (now (device .entry)) (now (work .entry))) ⌝ }
 {
     match ready(device, work, session) {
-        Checked::Bad(why) => Finished {
-            session: session,
-            answer: Done::Refused(why),
-        },
+        Checked::Bad(why) => refused(session, why),
         Checked::Fine => {
             let n = session.blocks;
-            let next = Session::opened(n, Phase::Ready);
-            Finished {
-                session: next,
-                answer: Done::Done,
-            }
+            done(Session::opened(n, Phase::Ready))
         }
     }
 }

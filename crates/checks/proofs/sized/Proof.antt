@@ -1,0 +1,52 @@
+use mathlib.Core.Path.{sym, ap, _∙_}
+use borrow.Author.Tests.{not-true, not-false}
+use Rattle.checks.specs.Checks.{resultOf}
+use Rattle.checks.proofs.Laws.{sized-lent, sized-name, sized-large, sized-fine}
+use borrow.Author.Needs.{needs}
+use Rattle.checks.proofs.sized.Statement.{statement}
+use Rattle.checks.proofs.sized.Tie as tie
+
+lent-requires : tie.Need-lent-requires
+lent-requires c κs = search needs
+
+enum-known-why : tie.Need-enum-known-why
+enum-known-why c = search needs
+
+enum-told : tie.Need-enum-told
+enum-told c = search needs
+
+is-name-requires : tie.Need-is-name-requires
+is-name-requires c κs = search needs
+
+returns : tie.Need-returns
+returns c = sized-name (c .before .before .before .before .before .before .before .before .args .session) (c .before .before .before .before .before .before .before .before .args .device .now) (c .before .before .before .before .before .before .before .before .args .work .now) (c .before .before .before .before .before .before .before .before .args .name .now) _ (sym (ap resultOf (c .before .before .enum-told .given .1)) ∙ c .before .before .before .before .lent .ensures) (sym (c .before .is-name .ensures) ∙ not-true _ (c .if1 .taken))
+
+size-fits-requires : tie.Need-size-fits-requires
+size-fits-requires c κs = search needs
+
+returns-2 : tie.Need-returns-2
+returns-2 c = sized-large (c .before .before .before .before .before .before .before .before .before .before .args .session) (c .before .before .before .before .before .before .before .before .before .before .args .device .now) (c .before .before .before .before .before .before .before .before .before .before .args .work .now) (c .before .before .before .before .before .before .before .before .before .before .args .name .now) _ (sym (ap resultOf (c .before .before .before .before .enum-told .given .1)) ∙ c .before .before .before .before .before .before .lent .ensures) (sym (c .before .before .before .is-name .ensures) ∙ not-false _ (c .before .before .if1 .left)) (sym (c .before .size-fits .ensures) ∙ not-true _ (c .if2 .taken))
+
+ready-phase-requires : tie.Need-ready-phase-requires
+ready-phase-requires c κs = search needs
+
+returns-3 : tie.Need-returns-3
+returns-3 c = sized-lent (c .before .before .before .before .before .before .before .args .session) (c .before .before .before .before .before .before .before .args .device .now) (c .before .before .before .before .before .before .before .args .work .now) (c .before .before .before .before .before .before .before .args .name .now) _ _ (sym (ap resultOf (c .before .why .given .1)) ∙ c .before .before .before .lent .ensures)
+
+returns-4 : tie.Need-returns-4
+returns-4 c = ap resultOf (c .ready-phase .ensures) ∙ sized-fine (c .before .before .before .before .before .before .before .before .before .before .before .args .session) (c .before .before .before .before .before .before .before .before .before .before .before .args .device .now) (c .before .before .before .before .before .before .before .before .before .before .before .args .work .now) (c .before .before .before .before .before .before .before .before .before .before .before .args .name .now) _ (sym (ap resultOf (c .before .before .before .before .before .enum-told .given .1)) ∙ c .before .before .before .before .before .before .before .lent .ensures) (sym (c .before .before .before .before .is-name .ensures) ∙ not-false _ (c .before .before .before .if1 .left)) (sym (c .before .before .size-fits .ensures) ∙ not-false _ (c .before .if2 .left))
+
+pub sized-spec : {M : Type 1} → statement M
+sized-spec =
+    tie.close
+    (tie.spec
+    lent-requires
+    enum-known-why
+    enum-told
+    is-name-requires
+    returns
+    size-fits-requires
+    returns-2
+    ready-phase-requires
+    returns-3
+    returns-4)

@@ -18,7 +18,7 @@ use Rattle.spec.specs.declared.Phase.the-variants.{Closed, Ready, Committing, R
 use Rattle.spec.specs.declared.Refusal.{Refusal}
 use Rattle.spec.specs.declared.Refusal.the-variants.{DeviceSize, WorkSize, BadName, TooLarge, NotReady}
 use Rattle.spec.specs.declared.Done.{Done}
-use Rattle.spec.specs.Answers.{Result, refuse, accept, require, doneOf}
+use Rattle.spec.specs.Answers.{Result, refuse, accept, require, _>>_, doneOf}
 use Rattle.spec.specs.Transaction.{stateOf}
 use Rattle.spec.specs.Calls.{Outcome, left, lentOk, readyOk, nameOk, isReady}
 use Rattle.checks.specs.Checks.{resultOf, readyPhase, namesOk, nameSizeOk}
@@ -88,8 +88,11 @@ module _ (x n : ℕ) where
 
 -- ---- 1 and 2, and 12
 
-accept≢refuse : (a : Bool) (r : Refusal) → accept a ≡ refuse r → ⊥
+accept≢refuse : {A : Type 0} (a : A) (r : Refusal) → accept a ≡ refuse r → ⊥
 accept≢refuse a r e = let z : _≡_ {A = ℕ} 0 1 = cc in omega arith
+
+false≢true : false ≡ true → ⊥
+false≢true e = let z : _≡_ {A = ℕ} 0 1 = cc in omega arith
 
 module _ (s : Session) (d w : List ℕ) where
   pub lent-allowed : isAllowed (length d) ≡ false → refuse DeviceSize ≡ lentOk (stateOf s d w)
@@ -175,15 +178,67 @@ module _ (s : Session) (d w : List ℕ) where
     pub device : 512 * s .blocks ≡ length d
     pub work : length w ≡ 16384
 
-  pub lent-says : accept true ≡ lentOk (stateOf s d w) → Lent
+  pub lent-says : (t : Bool) → accept t ≡ lentOk (stateOf s d w) → Lent
   unfolding lentOk
-  lent-says h = go (isAllowed (length d)) refl (eqb (512 * s .blocks) (length d)) refl (eqb (length w) 16384) refl
+  lent-says t h = go (isAllowed (length d)) refl (eqb (512 * s .blocks) (length d)) refl (eqb (length w) 16384) refl
     where
       go : (a : Bool) → isAllowed (length d) ≡ a → (b : Bool) → eqb (512 * s .blocks) (length d) ≡ b → (x : Bool) → eqb (length w) 16384 ≡ x → Lent
       go true p true q true r = record { allowed = p; device = eqb-true (512 * s .blocks) (length d) q; work = eqb-true (length w) 16384 r }
-      go true p true q false r = absurd (accept≢refuse true WorkSize (rw (p, q, r) at h))
-      go true p false q x r = absurd (accept≢refuse true DeviceSize (rw (p, q) at h))
-      go false p b q x r = absurd (accept≢refuse true DeviceSize (rw p at h))
+      go true p true q false r = absurd (accept≢refuse t WorkSize (rw (p, q, r) at h))
+      go true p false q x r = absurd (accept≢refuse t DeviceSize (rw (p, q) at h))
+      go false p b q x r = absurd (accept≢refuse t DeviceSize (rw p at h))
+
+-- ---- what tests that passed have shown
+
+-- both of two tests
+pub record Passed {A B : Type 0} (a : Result A) (b : Result B) (y : B) : Type 0 where
+  pub value : A
+  pub first : accept value ≡ a
+  pub rest : accept y ≡ b
+
+pub then-passed : {A B : Type 0} (a : Result A) (b : Result B) (y : B) → accept y ≡ a >> b → Passed a b y
+then-passed (refuse r) b y e = absurd (accept≢refuse y r e)
+then-passed (accept x) b y e = record { value = x; first = refl; rest = e }
+
+pub require-passed : (t y : Bool) (r : Refusal) → accept y ≡ require t r → t ≡ true
+require-passed true y r e = refl
+require-passed false y r e = absurd (accept≢refuse y r e)
+
+pub name-length : (name : List ℕ) → isName name ≡ true → length name ≡ 8
+unfolding isName
+name-length name h = go (eqb (length name) 8) refl
+  where
+    go : (t : Bool) → eqb (length name) 8 ≡ t → length name ≡ 8
+    go true e = eqb-true (length name) 8 e
+    go false e = let z : false ≡ true = rw e at h in absurd (false≢true z)
+
+module _ (s : Session) (d w name : List ℕ) where
+  -- the length of the work space, and of a name
+  pub named-says : (t : Bool) → accept t ≡ nameOk (stateOf s d w) name → (length w ≡ 16384) × (length name ≡ 8)
+  unfolding nameOk
+  named-says t h =
+      let p = then-passed (lentOk (stateOf s d w)) _ t h in
+      let q = then-passed (require (isName name) BadName) _ t (p .rest) in
+      (lent-says s d w (p .value) (p .first) .work, name-length name (require-passed (isName name) (q .value) BadName (q .first)))
+
+  pub names-say : (new : List ℕ) (t : Bool) → accept t ≡ namesOk (stateOf s d w) name new → (length w ≡ 16384) × (length new ≡ 8)
+  unfolding namesOk
+  names-say new t h =
+      let p = then-passed (lentOk (stateOf s d w)) _ t h in
+      let q = then-passed (require (isName name && isName new) BadName) _ t (p .rest) in
+      (lent-says s d w (p .value) (p .first) .work, name-length new (second (isName name) (isName new) (require-passed (isName name && isName new) (q .value) BadName (q .first))))
+    where
+      second : (a b : Bool) → (a && b) ≡ true → b ≡ true
+      second true b e = e
+      second false b e = absurd (false≢true e)
+
+  pub sized-says : (size : ℕ) (t : Bool) → accept t ≡ nameSizeOk (stateOf s d w) name size → (length w ≡ 16384) × (size ≤ 1048576)
+  unfolding nameSizeOk
+  sized-says size t h =
+      let p = then-passed (lentOk (stateOf s d w)) _ t h in
+      let q = then-passed (require (isName name) BadName) _ t (p .rest) in
+      let r = then-passed (require (leb size 1048576) TooLarge) _ t (q .rest) in
+      (lent-says s d w (p .value) (p .first) .work, leb-true size 1048576 (require-passed (leb size 1048576) (r .value) TooLarge (r .first)))
 
 -- ---- answers
 

@@ -1,16 +1,18 @@
--- Entries below a number: bits, bytes, and lists made of them. Assumes nothing.
+-- Entries below a number: bits, bytes, and lists made of them; equal lists. Assumes nothing.
 use Prim.Native.Nat.{ℕ, zero, suc, _+_, _^_, _<_}
 use mathlib.Core.Path.{_≡_}
+use mathlib.Core.Bool.{true}
 use mathlib.Core.List.{List, [], _∷_, _++_, map}
 use lib.ListN.{take, drop, getD, replicate}
 use lib.Seq.{getD-drop}
 use native.Mathlib.Nat.{pow-suc}
 use native.Mathlib.Omega.{arith}
 use Rattle.spec.specs.Layout.{blockSize, inodeSize}
-use Rattle.spec.specs.Bytes.{pieces}
+use Rattle.spec.specs.Bytes.{pieces, same}
 use Rattle.spec.specs.Disk.{Disk}
 use Rattle.spec.specs.Bitmap.{byteOf, bytesOf}
 use Rattle.spec.specs.Inode.{inodeBytes, blockOfInode, placeOfInode}
+use Rattle.block.proofs.Laws.{same-self}
 use Rattle.bitmap.specs.Words.{Below}
 
 -- ---- bytes of bits are below 256
@@ -53,3 +55,8 @@ below-drop n k xs h i = rw (getD-drop k xs i 0) (h (k + i))
 pub record-small : (v : Disk) (i : ℕ) → ((b : ℕ) → Below 256 (v b)) → Below 256 (inodeBytes v i)
 unfolding inodeBytes
 record-small v i h = below-take 256 inodeSize (drop (placeOfInode i) (v (blockOfInode i))) (omega arith) (below-drop 256 (placeOfInode i) (v (blockOfInode i)) (h (blockOfInode i)))
+
+-- ---- equal lists
+
+pub same-of : (xs ys : List ℕ) → xs ≡ ys → same xs ys ≡ true
+same-of xs ys e = rw e (same-self ys)

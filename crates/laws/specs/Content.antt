@@ -13,8 +13,8 @@ use Rattle.spec.specs.Bytes.{concat, allZero}
 use Rattle.spec.specs.Disk.{Disk}
 use Rattle.spec.specs.Inode.{Inode, inodeOf, inodeBytes, inodeAt, isEmpty, find, dataOf}
 use Rattle.spec.specs.Map.{contentOf}
+use Rattle.lists.specs.Tests.{both-true}
 use Rattle.log.specs.Stores.{Whole}
-use Rattle.log.specs.Targets.{both-true}
 use Rattle.laws.specs.Soundness.{FileSound}
 use Rattle.laws.specs.Volume.{VolumeSound, find-some}
 use Rattle.laws.specs.Tree.{data-length}

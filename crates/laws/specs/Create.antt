@@ -1,7 +1,7 @@
 -- Create: refused as the sentences tell, or the lowest empty record becomes an empty file of that name. Assumes nothing.
 use Prim.Native.Nat.{ℕ, _/_, _%_, _≤_, _<_}
 use mathlib.Core.Path.{_≡_, refl, sym, ap, ap₂, _∙_, subst}
-use mathlib.Core.Bool.{Bool, true, false, not, _&&_, _||_}
+use mathlib.Core.Bool.{Bool, true, false, not, _&&_, _||_, and-false}
 use mathlib.Core.List.{List, [], _++_, append-nil}
 use mathlib.Core.Option.{Option, none, some}
 use lib.Dec.{eqb}
@@ -22,10 +22,10 @@ use Rattle.spec.specs.Calls.{Change, Create, Do}
 use Rattle.spec.specs.Plain.{Plain, at}
 use Rattle.spec.specs.Sentences.{File, fileAt, fileThen, isNew, nodeChanges, bitChanges, recordChanges, shortens, callStages}
 use Rattle.spec.specs.Refusals.{lacksRoom, isScattered, nameTaken, noRecord, ofRecord}
+use Rattle.lists.specs.Tests.{not-both, false-of, eqb-turn}
 use Rattle.log.specs.Stores.{Whole, targetsOf}
 use Rattle.block.proofs.Laws.{same-true}
 use Rattle.crash.specs.Interface.{planned, Makes, Plans, hindered, stages}
-use Rattle.laws.specs.Lists.{not-both, false-of}
 use Rattle.laws.specs.Soundness.{FileSound}
 use Rattle.laws.specs.Volume.{find-none}
 use Rattle.laws.specs.Good.{Good}
@@ -36,7 +36,7 @@ use Rattle.laws.specs.Patch.{length-record, inode-new}
 use Rattle.laws.specs.Edits.{sorted-keep}
 use Rattle.laws.specs.Records.{name-length, name-nonzero, blank, blank-length, blank-name, blank-rest, blank-bare, blank-sound, bare-data, bare-nodes, zero-bare}
 use Rattle.laws.specs.OwnSize.{empty-fitted, own-room, own-extents}
-use Rattle.laws.specs.Tests.{first-none, first-taken, first-inode, one-of, named-known, none-empty, empty-some, bits-same, and-false, eqb-turn, two-of-six, file-is}
+use Rattle.laws.specs.Tests.{first-none, first-taken, first-inode, one-of, named-known, none-empty, empty-some, bits-same, two-of-six, file-is}
 use Rattle.laws.specs.OneRecord.{laidOver, after, one-targets, one-long, one-own, one-member, one-others, one-table, one-replaced}
 
 -- ---- what the stores make

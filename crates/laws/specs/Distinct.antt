@@ -11,9 +11,9 @@ use borrow.Author.Tests.{eqb-false, eq-eqb}
 use Rattle.spec.specs.Bytes.{occurs}
 use Rattle.spec.specs.Disk.{Disk}
 use Rattle.spec.specs.Transaction.{BlockStore}
+use Rattle.lists.specs.Counts.{occurs-head, occurs-at}
 use Rattle.log.specs.Targets.{Fresh, Targets}
 use Rattle.log.specs.Stores.{upd-other, upd-agree, over, targetsOf, Long}
-use Rattle.laws.specs.Lists.{occurs-head, occurs-at}
 use Rattle.laws.specs.Soundness.{Inside}
 
 pub fresh-none : (b : ℕ) (xs : List ℕ) → occurs b xs ≡ 0 → Fresh b xs

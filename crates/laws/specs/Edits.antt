@@ -1,7 +1,7 @@
 -- What edits make of a disk, and which blocks they stage. Assumes nothing.
 use Prim.Native.Nat.{ℕ, zero, suc, _+_, _-_, _≤_, _<_}
 use mathlib.Core.Path.{_≡_, refl, sym, ap, ap₂, _∙_, subst}
-use mathlib.Core.Bool.{Bool, true, false, cond, not, _&&_, _||_}
+use mathlib.Core.Bool.{Bool, true, false, cond, not, _&&_, _||_, and-true, and-false, or-self-left}
 use mathlib.Core.Logic.{_⊎_, inl, inr}
 use mathlib.Core.List.{List, [], _∷_, _++_}
 use lib.Dec.{eqb, ltb}
@@ -10,32 +10,14 @@ use native.Mathlib.Nat.{eq-or-lt-of-le}
 use native.Mathlib.Omega.{arith}
 use borrow.Author.Tests.{eqb-true, eq-eqb, ne-eqb}
 use Rattle.spec.specs.Layout.{blockSize, bitmapBlock}
-use Rattle.spec.specs.Bytes.{same, all, keep, member, upFrom}
+use Rattle.spec.specs.Bytes.{same, keep, member, upFrom}
 use Rattle.spec.specs.Disk.{Disk}
 use Rattle.spec.specs.Transaction.{BlockStore, put, insert, ascending}
 use Rattle.spec.specs.Plan.{Edit, ifChanged, storesOf}
+use Rattle.lists.specs.Members.{member-cons}
 use Rattle.block.proofs.Laws.{same-true}
 use Rattle.log.specs.Targets.{Fresh, Targets}
 use Rattle.log.specs.Stores.{upd-same, upd-other, Long, over, targetsOf, Ascending, sorted}
-
--- ---- members
-
-pub member-cons : (b x : ℕ) (xs : List ℕ) → member b (x ∷ xs) ≡ (eqb x b || member b xs)
-member-cons b x xs = go (eqb x b) (all (λ y. not (eqb y b)) xs)
-  where
-    go : (t u : Bool) → not (not t && u) ≡ (t || not u)
-    go true u = refl
-    go false u = refl
-
-or-assoc : (a b c : Bool) → ((a || b) || c) ≡ (a || (b || c))
-or-assoc true b c = refl
-or-assoc false b c = refl
-
-pub member-append : (b : ℕ) (xs ys : List ℕ) → member b (xs ++ ys) ≡ (member b xs || member b ys)
-member-append b [] ys = refl
-member-append b (x ∷ xs) ys =
-    member-cons b x (xs ++ ys) ∙ ap (λ t. eqb x b || t) (member-append b xs ys) ∙ sym (or-assoc (eqb x b) (member b xs) (member b ys))
-    ∙ ap (λ t. t || member b ys) (sym (member-cons b x xs))
 
 -- ---- the targets in ascending order
 
@@ -48,12 +30,8 @@ member-insert b x (y ∷ s) = go (ltb (x .block) (y .block)) (eqb (x .block) (y 
     go true u e ih = refl
     go false true e ih =
         let q = eqb-true (x .block) (y .block) e in
-        member-cons b (y .block) (targetsOf s) ∙ twice (eqb (y .block) b) (member b (targetsOf s))
+        member-cons b (y .block) (targetsOf s) ∙ sym (or-self-left (eqb (y .block) b) (member b (targetsOf s)))
         ∙ ap₂ (λ (k : ℕ) (t : Bool). eqb k b || t) (sym q) (sym (member-cons b (y .block) (targetsOf s))) ∙ sym (member-cons b (x .block) (targetsOf (y ∷ s)))
-      where
-        twice : (t u : Bool) → (t || u) ≡ (t || (t || u))
-        twice true u = refl
-        twice false u = refl
     go false false e ih =
         member-cons b (y .block) (targetsOf (insert x s)) ∙ ap (λ t. eqb (y .block) b || t) (ih ∙ member-cons b (x .block) (targetsOf s))
         ∙ turn (eqb (y .block) b) (eqb (x .block) b) (member b (targetsOf s))
@@ -122,16 +100,8 @@ module _ (v : Disk) where
   changed-member e es b = go (same (e .change (v (e .block))) (v (e .block)))
     where
       go : (t : Bool) → member b (blocksOf (cond t [] (e ∷ []) ++ es)) ≡ ((eqb (e .block) b && not t) || member b (blocksOf es))
-      go true = ap (λ t. t || member b (blocksOf es)) (sym (none (eqb (e .block) b)))
-        where
-          none : (t : Bool) → (t && false) ≡ false
-          none true = refl
-          none false = refl
-      go false = member-cons b (e .block) (blocksOf es) ∙ ap (λ t. t || member b (blocksOf es)) (sym (each (eqb (e .block) b)))
-        where
-          each : (t : Bool) → (t && true) ≡ t
-          each true = refl
-          each false = refl
+      go true = ap (λ t. t || member b (blocksOf es)) (sym (and-false (eqb (e .block) b)))
+      go false = member-cons b (e .block) (blocksOf es) ∙ ap (λ t. t || member b (blocksOf es)) (sym (and-true (eqb (e .block) b)))
 
   pub changed-targets : (N : ℕ) (e : Edit) (es : List Edit) → bitmapBlock ≤ e .block → e .block < N → Fresh (e .block) (blocksOf es) → Targets N (blocksOf es)
       → Targets N (blocksOf (ifChanged v e ++ es))

@@ -17,12 +17,11 @@ use Rattle.spec.specs.Bitmap.{bitsOf, bytesOf}
 use Rattle.spec.specs.Inode.{isName, inodeBytes, inodeAt, isEmpty, blockOfInode, placeOfInode, reached}
 use Rattle.spec.specs.Map.{contentOf, filesOf}
 use Rattle.spec.specs.Calls.{emptyBits, emptyDisk}
-use Rattle.log.specs.Targets.{both-true}
+use Rattle.lists.specs.Tests.{both-true, not-both}
 use Rattle.log.specs.Header.{clear-zero}
 use Rattle.block.proofs.Laws.{lt-or-le, with-same, with-other}
 use Rattle.bitmap.specs.Words.{Below}
 use Rattle.bitmap.proofs.Laws.{bits-bytes}
-use Rattle.laws.specs.Lists.{not-both}
 use Rattle.laws.specs.Bytes.{bytes-small, below-append, below-replicate}
 use Rattle.laws.specs.Soundness.{Inside}
 use Rattle.laws.specs.Volume.{bit, bitCount, VolumeSound, find-no}

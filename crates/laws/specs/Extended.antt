@@ -1,26 +1,25 @@
 -- A file at a new size keeps the front of its blocks and nodes in their places; what comes behind is free. Assumes nothing.
-use Prim.Native.Nat.{ℕ, _+_, _-_, _≤_, _<_, min}
-use mathlib.Core.Path.{_≡_, refl, sym, ap, ap₂, _∙_}
-use mathlib.Core.Bool.{Bool, true, false, not, _||_}
+use Prim.Native.Nat.{ℕ, _+_, _-_, _≤_, _<_}
+use mathlib.Core.Path.{_≡_, sym, ap, _∙_}
+use mathlib.Core.Bool.{true, false, not}
 use mathlib.Core.Logic.{_⊎_, inl, inr}
 use mathlib.Core.List.{List, _++_}
-use lib.ListN.{length, take, drop, getD, length-append, length-take, take-append-drop, List·getD-append}
+use lib.ListN.{length, take, drop, getD, length-append, length-take, List·getD-append}
 use lib.Seq.{getD-append-add, getD-take}
 use native.Mathlib.Omega.{arith}
 use borrow.Author.Tests.{not-true}
 use Rattle.spec.specs.Layout.{blockSize, inodeCount, dataStart}
 use Rattle.spec.specs.Bytes.{member, occurs, upFrom, quotientUp}
 use Rattle.spec.specs.Disk.{Disk}
-use Rattle.spec.specs.Inode.{inodeAt, isEmpty, dataOf, nodesOf, reached}
+use Rattle.spec.specs.Inode.{isEmpty, reached}
 use Rattle.spec.specs.Sentences.{File, fileAt, freeList, moreBlocks, blocksThen, extentCount, nodesWanted, moreNodes, nodesThen, sizedTo, reaches}
+use Rattle.lists.specs.Tests.{or-first, or-second, false-of}
+use Rattle.lists.specs.Counts.{occurs-take, occurs-drop, occurs-at}
+use Rattle.lists.specs.Members.{member-append, member-at, member-occurs, absent-occurs, occurs-member}
 use Rattle.log.specs.Staging.{member-keep}
 use Rattle.block.proofs.Laws.{lt-or-le}
-use Rattle.bitmap.proofs.Laws.{occurs-append}
-use Rattle.laws.specs.Lists.{false-of, not-both, occurs-take, occurs-at}
 use Rattle.laws.specs.Reached.{reached-used, reached-one}
-use Rattle.laws.specs.Edits.{member-append}
-use Rattle.laws.specs.Marks.{member-occurs, absent-occurs}
-use Rattle.laws.specs.Staged.{Extends, member-at}
+use Rattle.laws.specs.Staged.{Extends}
 
 -- places in front, and places behind
 front : (k : ℕ) (xs ys : List ℕ) (p : ℕ) → p < length xs → p < k → getD (take k xs ++ ys) p 0 ≡ getD xs p 0
@@ -32,16 +31,6 @@ behind xs ys p h l =
     let q : getD (xs ++ ys) p 0 ≡ getD ys (p - length xs) 0 = ap (λ m. getD (xs ++ ys) m 0) e ∙ getD-append-add xs ys (p - length xs) 0 in
     omega (arith, ap (λ b. occurs b ys) q, occurs-at ys (p - length xs) (omega (arith, length-append xs ys)))
 
-is-member : (b : ℕ) (xs : List ℕ) → 1 ≤ occurs b xs → member b xs ≡ true
-is-member b xs h = go (member b xs) refl
-  where
-    go : (t : Bool) → member b xs ≡ t → t ≡ true
-    go true e = refl
-    go false e = absurd (omega (arith, absent-occurs b xs e))
-
-occurs-drop : (b k : ℕ) (xs : List ℕ) → occurs b (drop k xs) ≤ occurs b xs
-occurs-drop b k xs = omega (arith, occurs-append b (take k xs) (drop k xs), ap (occurs b) (take-append-drop k xs))
-
 module _ (N : ℕ) (v : Disk) (i : ℕ) (hi : i < inodeCount) (used : isEmpty v i ≡ false) (size : ℕ) where
   abbrev f : File
   f = fileAt v i
@@ -49,21 +38,17 @@ module _ (N : ℕ) (v : Disk) (i : ℕ) (hi : i < inodeCount) (used : isEmpty v 
   -- no file reaches a free block
   free-unreached : (b : ℕ) → 1 ≤ occurs b (freeList N v) → reaches f b ≡ false
   free-unreached b o =
-      let m = not-true (member b (reached v)) (member-keep b (λ b. not (member b (reached v))) (upFrom dataStart (N - dataStart)) (is-member b (freeList N v) o)) in
+      let m = not-true (member b (reached v)) (member-keep b (λ b. not (member b (reached v))) (upFrom dataStart (N - dataStart)) (occurs-member b (freeList N v) o)) in
       let z = absent-occurs b (reached v) m in
       sym (member-append b (f .blocks) (f .nodes))
       ∙ false-of (member b (f .blocks ++ f .nodes))
       (λ q. let y = member-occurs b (f .blocks ++ f .nodes) q in omega (arith, reached-one v b i hi, ap (occurs b) (reached-used v i used)))
 
   reached-block : (b : ℕ) → member b (f .blocks) ≡ true → reaches f b ≡ true
-  reached-block b e = ap (λ t. t || member b (f .nodes)) e
+  reached-block b e = or-first (member b (f .blocks)) (member b (f .nodes)) e
 
   reached-node : (b : ℕ) → member b (f .nodes) ≡ true → reaches f b ≡ true
-  reached-node b e = ap (λ t. member b (f .blocks) || t) e ∙ go (member b (f .blocks))
-    where
-      go : (t : Bool) → (t || true) ≡ true
-      go true = refl
-      go false = refl
+  reached-node b e = or-second (member b (f .blocks)) (member b (f .nodes)) e
 
   part-kept : (k : ℕ) (xs ys : List ℕ) (p : ℕ) → p < length xs → p < length (take k xs ++ ys) → (k ≤ p → length ys ≡ 0) → member (getD (take k xs ++ ys) p 0) xs ≡ true
   part-kept k xs ys p h l none = go (lt-or-le p k)

@@ -11,8 +11,9 @@ use Rattle.spec.specs.declared.Extent.{Extent}
 use Rattle.spec.specs.Inode.{Inode, inodeOf, used, slotsIn, slotsAt, below, extentsBelow, levelsBelow, treeDepth, extentsOf, levelsOf, nodesOf, dataOf, blocksIn, counts}
 use Rattle.spec.specs.Sound.{slotsPacked}
 use Rattle.spec.specs.Map.{contentOf}
+use Rattle.lists.specs.Counts.{occurs-head, occurs-take, occurs-at}
+use Rattle.lists.specs.All.{All}
 use Rattle.bitmap.proofs.Laws.{occurs-append}
-use Rattle.laws.specs.Lists.{All, occurs-head, occurs-take, occurs-at}
 use Rattle.laws.specs.Soundness.{Counted, CountsAgree, LevelPacked, FileSound}
 use Rattle.laws.specs.Tree.{data-length}
 

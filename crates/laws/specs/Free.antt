@@ -15,10 +15,10 @@ use Rattle.spec.specs.Disk.{Disk, inData}
 use Rattle.spec.specs.Bitmap.{bitsOf, freeBits}
 use Rattle.spec.specs.Inode.{reached}
 use Rattle.spec.specs.Sound.{freeBlocks}
+use Rattle.lists.specs.Counts.{occurs-head}
 use Rattle.log.specs.Stores.{Whole}
 use Rattle.bitmap.specs.Words.{Below}
 use Rattle.bitmap.proofs.Laws.{bits-binary}
-use Rattle.laws.specs.Lists.{occurs-head}
 use Rattle.laws.specs.Soundness.{Inside, inside-of, inside-test, outside-of, outside-test}
 use Rattle.laws.specs.Volume.{bit, bitCount, VolumeSound}
 use Rattle.laws.specs.Reached.{bit-count, all-inside}

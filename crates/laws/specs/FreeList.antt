@@ -15,11 +15,11 @@ use Rattle.spec.specs.Disk.{Disk}
 use Rattle.spec.specs.Bitmap.{bitsOf, freeBits, mark, picks}
 use Rattle.spec.specs.Inode.{reached}
 use Rattle.spec.specs.Sentences.{freeList}
+use Rattle.lists.specs.Members.{member-occurs, absent-occurs}
 use Rattle.log.specs.Stores.{Whole}
 use Rattle.laws.specs.Soundness.{Inside}
 use Rattle.laws.specs.Volume.{bit, bitCount, VolumeSound}
 use Rattle.laws.specs.Reached.{bit-count}
-use Rattle.laws.specs.Marks.{member-occurs, absent-occurs}
 use Rattle.laws.specs.Picks.{picks-append, zerosFrom, length-zeros, picks-zeros}
 
 -- ---- what is kept

@@ -1,4 +1,3 @@
-pub mod Lists
 pub mod Joined
 pub mod Bytes
 pub mod Soundness
@@ -11,7 +10,6 @@ pub mod Local
 pub mod Free
 pub mod Content
 pub mod Empty
-pub mod Reading
 pub mod Replace
 pub mod Runs
 pub mod Patch
@@ -37,9 +35,14 @@ pub mod TreeEdits
 pub mod NewContent
 pub mod AfterContent
 pub mod Rewrite
+pub mod Rewriting
+pub mod Reread
 pub mod Rewritten
 pub mod RecordBytes
 pub mod Restaged
 pub mod Places
 pub mod Staged
 pub mod Extended
+pub mod RewriteStages
+pub mod Write
+pub mod Files

@@ -1,7 +1,7 @@
 -- Bits marked for blocks taken and given back: what becomes of each, by counting, and when the bitmap changes. Assumes nothing.
 use Prim.Native.Nat.{ℕ, zero, suc, _+_, _*_, _-_, _≤_, _<_}
 use mathlib.Core.Path.{_≡_, refl, sym, ap, _∙_}
-use mathlib.Core.Bool.{Bool, true, false, not, _||_, Bool·beq, true≢false}
+use mathlib.Core.Bool.{Bool, true, false, not, Bool·beq}
 use mathlib.Core.Logic.{_⊎_, inl, inr}
 use mathlib.Core.List.{List, [], _∷_, _++_}
 use lib.Dec.{eqb}
@@ -14,13 +14,15 @@ use Rattle.spec.specs.Layout.{dataStart}
 use Rattle.spec.specs.Bytes.{occurs, member, same}
 use Rattle.spec.specs.Bitmap.{bitsOf, bytesOf, mark}
 use Rattle.spec.specs.Sentences.{File, reaches, bitChanges}
+use Rattle.lists.specs.Tests.{not-both, false-of, beq-true}
+use Rattle.lists.specs.All.{not-any}
+use Rattle.lists.specs.Members.{member-append, member-occurs, absent-occurs, member-same}
 use Rattle.block.proofs.Laws.{lt-or-le, same-true}
 use Rattle.bitmap.specs.Words.{Below, Table}
 use Rattle.bitmap.proofs.Laws.{length-bits, bits-binary, bytes-bits, bits-bytes}
-use Rattle.laws.specs.Lists.{both-ways, not-both, false-of, same-of, beq-true}
+use Rattle.laws.specs.Bytes.{same-of}
 use Rattle.laws.specs.Soundness.{Inside}
-use Rattle.laws.specs.Edits.{member-cons, member-append}
-use Rattle.laws.specs.Tests.{not-any, bits-same}
+use Rattle.laws.specs.Tests.{bits-same}
 
 -- ---- one bit after another
 
@@ -103,35 +105,6 @@ module _ (bits new dropped before after : List ℕ) (e : Exchange bits new dropp
 
   pub then-binary : Below 2 bits → Below 2 (bitsThen bits new dropped)
   then-binary h = below-mark 2 0 dropped (mark 1 new bits) (omega arith) (below-mark 2 1 new bits (omega arith) h)
-
--- ---- members by counting
-
-pub member-occurs : (b : ℕ) (xs : List ℕ) → member b xs ≡ true → 1 ≤ occurs b xs
-member-occurs b [] h = absurd (true≢false (sym h))
-member-occurs b (x ∷ xs) h = go (eqb x b) refl (member-occurs b xs)
-  where
-    go : (t : Bool) → eqb x b ≡ t → (member b xs ≡ true → 1 ≤ occurs b xs) → 1 ≤ occurs b (x ∷ xs)
-    go true e ih = rw e (omega arith)
-    go false e ih = let z = ih (sym (member-cons b x xs ∙ ap (λ t. t || member b xs) e) ∙ h) in omega arith
-
-pub absent-occurs : (b : ℕ) (xs : List ℕ) → member b xs ≡ false → occurs b xs ≡ 0
-absent-occurs b [] h = refl
-absent-occurs b (x ∷ xs) h = go (eqb x b) refl (absent-occurs b xs)
-  where
-    go : (t : Bool) → eqb x b ≡ t → (member b xs ≡ false → occurs b xs ≡ 0) → occurs b (x ∷ xs) ≡ 0
-    go true e ih = absurd (true≢false (sym (member-cons b x xs ∙ ap (λ t. t || member b xs) e) ∙ h))
-    go false e ih = let z = ih (sym (member-cons b x xs ∙ ap (λ t. t || member b xs) e) ∙ h) in rw e (omega arith)
-
-pub member-same : (b : ℕ) (xs ys : List ℕ) → occurs b xs ≡ occurs b ys → member b xs ≡ member b ys
-member-same b xs ys h = both-ways (member b xs) (member b ys) (λ m. go (member b ys) refl (member-occurs b xs m) h) (λ m. go′ (member b xs) refl (member-occurs b ys m) h)
-  where
-    go : (t : Bool) → member b ys ≡ t → 1 ≤ occurs b xs → occurs b xs ≡ occurs b ys → t ≡ true
-    go true e o q = refl
-    go false e o q = absurd (omega (arith, absent-occurs b ys e))
-
-    go′ : (t : Bool) → member b xs ≡ t → 1 ≤ occurs b ys → occurs b xs ≡ occurs b ys → t ≡ true
-    go′ true e o q = refl
-    go′ false e o q = absurd (omega (arith, absent-occurs b xs e))
 
 -- ---- "block 33 when a bit changes"
 

@@ -17,9 +17,10 @@ use Rattle.spec.specs.declared.Extent.{Extent}
 use Rattle.spec.specs.Inode.{extent, inodeBytes, inodeAt, slotsIn, slotsAt, used, below, bytesOfSlots, nodesOf}
 use Rattle.spec.specs.Sound.{slotsPacked}
 use Rattle.spec.specs.Sentences.{fileAt, nodeContent}
-use Rattle.log.specs.Targets.{both-true}
+use Rattle.lists.specs.Tests.{both-true}
+use Rattle.lists.specs.Counts.{occurs-head, occurs-at}
+use Rattle.lists.specs.All.{All}
 use Rattle.bitmap.specs.Words.{Below}
-use Rattle.laws.specs.Lists.{All, occurs-head, occurs-at}
 use Rattle.laws.specs.Soundness.{LevelPacked, FileSound}
 use Rattle.laws.specs.Tree.{depth-cases, extents-deep, levels-deep, nodes-flat, nodes-deep}
 use Rattle.laws.specs.Runs.{length-node, runs-data}

@@ -1,7 +1,7 @@
 -- Bytes laid over one record, staged where they change its block: create and rename. Assumes nothing.
 use Prim.Native.Nat.{ℕ, _≤_, _<_}
 use mathlib.Core.Path.{_≡_, ap, _∙_}
-use mathlib.Core.Bool.{false, not, _&&_}
+use mathlib.Core.Bool.{false, not, _&&_, or-false}
 use mathlib.Core.List.{List, [], _++_}
 use lib.Dec.{eqb}
 use lib.ListN.{length, getD}
@@ -13,16 +13,15 @@ use Rattle.spec.specs.Bitmap.{bitsOf}
 use Rattle.spec.specs.Inode.{inodeBytes, nameAt, isEmpty, blockOfInode, placeOfInode, reachedFrom}
 use Rattle.spec.specs.Transaction.{BlockStore, ascending}
 use Rattle.spec.specs.Plan.{ifChanged, storesOf, inodeEdit}
+use Rattle.lists.specs.Tests.{not-both}
 use Rattle.log.specs.Targets.{Targets}
 use Rattle.log.specs.Stores.{Whole, Long, applied, over, targetsOf, sorted}
 use Rattle.block.proofs.Laws.{length-patch}
-use Rattle.laws.specs.Lists.{not-both}
 use Rattle.laws.specs.Soundness.{Inside, FileSound}
 use Rattle.laws.specs.Volume.{bit, bitCount}
 use Rattle.laws.specs.Replace.{Replaced}
 use Rattle.laws.specs.Patch.{inode-other}
 use Rattle.laws.specs.Edits.{changed-member, changed-targets, changed-long, changed-own, changed-other}
-use Rattle.laws.specs.Tests.{or-false}
 
 abbrev pub laidOver : Disk → ℕ → List ℕ → List BlockStore
 laidOver v i new = storesOf v (ifChanged v (inodeEdit i new) ++ [])

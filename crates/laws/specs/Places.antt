@@ -1,8 +1,8 @@
 -- Which blocks the edits of nodes and data go to, by their places. Assumes nothing.
-use Prim.Native.Nat.{ℕ, zero, suc, _+_, _*_, _≤_, _<_}
+use Prim.Native.Nat.{ℕ, zero, suc, _+_, _*_, _≤_}
 use mathlib.Core.Path.{_≡_, refl, sym, ap, ap₂, _∙_}
-use mathlib.Core.Bool.{Bool, true, false, cond, not, _&&_, _||_, true≢false}
-use mathlib.Core.List.{List, [], _∷_, map}
+use mathlib.Core.Bool.{Bool, true, false, cond, not, _&&_, _||_}
+use mathlib.Core.List.{List, [], _∷_, map, append-nil}
 use lib.Dec.{eqb, leb}
 use lib.ListN.{length, take, drop, getD}
 use lib.Seq.{drop-drop}
@@ -10,45 +10,17 @@ use native.Mathlib.Nat.{mul-suc, add-comm}
 use native.Mathlib.Omega.{arith}
 use borrow.Author.Tests.{le-leb, lt-leb, leb-true}
 use Rattle.spec.specs.Layout.{slotsPerNode}
-use Rattle.spec.specs.Bytes.{all, any, member, keep, same, upFrom}
+use Rattle.spec.specs.Bytes.{any, member, keep, same, upFrom, concat}
 use Rattle.spec.specs.Disk.{Disk}
 use Rattle.spec.specs.declared.Extent.{Extent}
 use Rattle.spec.specs.Inode.{nodeBytes}
-use Rattle.spec.specs.Plan.{edit, nodeEdits}
-use Rattle.laws.specs.Lists.{all-at, both-ways, false-of, not-both, upFrom-occurs}
-use Rattle.laws.specs.Edits.{blocksOf, member-cons, changed-member}
+use Rattle.spec.specs.Plan.{Edit, edit, lowestLevel, nodeEdits, levelEdits}
+use Rattle.lists.specs.Tests.{both-ways}
+use Rattle.lists.specs.All.{any-cons, any-up, any-same}
+use Rattle.lists.specs.Members.{member-cons}
+use Rattle.laws.specs.Edits.{blocksOf, changed-member}
 use Rattle.laws.specs.TreeEdits.{placed}
-
--- ---- some number of a stretch passes
-
-pub any-cons : (f : ℕ → Bool) (x : ℕ) (xs : List ℕ) → any f (x ∷ xs) ≡ (f x || any f xs)
-any-cons f x xs = go (f x) (all (λ y. not (f y)) xs)
-  where
-    go : (t u : Bool) → not (not t && u) ≡ (t || not u)
-    go true u = refl
-    go false u = refl
-
-pub any-some : (f : ℕ → Bool) (a n : ℕ) (P : Type 0) → any f (upFrom a n) ≡ true → ((k : ℕ) → a ≤ k → k < a + n → f k ≡ true → P) → P
-any-some f a zero P h k = absurd (true≢false (sym h))
-any-some f a (suc n) P h k = go (f a) refl (any-some f (suc a) n P)
-  where
-    go : (t : Bool) → f a ≡ t → (any f (upFrom (suc a) n) ≡ true → ((k : ℕ) → suc a ≤ k → k < suc a + n → f k ≡ true → P) → P) → P
-    go true e ih = k a (omega arith) (omega arith) e
-    go false e ih = ih (sym (any-cons f a (upFrom (suc a) n) ∙ ap (λ t. t || any f (upFrom (suc a) n)) e) ∙ h) (λ j l u q. k j (omega arith) (omega arith) q)
-
-pub some-any : (f : ℕ → Bool) (a n k : ℕ) → a ≤ k → k < a + n → f k ≡ true → any f (upFrom a n) ≡ true
-some-any f a n k l u e =
-    ap not (false-of (all (λ x. not (f x)) (upFrom a n)) (λ h. not-both (all-at (λ x. not (f x)) (upFrom a n) k h (upFrom-occurs k a n l u)) (ap not e)))
-
-any-up : (f : ℕ → Bool) (a n : ℕ) → any f (upFrom (suc a) n) ≡ any (λ k. f (suc k)) (upFrom a n)
-any-up f a zero = refl
-any-up f a (suc n) =
-    any-cons f (suc a) (upFrom (suc (suc a)) n) ∙ ap (λ t. f (suc a) || t) (any-up f (suc a) n) ∙ sym (any-cons (λ k. f (suc k)) a (upFrom (suc a) n))
-
-any-same : (f g : ℕ → Bool) (a n : ℕ) → ((k : ℕ) → f k ≡ g k) → any f (upFrom a n) ≡ any g (upFrom a n)
-any-same f g a zero h = refl
-any-same f g a (suc n) h =
-    any-cons f a (upFrom (suc a) n) ∙ ap₂ _||_ (h a) (any-same f g (suc a) n h) ∙ sym (any-cons g a (upFrom (suc a) n))
+use Rattle.laws.specs.Resized.{low-is}
 
 -- ---- data blocks
 
@@ -101,3 +73,14 @@ nodes-member v (suc held) (n ∷ ns) es b =
     first true false = refl
     first false true = refl
     first false false = refl
+
+-- level by level: there is at most one
+pub levels-member : (v : Disk) (held levels : List (List ℕ)) (es : List Extent) (b : ℕ) → length held ≤ 1 → length levels ≤ 1
+    → member b (blocksOf v (levelEdits v held levels es))
+    ≡ any (λ j. nodeStaged v (length (concat held)) (concat levels) es j && eqb (getD (concat levels) j 0) b) (upFrom 0 (length (concat levels)))
+levels-member v held [] es b h k = refl
+levels-member v held (ns ∷ []) es b h k =
+    ap (λ (l : List Edit). member b (blocksOf v l)) (append-nil (nodeEdits v (length (lowestLevel held)) ns es))
+    ∙ nodes-member v (length (lowestLevel held)) ns es b
+    ∙ ap₂ (λ (m : ℕ) (ms : List ℕ). any (λ j. nodeStaged v m ms es j && eqb (getD ms j 0) b) (upFrom 0 (length ms))) (ap length (low-is held h)) (sym (append-nil ns))
+levels-member v held (ns ∷ ms ∷ ls) es b h k = absurd (omega arith)

@@ -14,7 +14,7 @@ use Rattle.spec.specs.Bytes.{found, occurs, allZero}
 use Rattle.spec.specs.Disk.{Disk}
 use Rattle.spec.specs.Inode.{Inode, isName, inodeBytes, inodeOf, inodeAt, nameAt, isEmpty, find, dataOf, nodesOf, reachedFrom, reached}
 use Rattle.spec.specs.Map.{contentOf, filesOf}
-use Rattle.log.specs.Targets.{both-true}
+use Rattle.lists.specs.Tests.{both-true}
 use Rattle.log.specs.Stores.{Whole}
 use Rattle.bitmap.proofs.Laws.{occurs-append, length-bits, bits-binary}
 use Rattle.laws.specs.Joined.{occurs-one, occurs-two, joined-same, occurs-replace, joined-some}

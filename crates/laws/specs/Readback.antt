@@ -15,9 +15,10 @@ use Rattle.spec.specs.Disk.{Disk}
 use Rattle.spec.specs.declared.Extent.{Extent}
 use Rattle.spec.specs.Inode.{extent, slotsIn, used, bytesOfSlots, bytesOfInode, inodeOf, slotsAt, below, nodeSlots, nodeBytes, counts}
 use Rattle.spec.specs.Sound.{slotsPacked}
+use Rattle.lists.specs.Tests.{and-both}
+use Rattle.lists.specs.All.{All}
 use Rattle.block.proofs.Laws.{length-exactly, exactly-small, number4-bytes4}
 use Rattle.bitmap.specs.Words.{Below}
-use Rattle.laws.specs.Lists.{All, and-both}
 use Rattle.laws.specs.Bytes.{below-append}
 use Rattle.laws.specs.Soundness.{Inside, Counted}
 use Rattle.laws.specs.RunsOf.{Fits}

@@ -16,10 +16,10 @@ use Rattle.spec.specs.Disk.{Disk}
 use Rattle.spec.specs.declared.Extent.{Extent}
 use Rattle.spec.specs.Inode.{extent, treeDepth, inodeOf, inodeAt, inodeBytes, inodeWith, bytesOfInode, topSlots, slotsIn, slotsAt, used, below, bytesOfSlots, extentsOf, levelsOf, nodeSlots, counts}
 use Rattle.spec.specs.Sound.{slotsPacked}
-use Rattle.log.specs.Targets.{both-true}
+use Rattle.lists.specs.Tests.{both-true}
+use Rattle.lists.specs.All.{All}
 use Rattle.log.specs.Stores.{Whole}
 use Rattle.bitmap.specs.Words.{Below}
-use Rattle.laws.specs.Lists.{All}
 use Rattle.laws.specs.Soundness.{Counted, CountsAgree, LevelPacked, FileSound}
 use Rattle.laws.specs.Tree.{depth-cases, extents-flat, extents-deep, levels-flat, levels-deep, levels-few}
 use Rattle.laws.specs.Runs.{length-node}

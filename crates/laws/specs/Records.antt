@@ -16,7 +16,7 @@ use Rattle.spec.specs.declared.Extent.{Extent}
 use Rattle.spec.specs.Inode.{Inode, isName, inodeOf, inodeWith, bytesOfInode, slotsIn, used, slotsAt, treeDepth, extentsOf, levelsOf, nodesOf, blocksIn, dataOf, blocksFor, levelsFor, nodesFor, counts}
 use Rattle.spec.specs.Map.{contentOf}
 use Rattle.spec.specs.Sound.{slotsPacked, extentInside, countsAgree, apart, levelPacked, tailZero, fileSound}
-use Rattle.log.specs.Targets.{both-true}
+use Rattle.lists.specs.Tests.{both-true}
 use Rattle.laws.specs.Soundness.{FileSound, file-of, file-test}
 use Rattle.laws.specs.Tree.{extents-flat, levels-flat, nodes-flat}
 use Rattle.laws.specs.Content.{zero-byte, zero-size}

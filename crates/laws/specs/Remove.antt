@@ -1,7 +1,7 @@
 -- Remove: refused as the sentences tell, or record i is emptied and its blocks are given back. Assumes nothing.
 use Prim.Native.Nat.{ℕ, _/_, _≤_, _<_}
 use mathlib.Core.Path.{_≡_, refl, sym, ap, ap₂, _∙_}
-use mathlib.Core.Bool.{Bool, true, false, not, _&&_, _||_}
+use mathlib.Core.Bool.{Bool, true, false, not, _&&_, _||_, or-false}
 use mathlib.Core.List.{List, [], _++_, append-nil}
 use mathlib.Core.Option.{Option, none, some}
 use lib.Dec.{eqb, ltb}
@@ -22,10 +22,10 @@ use Rattle.spec.specs.Calls.{Change, Remove, Do}
 use Rattle.spec.specs.Plain.{Plain, at}
 use Rattle.spec.specs.Sentences.{File, fileAt, noFile, bitChanges, recordChanges, shortens, callStages}
 use Rattle.spec.specs.Refusals.{lacksRoom, isScattered, nameUnknown, ofRecord}
+use Rattle.lists.specs.Tests.{not-both, false-of, eqb-turn}
 use Rattle.log.specs.Stores.{Whole, applied, targetsOf}
 use Rattle.block.proofs.Laws.{same-true}
 use Rattle.crash.specs.Interface.{planned, Makes, Plans, hindered, stages}
-use Rattle.laws.specs.Lists.{not-both, false-of}
 use Rattle.laws.specs.Volume.{bit, bitCount, find-some}
 use Rattle.laws.specs.Good.{Good}
 use Rattle.laws.specs.Reached.{bit-small, bit-count, name-used, reached-empty, reached-used, reach-inside, reach-bit}
@@ -36,7 +36,7 @@ use Rattle.laws.specs.Patch.{length-record, inode-new}
 use Rattle.laws.specs.Edits.{sorted-keep}
 use Rattle.laws.specs.Records.{bare-data, bare-nodes, zero-bare}
 use Rattle.laws.specs.OwnSize.{sound-fitted, own-room, own-extents}
-use Rattle.laws.specs.Tests.{first-none, first-unknown, unknown-one, named-known, eqb-turn, or-false, two-of-six, file-is}
+use Rattle.laws.specs.Tests.{first-none, first-unknown, unknown-one, named-known, two-of-six, file-is}
 use Rattle.laws.specs.Marks.{Exchange, bitsThen, table-changes}
 use Rattle.laws.specs.Changing.{edits, Own, change-targets, change-long, change-record, change-member, change-others, change-bytes, change-replaced}
 

@@ -1,7 +1,7 @@
 -- Rename: refused as the sentences tell, or record i gets the new name in its place. Assumes nothing.
 use Prim.Native.Nat.{ℕ, _/_, _%_, _≤_, _<_}
 use mathlib.Core.Path.{_≡_, refl, sym, ap, ap₂, _∙_, subst}
-use mathlib.Core.Bool.{Bool, true, false, cond, not, _&&_}
+use mathlib.Core.Bool.{Bool, true, false, cond, not, _&&_, and-false}
 use mathlib.Core.List.{List, _++_, append-nil}
 use mathlib.Core.Option.{Option, none, some}
 use lib.Dec.{eqb}
@@ -22,10 +22,12 @@ use Rattle.spec.specs.Calls.{Change, Rename, Do}
 use Rattle.spec.specs.Plain.{Plain, at}
 use Rattle.spec.specs.Sentences.{File, fileAt, fileThen, reaches, isNew, nodeContent, nodeChanges, bitChanges, recordChanges, shortens, callStages}
 use Rattle.spec.specs.Refusals.{lacksRoom, isScattered, nameUnknown, nameTaken, ofRecord}
+use Rattle.lists.specs.Tests.{false-of, eqb-turn}
+use Rattle.lists.specs.All.{none-any}
 use Rattle.log.specs.Stores.{Whole, applied, targetsOf}
 use Rattle.block.proofs.Laws.{same-true}
 use Rattle.crash.specs.Interface.{planned, Makes, Plans, hindered, stages}
-use Rattle.laws.specs.Lists.{false-of, same-of}
+use Rattle.laws.specs.Bytes.{same-of}
 use Rattle.laws.specs.Soundness.{FileSound}
 use Rattle.laws.specs.Volume.{bitCount, find-some, find-none}
 use Rattle.laws.specs.Frame.{Agree, agree-left, agree-right, nodes-frame, data-frame, content-frame, file-frame}
@@ -37,7 +39,7 @@ use Rattle.laws.specs.Edits.{sorted-keep}
 use Rattle.laws.specs.Records.{name-length, name-nonzero, withName, renamed-inode, named-data, named-nodes, named-content, renamed-sound}
 use Rattle.laws.specs.OwnSize.{sound-fitted, own-room, own-extents}
 use Rattle.laws.specs.Nodes.{node-held}
-use Rattle.laws.specs.Tests.{first-none, first-unknown, first-taken, one-of, unknown-one, named-known, none-any, bits-same, and-false, eqb-turn, two-of-six, file-is}
+use Rattle.laws.specs.Tests.{first-none, first-unknown, first-taken, one-of, unknown-one, named-known, bits-same, two-of-six, file-is}
 use Rattle.laws.specs.OneRecord.{laidOver, one-targets, one-long, one-own, one-member, one-others, one-inside, one-table, one-replaced}
 
 -- ---- what the stores make

@@ -14,9 +14,10 @@ use Rattle.spec.specs.Disk.{Disk}
 use Rattle.spec.specs.Inode.{isName, inodeBytes, inodeAt, nameAt, isEmpty, find, reachedFrom, reached}
 use Rattle.spec.specs.Map.{contentOf, filesOf}
 use Rattle.spec.specs.Plain.{at}
+use Rattle.lists.specs.Tests.{both-ways, not-both, false-of}
 use Rattle.block.proofs.Laws.{same-true}
 use Rattle.bitmap.specs.Words.{Below}
-use Rattle.laws.specs.Lists.{both-ways, not-both, false-of, same-of}
+use Rattle.laws.specs.Bytes.{same-of}
 use Rattle.laws.specs.Soundness.{Inside, FileSound}
 use Rattle.laws.specs.Volume.{bit, bitCount, VolumeSound, find-some, find-only, find-no, find-agree}
 use Rattle.laws.specs.Frame.{Agree}

@@ -32,7 +32,7 @@ use Rattle.laws.specs.FreeList.{free-length, picks-free, picks-behind}
 
 -- ---- at most one level
 
-low-is : (ls : List (List ℕ)) → length ls ≤ 1 → lowestLevel ls ≡ concat ls
+pub low-is : (ls : List (List ℕ)) → length ls ≤ 1 → lowestLevel ls ≡ concat ls
 low-is [] h = refl
 low-is (ns ∷ []) h = sym (append-nil ns)
 low-is (ns ∷ ms ∷ ls) h = absurd (omega arith)

@@ -16,11 +16,11 @@ use Rattle.spec.specs.Bitmap.{bitsOf, freeBits}
 use Rattle.spec.specs.Inode.{inodeBytes, inodeOf, inodeAt, inodeWith, bytesOfInode, nameAt, blockOfInode, placeOfInode, dataOf, levelsOf, nodesOf, extentsOf, runs, blocksFor}
 use Rattle.spec.specs.Plan.{Tree, resized}
 use Rattle.spec.specs.Sentences.{File, fileAt, moreBlocks, blocksThen, moreNodes, nodesThen, sizedTo, recordChanges}
-use Rattle.log.specs.Targets.{both-true}
+use Rattle.lists.specs.Tests.{and-both, both-true, not-both, false-of}
 use Rattle.log.specs.Stores.{Whole}
 use Rattle.block.proofs.Laws.{same-self, same-true}
 use Rattle.bitmap.specs.Words.{Below}
-use Rattle.laws.specs.Lists.{and-both, not-both, false-of, same-of}
+use Rattle.laws.specs.Bytes.{same-of}
 use Rattle.laws.specs.Soundness.{FileSound}
 use Rattle.laws.specs.Volume.{VolumeSound}
 use Rattle.laws.specs.Tree.{depth-cases, levels-flat, levels-deep, nodes-deep}

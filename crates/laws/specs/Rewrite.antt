@@ -12,9 +12,9 @@ use Rattle.spec.specs.declared.Extent.{Extent}
 use Rattle.spec.specs.Bitmap.{bitsOf}
 use Rattle.spec.specs.Inode.{reachedFrom}
 use Rattle.spec.specs.Plan.{Edit, storesOf, lowestLevel, nodeEdits, levelEdits, isStaged, newContent, dataEdits}
+use Rattle.lists.specs.Counts.{occurs-at}
 use Rattle.log.specs.Stores.{Long, over, targetsOf}
 use Rattle.bitmap.proofs.Laws.{occurs-append}
-use Rattle.laws.specs.Lists.{occurs-at}
 use Rattle.laws.specs.Soundness.{Inside}
 use Rattle.laws.specs.Volume.{bit}
 use Rattle.laws.specs.Edits.{blocksOf}

@@ -16,9 +16,9 @@ use Rattle.spec.specs.declared.Extent.{Extent}
 use Rattle.spec.specs.Inode.{extent, Inode, inodeOf, slotsIn, slotsAt, used, below, extentsBelow, treeDepth, extentsOf, dataOf, blocksIn, prepend, runs, levelsFor, nodesFor}
 use Rattle.spec.specs.Sound.{apart}
 use Rattle.spec.specs.Sentences.{extentCount, nodesWanted}
-use Rattle.log.specs.Targets.{both-true}
+use Rattle.lists.specs.Tests.{both-true}
+use Rattle.lists.specs.All.{All}
 use Rattle.block.proofs.Laws.{lt-or-le}
-use Rattle.laws.specs.Lists.{All}
 use Rattle.laws.specs.Soundness.{FileSound}
 use Rattle.laws.specs.Tree.{depth-cases, extents-flat, extents-deep, data-uncut}
 

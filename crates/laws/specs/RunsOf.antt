@@ -11,7 +11,8 @@ use Rattle.spec.specs.Bytes.{occurs, upFrom}
 use Rattle.spec.specs.declared.Extent.{Extent}
 use Rattle.spec.specs.Inode.{extent, prepend, runs, blocksIn, counts}
 use Rattle.spec.specs.Sound.{apart}
-use Rattle.laws.specs.Lists.{All, occurs-head}
+use Rattle.lists.specs.Counts.{occurs-head}
+use Rattle.lists.specs.All.{All}
 use Rattle.laws.specs.Soundness.{Inside, ExtentInside}
 use Rattle.laws.specs.Tree.{length-blocks}
 

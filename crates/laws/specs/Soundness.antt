@@ -14,8 +14,8 @@ use Rattle.spec.specs.declared.Area.the-variants.{Header, Log, Bitmap, Inodes, 
 use Rattle.spec.specs.declared.Extent.{Extent}
 use Rattle.spec.specs.Inode.{Inode, inodeOf, used, slotsAt, below, treeDepth, extentsOf, levelsOf, nodesOf, dataOf, blocksFor, nodesFor, counts}
 use Rattle.spec.specs.Sound.{limitsHold, slotsPacked, extentInside, countsAgree, apart, levelPacked, tailZero, fileSound}
-use Rattle.log.specs.Targets.{both-true}
-use Rattle.laws.specs.Lists.{and-both, both-ways, not-both, false-of, beq-true, beq-of, All, all-All, All-all, all-at, all-of}
+use Rattle.lists.specs.Tests.{and-both, both-true, both-ways, not-both, false-of, beq-true, beq-of}
+use Rattle.lists.specs.All.{All, all-All, All-all, all-at, all-of}
 
 -- ---- blocks inside
 

@@ -1,9 +1,9 @@
 -- Which nodes and data blocks a write or a change of size stages, place by place, and that the sentences tell the same. Assumes nothing.
-use Prim.Native.Nat.{ℕ, zero, suc, _+_, _*_, _/_, _%_, _≤_, _<_, max}
+use Prim.Native.Nat.{ℕ, _+_, _*_, _/_, _%_, _≤_, _<_, max}
 use mathlib.Core.Path.{_≡_, refl, sym, ap, _∙_}
-use mathlib.Core.Bool.{Bool, true, false, not, _&&_, _||_, true≢false}
+use mathlib.Core.Bool.{Bool, true, false, not, _&&_, _||_}
 use mathlib.Core.Logic.{_⊎_, inl, inr}
-use mathlib.Core.List.{List, [], _∷_}
+use mathlib.Core.List.{List}
 use lib.Dec.{eqb, leb, ltb}
 use lib.ListN.{length, getD}
 use native.Mathlib.Omega.{arith}
@@ -14,36 +14,11 @@ use Rattle.spec.specs.Disk.{Disk}
 use Rattle.spec.specs.Inode.{runs}
 use Rattle.spec.specs.Plan.{holdsData, isLastKept, isStaged}
 use Rattle.spec.specs.Sentences.{File, reaches, isNew, nodeContent, nodeChanges, shortens}
+use Rattle.lists.specs.Tests.{and-both, both-true, or-cases, or-first, or-second, both-ways, not-both}
+use Rattle.lists.specs.All.{any-some, some-any}
+use Rattle.lists.specs.Members.{member-at, member-place}
 use Rattle.block.proofs.Laws.{lt-or-le}
-use Rattle.log.specs.Targets.{both-true}
-use Rattle.laws.specs.Lists.{and-both, both-ways, not-both}
-use Rattle.laws.specs.Edits.{member-cons}
-use Rattle.laws.specs.Places.{any-some, some-any, nodeStaged}
-
-or-cases : (a b : Bool) → (a || b) ≡ true → (a ≡ true) ⊎ (b ≡ true)
-or-cases true b h = inl refl
-or-cases false b h = inr h
-
-or-first : (a b : Bool) → a ≡ true → (a || b) ≡ true
-or-first true b h = refl
-or-first false b h = absurd (true≢false (sym h))
-
-or-second : (a b : Bool) → b ≡ true → (a || b) ≡ true
-or-second true b h = refl
-or-second false b h = h
-
-pub member-at : (xs : List ℕ) (p : ℕ) → p < length xs → member (getD xs p 0) xs ≡ true
-member-at [] p h = absurd (omega arith)
-member-at (x ∷ xs) zero h = member-cons x x xs ∙ ap (λ t. t || member x xs) (eq-eqb x x refl)
-member-at (x ∷ xs) (suc p) h = member-cons (getD xs p 0) x xs ∙ or-second (eqb x (getD xs p 0)) (member (getD xs p 0) xs) (member-at xs p (omega arith))
-
-pub member-place : (xs : List ℕ) (b : ℕ) (P : Type 0) → member b xs ≡ true → ((p : ℕ) → p < length xs → getD xs p 0 ≡ b → P) → P
-member-place [] b P h k = absurd (true≢false (sym h))
-member-place (x ∷ xs) b P h k = go (or-cases (eqb x b) (member b xs) (sym (member-cons b x xs) ∙ h)) (member-place xs b P)
-  where
-    go : (eqb x b ≡ true) ⊎ (member b xs ≡ true) → (member b xs ≡ true → ((p : ℕ) → p < length xs → getD xs p 0 ≡ b → P) → P) → P
-    go (inl e) ih = k 0 (omega arith) (eqb-true x b e)
-    go (inr e) ih = ih e (λ p l q. k (suc p) (omega arith) q)
+use Rattle.laws.specs.Places.{nodeStaged}
 
 -- f before, h after: the front of what is held keeps its places, the rest is new
 pub record Extends (f h : File) : Type 0 where

@@ -1,13 +1,11 @@
 -- Refusals 13 to 17 and the sentences of staging, over what their tests come to. Assumes nothing.
-use Prim.Native.Nat.{ℕ, zero, suc, _+_, _-_, _≤_, _<_}
-use mathlib.Core.Path.{_≡_, refl, sym, ap, _∙_}
-use mathlib.Core.Bool.{Bool, true, false, cond, not, _&&_, _||_, Bool·beq, true≢false}
+use Prim.Native.Nat.{ℕ, _-_, _<_}
+use mathlib.Core.Path.{_≡_, refl, ap, _∙_}
+use mathlib.Core.Bool.{Bool, true, false, not, _&&_, _||_, Bool·beq, or-false}
 use mathlib.Core.List.{List, [], _∷_}
 use mathlib.Core.Option.{Option, none, some}
-use lib.Dec.{eqb}
-use borrow.Author.Tests.{eqb-true, eq-eqb, not-false}
 use Rattle.spec.specs.Layout.{dataStart, inodeCount}
-use Rattle.spec.specs.Bytes.{found, all, any, upFrom, lowest, isSome}
+use Rattle.spec.specs.Bytes.{found, all, upFrom, isSome}
 use Rattle.spec.specs.Disk.{Disk}
 use Rattle.spec.specs.Inode.{isName, inodeAt, isEmpty, find, findEmpty}
 use Rattle.spec.specs.Map.{contentOf, filesOf}
@@ -15,7 +13,9 @@ use Rattle.spec.specs.declared.Refusal.{Refusal}
 use Rattle.spec.specs.declared.Refusal.the-variants.{Unknown, Taken, NoInode, NoSpace, TooManyExtents}
 use Rattle.spec.specs.Sentences.{File, reaches, bitChanges}
 use Rattle.spec.specs.Refusals.{test, firstFailed}
-use Rattle.laws.specs.Lists.{both-ways, all-at, all-of, upFrom-occurs, occurs-upFrom, lowest-some}
+use Rattle.lists.specs.Tests.{beq-of}
+use Rattle.lists.specs.All.{none-any}
+use Rattle.lists.specs.Lowest.{lowest-some, none-lowest}
 use Rattle.laws.specs.Reached.{files-named}
 
 -- ---- refusals 13 to 17
@@ -36,6 +36,12 @@ first-taken a b c d e p q = rw (p, q)
 pub first-inode : (a b c d e : Bool) → a ≡ false → b ≡ false → c ≡ true → firstOf a b c d e ≡ some NoInode
 first-inode a b c d e p q r = rw (p, q, r)
 
+pub first-space : (a b c d e : Bool) → a ≡ false → b ≡ false → c ≡ false → d ≡ true → firstOf a b c d e ≡ some NoSpace
+first-space a b c d e p q r s = rw (p, q, r, s)
+
+pub first-extents : (a b c d e : Bool) → a ≡ false → b ≡ false → c ≡ false → d ≡ false → e ≡ true → firstOf a b c d e ≡ some TooManyExtents
+first-extents a b c d e p q r s t = rw (p, q, r, s, t)
+
 pub one-of : (t : Bool) → not (not t && true) ≡ t
 one-of true = refl
 one-of false = refl
@@ -52,15 +58,6 @@ named-known v name h = ap isSome (files-named v name h) ∙ go (find v name)
     go none = refl
     go (some i) = refl
 
-none-lowest : (f : ℕ → Bool) (a n : ℕ) → all (λ i. not (f i)) (upFrom a n) ≡ not (isSome (lowest a n f))
-none-lowest f a zero = refl
-none-lowest f a (suc n) = go (f a) (none-lowest f (suc a) n)
-  where
-    go : (t : Bool) → all (λ i. not (f i)) (upFrom (suc a) n) ≡ not (isSome (lowest (suc a) n f))
-        → (not t && all (λ i. not (f i)) (upFrom (suc a) n)) ≡ not (isSome (cond t (some a) (lowest (suc a) n f)))
-    go true ih = refl
-    go false ih = ih
-
 -- 15. "No empty record."
 pub none-empty : (v : Disk) → all (λ i. not (isEmpty v i)) (upFrom 0 inodeCount) ≡ not (isSome (findEmpty v))
 unfolding findEmpty
@@ -72,37 +69,9 @@ empty-some v i h = let r = lowest-some 0 inodeCount (isEmpty v) i h in (r .below
 
 -- ---- the sentences of staging
 
-pub none-any : (f : ℕ → Bool) (a n : ℕ) → ((k : ℕ) → a ≤ k → k < a + n → f k ≡ false) → any f (upFrom a n) ≡ false
-none-any f a n h = ap not (all-of (λ x. not (f x)) (upFrom a n) (λ b o. let r = occurs-upFrom b a n o in ap not (h b (r .0) (r .1))))
-
-pub not-any : (f : ℕ → Bool) (a n : ℕ) → any (λ b. not (f b)) (upFrom a n) ≡ false → (k : ℕ) → a ≤ k → k < a + n → f k ≡ true
-not-any f a n h k lo up =
-    unnot (f k) (all-at (λ b. not (not (f b))) (upFrom a n) k (not-false (all (λ b. not (not (f b))) (upFrom a n)) h) (upFrom-occurs k a n lo up))
-  where
-    unnot : (t : Bool) → not (not t) ≡ true → t ≡ true
-    unnot true q = refl
-    unnot false q = q
-
 -- files that reach the same blocks change no bit
 pub bits-same : (N : ℕ) (f g : File) → ((b : ℕ) → reaches f b ≡ reaches g b) → bitChanges N f g ≡ false
-bits-same N f g h = none-any (λ b. not (Bool·beq (reaches f b) (reaches g b))) dataStart (N - dataStart) (λ b lo up. go (reaches f b) (reaches g b) (h b))
-  where
-    go : (t u : Bool) → t ≡ u → not (Bool·beq t u) ≡ false
-    go true true e = refl
-    go true false e = absurd (true≢false e)
-    go false true e = absurd (true≢false (sym e))
-    go false false e = refl
-
-pub eqb-turn : (a b : ℕ) → eqb a b ≡ eqb b a
-eqb-turn a b = both-ways (eqb a b) (eqb b a) (λ h. eq-eqb b a (sym (eqb-true a b h))) (λ h. eq-eqb a b (sym (eqb-true b a h)))
-
-pub and-false : (t : Bool) → (t && false) ≡ false
-and-false true = refl
-and-false false = refl
-
-pub or-false : (t : Bool) → (t || false) ≡ t
-or-false true = refl
-or-false false = refl
+bits-same N f g h = none-any (λ b. not (Bool·beq (reaches f b) (reaches g b))) dataStart (N - dataStart) (λ b lo up. ap not (beq-of (reaches f b) (reaches g b) (h b)))
 
 -- the six sentences where only block 33 and the record's block may be staged
 pub two-of-six : (a b c d e f : Bool) (d′ e′ : Bool) → a ≡ false → b ≡ false → c ≡ false → d ≡ d′ → e ≡ e′ → f ≡ false → (a || b || c || d || e || f) ≡ (d′ || e′)

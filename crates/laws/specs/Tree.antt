@@ -12,8 +12,9 @@ use Rattle.spec.specs.Bytes.{occurs, concat, upFrom}
 use Rattle.spec.specs.Disk.{Disk}
 use Rattle.spec.specs.declared.Extent.{Extent}
 use Rattle.spec.specs.Inode.{Inode, inodeOf, used, slotsAt, below, extentsBelow, treeDepth, extentsOf, levelsOf, nodesOf, blocksIn, dataOf, blocksFor, counts}
+use Rattle.lists.specs.Counts.{occurs-take, length-upFrom, occurs-upFrom}
+use Rattle.lists.specs.All.{All}
 use Rattle.bitmap.proofs.Laws.{occurs-append}
-use Rattle.laws.specs.Lists.{All, occurs-take, occurs-upFrom, length-upFrom}
 use Rattle.laws.specs.Soundness.{Inside, ExtentInside, Counted, CountsAgree, FileSound}
 
 -- ---- depth 0 and depth 1

@@ -14,12 +14,12 @@ use Rattle.spec.specs.declared.Extent.{Extent}
 use Rattle.spec.specs.Inode.{nodeBytes, nodeSlots, bytesOfSlots}
 use Rattle.spec.specs.Transaction.{BlockStore, put}
 use Rattle.spec.specs.Plan.{Edit, edit, ifChanged, storesOf, lowestLevel, nodeEdits, levelEdits}
+use Rattle.lists.specs.Counts.{occurs-head}
 use Rattle.block.proofs.Laws.{length-exactly}
 use Rattle.bitmap.proofs.Laws.{occurs-append}
 use Rattle.log.specs.Targets.{Fresh}
 use Rattle.log.specs.Header.{map-up}
 use Rattle.log.specs.Stores.{upd-same, upd-other, Long, over}
-use Rattle.laws.specs.Lists.{occurs-head}
 use Rattle.laws.specs.Edits.{blocksOf, changed-own, changed-other, changed-long, over-fresh}
 use Rattle.laws.specs.Readback.{Filled}
 use Rattle.laws.specs.Distinct.{fresh-none, head-once, long-append}
@@ -78,9 +78,12 @@ module _ (v : Disk) where
   stores-append [] fs = refl
   stores-append (e ∷ es) fs = ap (λ (l : List BlockStore). put (e .block) (e .change (v (e .block))) ∷ l) (stores-append es fs)
 
+  pub blocks-append : (es fs : List Edit) → blocksOf v (es ++ fs) ≡ blocksOf v es ++ blocksOf v fs
+  blocks-append [] fs = refl
+  blocks-append (e ∷ es) fs = ap (λ (l : List ℕ). e .block ∷ l) (blocks-append es fs)
+
   pub occurs-edits : (es fs : List Edit) (b : ℕ) → occurs b (blocksOf v (es ++ fs)) ≡ occurs b (blocksOf v es) + occurs b (blocksOf v fs)
-  occurs-edits [] fs b = omega arith
-  occurs-edits (e ∷ es) fs b = omega (arith, occurs-edits es fs b)
+  occurs-edits es fs b = ap (occurs b) (blocks-append es fs) ∙ occurs-append b (blocksOf v es) (blocksOf v fs)
 
   pub levels-occur : (held ls : List (List ℕ)) (es : List Extent) (b : ℕ) → occurs b (blocksOf v (levelEdits v held ls es)) ≤ occurs b (concat ls)
   levels-occur held [] es b = omega arith

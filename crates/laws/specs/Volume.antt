@@ -16,9 +16,11 @@ use Rattle.spec.specs.Disk.{Disk, inData}
 use Rattle.spec.specs.Bitmap.{bitsOf}
 use Rattle.spec.specs.Inode.{inodeBytes, nameAt, isEmpty, find, reached}
 use Rattle.spec.specs.Sound.{firstOfName, fileSound, inodeSound, inodeFault, blockSound, bitFault, blockFault, volumeSound}
-use Rattle.log.specs.Targets.{holds, truth, both-true}
+use Rattle.lists.specs.Tests.{and-both, both-true, not-both, false-of}
+use Rattle.lists.specs.Lowest.{lowest-some, lowest-none, lowest-only, lowest-no, lowest-agree}
+use Rattle.log.specs.Targets.{holds, truth}
 use Rattle.block.proofs.Laws.{same-true}
-use Rattle.laws.specs.Lists.{and-both, not-both, false-of, same-of, lowest-some, lowest-none, lowest-only, lowest-no, lowest-agree}
+use Rattle.laws.specs.Bytes.{same-of}
 use Rattle.laws.specs.Soundness.{Inside, FileSound, inside-of, inside-test, outside-of, outside-test, file-of, file-test}
 
 -- ---- the propositions

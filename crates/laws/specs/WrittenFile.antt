@@ -14,7 +14,8 @@ use Rattle.spec.specs.Disk.{Disk}
 use Rattle.spec.specs.declared.Extent.{Extent}
 use Rattle.spec.specs.Inode.{Inode, inodeOf, inodeWith, bytesOfInode, slotsAt, used, below, treeDepth, extentsOf, levelsOf, nodesOf, blocksIn, dataOf, blocksFor, levelsFor, nodeSlots, counts, runs}
 use Rattle.spec.specs.Sound.{slotsPacked, apart}
-use Rattle.laws.specs.Lists.{All, occurs-head, all-at}
+use Rattle.lists.specs.Counts.{occurs-head}
+use Rattle.lists.specs.All.{All, all-at}
 use Rattle.laws.specs.Soundness.{Inside, ExtentInside, CountsAgree, packed-of, FileSound}
 use Rattle.laws.specs.Tree.{extents-flat, extents-deep, levels-flat, levels-deep, nodes-flat}
 use Rattle.laws.specs.RunsOf.{Fits, runs-blocks, runs-counts, runs-fit, runs-apart}

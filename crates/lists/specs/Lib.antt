@@ -1,1 +1,6 @@
+pub mod Tests
+pub mod Counts
+pub mod All
+pub mod Members
+pub mod Lowest
 pub mod Places

@@ -1,15 +1,16 @@
 -- Where a number first stands in a list: laws of `place`, `member` and `distinct`. Assumes nothing.
-use Prim.Native.Nat.{ℕ, zero, suc, _+_, _<_, _≤_}
+use Prim.Native.Nat.{ℕ, suc, _+_, _<_}
 use mathlib.Core.Path.{_≡_, refl, sym, ap, _∙_}
-use mathlib.Core.Bool.{Bool, true, false, cond, not, _&&_, true≢false}
+use mathlib.Core.Bool.{Bool, true, false, cond, _&&_, true≢false}
 use mathlib.Core.List.{List, [], _∷_, _++_}
-use mathlib.Core.Option.{Option, none, some, Option·some-ne-none, Option·some-injective}
+use mathlib.Core.Option.{none, some, Option·some-ne-none, Option·some-injective}
 use lib.ListN.{length, getD}
 use lib.Dec.{eqb}
 use native.Mathlib.Nat.{add-zero}
 use native.Mathlib.Omega.{arith}
 use borrow.Author.Tests.{eqb-true, eqb-false, eq-eqb, ne-eqb}
-use Rattle.spec.specs.Bytes.{place, placeFrom, member, distinct, any, all}
+use Rattle.spec.specs.Bytes.{place, placeFrom, member, distinct, all}
+use Rattle.lists.specs.Members.{member-append}
 
 -- ---- a place found
 
@@ -79,9 +80,6 @@ module _ {A : Type 0} where
       go true h = h
       go false h = refl
 
-member-append : (b : ℕ) (xs ys : List ℕ) → member b (xs ++ ys) ≡ not (all (λ x. not (eqb x b)) xs && all (λ x. not (eqb x b)) ys)
-member-append b xs ys = ap not (all-append (λ x. not (eqb x b)) xs ys)
-
 -- a number that is no member, put behind a list of different numbers
 pub distinct-snoc : (b : ℕ) (xs : List ℕ) → member b xs ≡ false → distinct xs ≡ true → distinct (xs ++ (b ∷ [])) ≡ true
 distinct-snoc b [] m d = refl
@@ -95,9 +93,5 @@ distinct-snoc b (x ∷ xs) m d = go (eqb x b) refl (member x xs) refl (distinct-
     go false e false f ih =
         let ne : eqb b x ≡ false = ne-eqb b x (λ q. eqb-false x b e (sym q)) in
         let r : distinct (xs ++ (b ∷ [])) ≡ true = ih (rw e at m) (rw f at d) in
-        let h : member x (xs ++ (b ∷ [])) ≡ false = member-append x xs (b ∷ []) ∙ rw (ne) (still (all (λ y. not (eqb y x)) xs) f) in
+        let h : member x (xs ++ (b ∷ [])) ≡ false = member-append x xs (b ∷ []) ∙ rw (f, ne) in
         rw (h, r)
-      where
-        still : (a : Bool) → not a ≡ false → not (a && true) ≡ false
-        still true q = refl
-        still false q = absurd (true≢false q)

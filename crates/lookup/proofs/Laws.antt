@@ -1,8 +1,9 @@
 -- The cases of a look-up. Assumes nothing.
-use Prim.Native.Nat.{ℕ, _+_}
+use Prim.Native.Nat.{ℕ, _≤_}
 use mathlib.Core.Path.{_≡_, refl, sym, ap, _∙_}
 use mathlib.Core.Bool.{Bool, true}
 use mathlib.Core.List.{List}
+use lib.ListN.{length}
 use Rattle.spec.specs.Inode.{isName, find, findEmpty}
 use Rattle.spec.specs.declared.Session.{Session}
 use Rattle.spec.specs.declared.Refusal.{Refusal}
@@ -11,6 +12,7 @@ use Rattle.spec.specs.Answers.{Result, refuse, accept, require, _>>_}
 use Rattle.spec.specs.Transaction.{stateOf, view}
 use Rattle.spec.specs.Calls.{lentOk, nameOk, sizeFits, isReady, known, emptyInode, fileOk, sizedOk}
 use Rattle.checks.specs.Checks.{namesOk, nameSizeOk}
+use Rattle.checks.proofs.Laws.{then-passed, named-says, names-say, sized-says}
 use Rattle.inode.specs.Records.{foundOf}
 use Rattle.inode.proofs.Laws.{found-at, found-nothing}
 use Rattle.inode.specs.declared.Found.the-variants.{At, Nothing}
@@ -99,3 +101,29 @@ module _ (s : Session) (d w name : List ℕ) where
     pub rename-fine : (t : Bool) → accept t ≡ namesOk (stateOf s d w) name new → unlessTaken (stateOf s d w) name new ≡ renameOk (stateOf s d w) name new
     unfolding renameOk
     rename-fine t e = rw (← e)
+
+-- ---- what a record that was found has shown: the length of the work space, and of a name or a size
+
+module _ (s : Session) (d w name : List ℕ) (i : ℕ) where
+  pub file-says : accept i ≡ fileOk (stateOf s d w) name → length w ≡ 16384
+  unfolding fileOk
+  file-says h =
+      let p = then-passed (nameOk (stateOf s d w) name) _ i h in
+      named-says s d w name (p .value) (p .first) .0
+
+  pub new-says : accept i ≡ newOk (stateOf s d w) name → (length w ≡ 16384) × (length name ≡ 8)
+  unfolding newOk
+  new-says h =
+      let p = then-passed (nameOk (stateOf s d w) name) _ i h in
+      named-says s d w name (p .value) (p .first)
+
+  pub rename-says : (new : List ℕ) → accept i ≡ renameOk (stateOf s d w) name new → (length w ≡ 16384) × (length new ≡ 8)
+  unfolding renameOk
+  rename-says new h =
+      let p = then-passed (namesOk (stateOf s d w) name new) _ i h in
+      names-say s d w name new (p .value) (p .first)
+
+  pub size-says : (size : ℕ) → accept i ≡ sizedOk (stateOf s d w) name size → (length w ≡ 16384) × (size ≤ 1048576)
+  size-says size h =
+      let p = then-passed (nameSizeOk (stateOf s d w) name size) (known (stateOf s d w) name) i (h ∙ sym (sized-parts s d w name size)) in
+      sized-says s d w name size (p .value) (p .first)

@@ -17,7 +17,7 @@ enum-told c = search needs
 
 advance-in-requires : tie.Need-advance-in-requires
 advance-in-requires c κs =
-    lent-says (c .before .before .before .before .before .before .before .args .session) (c .before .before .before .before .before .before .before .args .device .now) (c .before .before .before .before .before .before .before .args .work .now) (sym (ap resultOf (c .before .enum-told .given .1)) ∙ c .before .before .before .lent .ensures) .device
+    lent-says (c .before .before .before .before .before .before .before .args .session) (c .before .before .before .before .before .before .before .args .device .now) (c .before .before .before .before .before .before .before .args .work .now) _ (sym (ap resultOf (c .before .enum-told .given .1)) ∙ c .before .before .before .lent .ensures) .device
 
 same-length : tie.Need-same-length
 same-length c = search needs

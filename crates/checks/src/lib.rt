@@ -147,7 +147,14 @@ fn size_fits(x: usize, n: usize) -> bool
 }
 
 // 1, 2, 3, 4 and 12
-pub fn sized(device: &[u8], work: &[u8], session: Session, name: &[u8], x: usize, n: usize) -> Checked
+pub fn sized(
+    device: &[u8],
+    work: &[u8],
+    session: Session,
+    name: &[u8],
+    x: usize,
+    n: usize,
+) -> Checked
     ensures { λ r. ⌜ resultOf r ≡ nameSizeOk (stateOf session (now (device .entry)) (now (work .entry))) (now (name .entry)) (x + n) ⌝ }
 {
     let phase = session.phase;

@@ -51,7 +51,14 @@ pub fn look_up<'a>(device: &'a [u8], work: &'a [u8], session: Session, name: &[u
 }
 
 // 1, 2, 3, 4, 12 and 13, for n bytes at x
-pub fn look_up_sized<'a>(device: &'a [u8], work: &'a [u8], session: Session, name: &[u8], x: usize, n: usize) -> Looked
+pub fn look_up_sized<'a>(
+    device: &'a [u8],
+    work: &'a [u8],
+    session: Session,
+    name: &[u8],
+    x: usize,
+    n: usize,
+) -> Looked
     ensures { λ r. ⌜ (lookedOf r ≡ sizedOk (stateOf session (now (device .entry)) (now (work .entry))) (now (name .entry)) (x + n)) × InTable r ⌝ }
 {
     match sized(device, work, session, name, x, n) {
@@ -74,7 +81,13 @@ pub fn look_up_new<'a>(device: &'a [u8], work: &'a [u8], session: Session, name:
 }
 
 // 13 of a name and 14 of a new one
-fn renamed<'a>(device: &'a [u8], work: &'a [u8], session: Session, name: &[u8], new: &[u8]) -> Looked
+fn renamed<'a>(
+    device: &'a [u8],
+    work: &'a [u8],
+    session: Session,
+    name: &[u8],
+    new: &[u8],
+) -> Looked
     ensures { λ r. ⌜ (lookedOf r ≡ unlessTaken (stateOf session (now (device .entry)) (now (work .entry))) (now (name .entry)) (now (new .entry))) × InTable r ⌝ }
 {
     match find(device, work, session, name) {
@@ -87,7 +100,13 @@ fn renamed<'a>(device: &'a [u8], work: &'a [u8], session: Session, name: &[u8], 
 }
 
 // 1, 2, 3 of both names, 12, 13 and 14: the record to rename
-pub fn look_up_pair<'a>(device: &'a [u8], work: &'a [u8], session: Session, name: &[u8], new: &[u8]) -> Looked
+pub fn look_up_pair<'a>(
+    device: &'a [u8],
+    work: &'a [u8],
+    session: Session,
+    name: &[u8],
+    new: &[u8],
+) -> Looked
     ensures { λ r. ⌜ (lookedOf r ≡ renameOk (stateOf session (now (device .entry)) (now (work .entry))) (now (name .entry)) (now (new .entry))) × InTable r ⌝ }
 {
     match both_named(device, work, session, name, new) {

@@ -303,7 +303,7 @@ module _ (v : Disk) (tb : ℕ) (c : Growing) where
         rw y (let q : getElem? (e ∷ restRuns v tb d) (suc k) ≡ o = rw (s .runs) at h in q)
 
 -- no list has more runs than numbers
-runs-few : (xs : List ℕ) → length (runs xs) ≤ length xs
+pub runs-few : (xs : List ℕ) → length (runs xs) ≤ length xs
 unfolding runs
 runs-few [] = omega arith
 runs-few (x ∷ xs) = go (runs xs) (runs-few xs)

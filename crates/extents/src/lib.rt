@@ -169,7 +169,7 @@ pub enum RunStep {
 }
 
 // No run yet.
-fn growing_from(scan: Scan) -> Growing
+pub fn growing_from(scan: Scan) -> Growing
     ensures { λ r. ⌜ r ≡ growingFrom scan ⌝ }
 {
     let none = Extent { first: 0, count: 0 };

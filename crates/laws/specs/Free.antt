@@ -135,6 +135,13 @@ module _ (N : ℕ) (v : Disk) (low : dataStart ≤ N) (small : N ≤ mostBlocks)
       (total-add due dataStart (N - dataStart) (mostBlocks - N)
       ∙ ap₂ (λ (x y : ℕ). x + y) inside-due (ap (λ k. total due k (mostBlocks - N)) d ∙ ones-due N (mostBlocks - N) (λ b lo up i. omega arith)))
 
-  pub free-count : freeBits (bitsOf (v bitmapBlock)) ≡ freeBlocks N v
+  -- zero bits, blocks reached and the bits that S1 fixes are all the bits
+  all-bits : freeBits (bitsOf (v bitmapBlock)) + (dataStart + (length (reached v) + (mostBlocks - N))) ≡ mostBlocks
   unfolding bitCount
-  free-count = omega (arith, zeros-and-ones (bitsOf (v bitmapBlock)) (bits-binary (v bitmapBlock)), sum-due, parts, bit-count v whole)
+  all-bits = omega (arith, zeros-and-ones (bitsOf (v bitmapBlock)) (bits-binary (v bitmapBlock)), sum-due, parts, bit-count v whole)
+
+  pub free-count : freeBits (bitsOf (v bitmapBlock)) ≡ freeBlocks N v
+  free-count = omega (arith, all-bits)
+
+  pub reached-few : length (reached v) ≤ N - dataStart
+  reached-few = omega (arith, all-bits)

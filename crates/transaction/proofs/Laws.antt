@@ -130,7 +130,7 @@ unfolding stagedIn withStaged
 valid-in-phase N s p v = record { whole = ap (λ (t : Session). inPhase t p) (v .whole); few = v .few; listed = v .listed }
 
 -- numbers staged over fewer ones
-withStaged-twice : (t : Session) (old bs : List ℕ) → length old ≤ length bs → withStaged (withStaged t old) bs ≡ withStaged t bs
+pub withStaged-twice : (t : Session) (old bs : List ℕ) → length old ≤ length bs → withStaged (withStaged t old) bs ≡ withStaged t bs
 unfolding withStaged
 withStaged-twice t old bs h =
     let n = length bs - length old in

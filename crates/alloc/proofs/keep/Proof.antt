@@ -1,0 +1,83 @@
+use borrow.Author.Needs.{needs}
+use Prim.Native.Nat.{_-_}
+use native.Mathlib.Omega.{arith}
+use lib.ListN.{length, take}
+use Rattle.spec.specs.Transaction.{view, stateOf}
+use Rattle.alloc.specs.Parts.{dataAt}
+use Rattle.extents.specs.Stretches.{pending}
+use Rattle.extents.proofs.Laws.{on-piece, on-last, piece-less}
+use Rattle.alloc.proofs.Laws.{Keeping, keep-start, keep-more, keep-end}
+use Rattle.alloc.proofs.keep.Statement.{statement}
+use Rattle.alloc.proofs.keep.Tie as tie
+
+abbrev Inv-loop : tie.InvT-loop
+Inv-loop device work s i wanted tb scan₀ runs₀ count₀ scan runs count = Keeping (view (stateOf s device work)) tb (take wanted (dataAt (view (stateOf s device work)) i)) scan runs count
+
+abbrev μ-loop : tie.MeasureT-loop
+μ-loop device work s i wanted tb scan₀ runs₀ count₀ scan runs count = length (pending (view (stateOf s device work)) tb scan)
+
+table-block-requires : tie.Need-table-block-requires Inv-loop μ-loop
+table-block-requires c κs = search needs
+
+stretch-requires : tie.Need-stretch-requires Inv-loop μ-loop
+stretch-requires c κs = search needs
+
+no-runs-requires : tie.Need-no-runs-requires Inv-loop μ-loop
+no-runs-requires c κs = search needs
+
+loop-holds : tie.Need-loop-holds Inv-loop μ-loop
+loop-holds c = keep-start _ _ _ _ _ _ (c .before .before .table-block .ensures) (c .before .stretch .ensures) (c .no-runs .ensures .0) (c .no-runs .ensures .1)
+
+next-piece-requires : tie.Need-next-piece-requires Inv-loop μ-loop
+next-piece-requires c κs = search needs
+
+enum-known-e : tie.Need-enum-known-e Inv-loop μ-loop
+enum-known-e c = search needs
+
+push-requires : tie.Need-push-requires Inv-loop μ-loop
+push-requires c κs =
+    let k = c .before .before .before .before .loop .inv in
+    let s = on-piece _ _ _ _ _ _ (c .before .before .before .next-piece .ensures) (c .before .e .given .1) in
+    (omega (arith, k .small .count (c .before .before .before .before .loop .runs .len - 1), k .passed .room, s .room), omega (arith, k .small .len, k .passed .room), omega (arith, k .small .next, k .passed .room))
+
+cast-count : tie.Need-cast-count Inv-loop μ-loop
+cast-count c = search needs
+
+add-count : tie.Need-add-count Inv-loop μ-loop
+add-count c =
+    omega (arith, c .before .before .before .before .before .before .loop .inv .passed .room, on-piece _ _ _ _ _ _ (c .before .before .before .before .before .next-piece .ensures) (c .before .before .before .e .given .1) .room)
+
+loop-less : tie.Need-loop-less Inv-loop μ-loop
+loop-less c = piece-less _ _ _ _ _ (on-piece _ _ _ _ _ _ (c .before .before .before .before .before .next-piece .ensures) (c .before .before .before .e .given .1))
+
+loop-again : tie.Need-loop-again Inv-loop μ-loop
+loop-again c = keep-more _ _ _ _ _ _ (c .before .before .before .before .before .before .loop .inv) _ _ (on-piece _ _ _ _ _ _ (c .before .before .before .before .before .next-piece .ensures) (c .before .before .before .e .given .1)) _ (c .before .push .ensures)
+
+enum-told : tie.Need-enum-told Inv-loop μ-loop
+enum-told c = search needs
+
+returns : tie.Need-returns Inv-loop μ-loop
+returns c =
+    let k = c .before .before .before .loop .inv in
+    let e = on-last _ _ _ _ (c .before .before .next-piece .ensures) (c .enum-told .given .1) in
+    keep-end _ _ _ _ _ _ k e
+
+pub keep-spec : {M : Type 1} → statement M
+keep-spec =
+    tie.close
+    (tie.spec
+    Inv-loop
+    μ-loop
+    table-block-requires
+    stretch-requires
+    no-runs-requires
+    loop-holds
+    next-piece-requires
+    enum-known-e
+    push-requires
+    cast-count
+    add-count
+    loop-less
+    loop-again
+    enum-told
+    returns)

@@ -1,0 +1,308 @@
+// The plan of a change: the blocks wanted, refusals 16 and 17, the new tree and bitmap.
+use bitmap::Found;
+use bitmap::clear_bit;
+use bitmap::free_count;
+use bitmap::known;
+use bitmap::lowest_free_from;
+use bitmap::set_bit;
+use block::DiskBlock;
+use block::copy_of;
+use checks::Checked;
+use extents::Piece;
+use extents::next_piece;
+use extents::stretch;
+use inode::Cursor;
+use inode::Step;
+use inode::next;
+use inode::start;
+use inode::table_block;
+use runs::Runs;
+use runs::Tree;
+use runs::no_runs;
+use runs::push;
+use spec::Limits;
+use spec::Refusal;
+use spec::Session;
+use transaction::view_block;
+ghost use mathlib.Core.Path.{_≡_};
+ghost use Prim.Native.Nat.{_+_, _*_, _-_, _<_, _≤_};
+ghost use lib.ListN.{take, drop, set};
+ghost use Rattle.spec.specs.Bytes.{upFrom};
+ghost use Rattle.spec.specs.Bitmap.{bitsOf, freeBits, mark};
+ghost use Rattle.spec.specs.Inode.{nodesFor};
+ghost use Rattle.spec.specs.Transaction.{view, stateOf};
+ghost use Rattle.checks.specs.declared.Checked.the-variants.{Bad};
+ghost use Rattle.runs.specs.Push.{Small};
+ghost use Rattle.alloc.specs.Parts.{dataAt, nodesAt, Picked, KeptOf, GaveBack, TookData, HeldNodes, TookNodes};
+ghost use Rattle.alloc.specs.Draft.{Drafted};
+
+// "a file size of at most 1,048,576"
+const MAX_FILE_BLOCKS: usize = 2048;
+
+// 16, 17, or the tree after the change.
+pub struct Draft {
+    pub verdict: Checked,
+    pub tree: Tree,
+}
+
+// Data blocks that a file keeps: their extents, and how many they are.
+pub struct Kept {
+    pub runs: Runs,
+    pub count: usize,
+}
+
+// The nodes that a file holds.
+pub struct Nodes {
+    pub node: [u32; 4],
+    pub len: usize,
+}
+
+// The lowest free block taken, where no bit below word `from` is 0.
+fn pick(t: &mut [u8; 512], from: usize) -> u32
+    requires { ⌜ (freeBits (take (64 * from) (bitsOf (now t))) ≡ 0) × (0 < freeBits (bitsOf (now t))) ⌝ }
+    ensures { λ b. ⌜ Picked (now (t .entry)) (now (t .exit)) b ⌝ }
+{
+    match lowest_free_from(t, from) {
+        Found::At(b) => {
+            set_bit(t, b);
+            b
+        }
+        Found::Nothing => 0,
+    }
+}
+
+// Block b given back; one past the table's end changes nothing.
+fn release(t: &mut [u8; 512], b: u32)
+    ensures { λ _. ⌜ bitsOf (now (t .exit)) ≡ set (bitsOf (now (t .entry))) b 0 ⌝ }
+{
+    known(*t);
+    if b < 4096 {
+        clear_bit(t, b);
+    }
+}
+
+// n blocks from b on given back.
+fn release_run(t: &mut [u8; 512], b: u32, n: u32)
+    requires { ⌜ (b < 131072) × (n ≤ 2048) ⌝ }
+    ensures { λ _. ⌜ bitsOf (now (t .exit)) ≡ mark 0 (upFrom b n) (bitsOf (now (t .entry))) ⌝ }
+{
+    let mut k: u32 = 0;
+    while k < n {
+        release(t, b + k);
+        k += 1;
+    }
+}
+
+// The first `wanted` data blocks of record i.
+fn keep<'a>(device: &'a [u8], work: &'a [u8], s: Session, i: usize, wanted: usize) -> Kept
+    requires { ⌜ i < 128 ⌝ }
+    ensures { λ q. ⌜ KeptOf (dataAt (view (stateOf s (now (device .entry)) (now (work .entry)))) i) wanted q ⌝ }
+{
+    let tb = table_block(i);
+    let mut scan = stretch(device, work, s, i, 0, wanted);
+    let mut runs = no_runs();
+    let mut count: usize = 0;
+    loop {
+        match next_piece(device, work, s, tb, scan) {
+            Piece::Blocks(e, then) => {
+                let more = push(runs, e.first, e.count);
+                runs = more;
+                count += e.count as usize;
+                scan = then;
+            }
+            Piece::End => {
+                return Kept {
+                    runs: runs,
+                    count: count,
+                };
+            }
+        }
+    }
+}
+
+// The data blocks of record i from block `from` on given back; how many.
+fn give_back<'a>(
+    t: &mut [u8; 512],
+    device: &'a [u8],
+    work: &'a [u8],
+    s: Session,
+    i: usize,
+    from: usize,
+) -> usize
+    requires { ⌜ i < 128 ⌝ }
+    ensures { λ n. ⌜ GaveBack (drop from (dataAt (view (stateOf s (now (device .entry)) (now (work .entry)))) i)) (now (t .entry)) (now (t .exit)) n ⌝ }
+{
+    let tb = table_block(i);
+    let mut scan = stretch(device, work, s, i, from, MAX_FILE_BLOCKS);
+    let mut count: usize = 0;
+    loop {
+        match next_piece(device, work, s, tb, scan) {
+            Piece::Blocks(e, then) => {
+                release_run(t, e.first, e.count);
+                count += e.count as usize;
+                scan = then;
+            }
+            Piece::End => {
+                return count;
+            }
+        }
+    }
+}
+
+// n blocks picked in turn, behind those that the file keeps.
+fn take_data(t: &mut [u8; 512], kept: Kept, n: usize) -> Runs
+    requires { ⌜ Small (kept .runs) (kept .count) × (kept .count ≤ 2048) × (n ≤ freeBits (bitsOf (now t))) × (n ≤ 4096) ⌝ }
+    ensures { λ q. ⌜ TookData (now (t .entry)) (now (t .exit)) kept n q ⌝ }
+{
+    let mut runs = kept.runs;
+    let mut from: usize = 0;
+    let mut k: usize = 0;
+    while k < n {
+        let b = pick(t, from);
+        let more = push(runs, b, 1);
+        runs = more;
+        from = (b / 64) as usize;
+        k += 1;
+    }
+    runs
+}
+
+// The nodes of record i. A cursor with no leaf slots left steps from node to node.
+fn held_nodes<'a>(device: &'a [u8], work: &'a [u8], s: Session, i: usize) -> Nodes
+    requires { ⌜ i < 128 ⌝ }
+    ensures { λ q. ⌜ HeldNodes (nodesAt (view (stateOf s (now (device .entry)) (now (work .entry)))) i) q ⌝ }
+{
+    let tb = table_block(i);
+    let mut at = start(device, work, s, i);
+    let mut node = [0u32; 4];
+    let mut len: usize = 0;
+    loop {
+        let top = Cursor {
+            block: 0,
+            at: 0,
+            left: 0,
+            top: at.top,
+            tops: at.tops,
+        };
+        match next(device, work, s, tb, top) {
+            Step::Leaf(_, then) => {
+                at = then;
+            }
+            Step::Node(b, then) => {
+                node[len] = b;
+                len += 1;
+                at = then;
+            }
+            Step::End => {
+                return Nodes {
+                    node: node,
+                    len: len,
+                };
+            }
+        }
+    }
+}
+
+// "one for each 128 extents begun, when there are more than 4"
+fn nodes_for(extents: usize) -> usize
+    requires { ⌜ extents < 1000000 ⌝ }
+    ensures { λ r. ⌜ (r ≡ nodesFor extents) × (128 * r ≤ extents + 127) ⌝ }
+{
+    if extents <= 4 {
+        return 0;
+    }
+    (extents + 127) / 128
+}
+
+// The first `wanted` of the nodes held, and behind them those that they lack, picked in turn.
+fn take_nodes(t: &mut [u8; 512], held: Nodes, wanted: usize) -> [u32; 4]
+    requires { ⌜ (wanted ≤ 4) × (held .len ≤ 4) × (wanted - held .len ≤ freeBits (bitsOf (now t))) ⌝ }
+    ensures { λ q. ⌜ TookNodes (now (t .entry)) (now (t .exit)) held wanted q ⌝ }
+{
+    let mut node = held.node;
+    let mut k = held.len;
+    while k < wanted {
+        let b = pick(t, 0);
+        node[k] = b;
+        k += 1;
+    }
+    node
+}
+
+// The nodes held behind the first `wanted` given back.
+fn give_nodes(t: &mut [u8; 512], held: Nodes, wanted: usize)
+    requires { ⌜ held .len ≤ 4 ⌝ }
+    ensures { λ _. ⌜ bitsOf (now (t .exit)) ≡ mark 0 (drop wanted (take (held .len) (held .node))) (bitsOf (now (t .entry))) ⌝ }
+{
+    let node = held.node;
+    let mut k = wanted;
+    while k < held.len {
+        release(t, node[k]);
+        k += 1;
+    }
+}
+
+fn minus(a: usize, b: usize) -> usize
+    ensures { λ r. ⌜ r ≡ a - b ⌝ }
+{
+    if a < b { 0 } else { a - b }
+}
+
+// A refusal; its tree means nothing.
+fn refused(why: Refusal) -> Draft
+    ensures { λ d. ⌜ d .verdict ≡ Bad why ⌝ }
+{
+    let none = no_runs();
+    let tree = Tree {
+        table: [0u8; 512],
+        runs: none,
+        node: [0u32; 4],
+        nodes: 0,
+        before: 0,
+        held: 0,
+    };
+    Draft {
+        verdict: Checked::Bad(why),
+        tree: tree,
+    }
+}
+
+// The tree of record i with so many data blocks, or 16 or 17.
+pub fn draft_of<'a>(device: &'a [u8], work: &'a [u8], s: Session, i: usize, wanted: usize) -> Draft
+    requires { ⌜ (i < 128) × (wanted ≤ 8388608) ⌝ }
+    ensures { λ d. ⌜ Drafted (view (stateOf s (now (device .entry)) (now (work .entry)))) i wanted d ⌝ }
+{
+    let mut table = copy_of(view_block(device, work, s, DiskBlock(33)));
+    let free = free_count(&table);
+    let kept = keep(device, work, s, i, wanted);
+    let fresh = wanted - kept.count;
+    if free < fresh {
+        return refused(Refusal::NoSpace);
+    }
+    let runs = take_data(&mut table, kept, fresh);
+    let held = held_nodes(device, work, s, i);
+    let nodes = nodes_for(runs.len);
+    let lacking = minus(nodes, held.len);
+    if free < fresh + lacking {
+        return refused(Refusal::NoSpace);
+    }
+    if Limits::MAX_EXTENTS < runs.len {
+        return refused(Refusal::TooManyExtents);
+    }
+    let node = take_nodes(&mut table, held, nodes);
+    let dropped = give_back(&mut table, device, work, s, i, wanted);
+    give_nodes(&mut table, held, nodes);
+    known(table);
+    let tree = Tree {
+        table: table,
+        runs: runs,
+        node: node,
+        nodes: nodes,
+        before: held.len,
+        held: kept.count + dropped,
+    };
+    Draft {
+        verdict: Checked::Fine,
+        tree: tree,
+    }
+}

@@ -1,0 +1,196 @@
+-- Laws of the content of blocks after a change. Assumes nothing.
+use Prim.Native.Nat.{ℕ, zero, suc, _+_, _*_, _-_, _/_, _%_, _<_, _≤_, min}
+use mathlib.Core.Path.{_≡_, refl, sym, ap, _∙_}
+use mathlib.Core.Bool.{Bool, true, false, cond, not, _&&_, true≢false}
+use mathlib.Core.List.{List, [], _∷_, _++_, append-assoc, append-nil}
+use native.Mathlib.Omega.{arith}
+use native.Mathlib.Nat.{add-zero, sub-zero}
+use native.Mathlib.Numerals.{add-one}
+use borrow.Author.Tests.{eqb-true, eqb-false, le-leb, lt-leb, lt-ltb, le-ltb, ltb-true}
+use lib.Dec.{eqb, leb, ltb}
+use lib.ListN.{length, take, drop, getD, set, length-set, length-append, drop-of-length-le}
+use lib.Seq.{paste, paste-zero, paste-suc, take-suc-set, take-all, drop-cons, append-snoc}
+use Rattle.spec.specs.Bytes.{exactly, patch, zeros, bytes2}
+use Rattle.spec.specs.declared.Extent.{Extent}
+use Rattle.spec.specs.Inode.{extent, placeOfInode, bytesOfSlots, nodeBytes}
+use Rattle.spec.specs.Plan.{overlay, clearTail, isLastKept, newContent}
+use Rattle.runs.specs.declared.Runs.{Runs}
+use Rattle.runs.specs.Runs.{extentsFrom, listed}
+use Rattle.block.proofs.Laws.{exactly-nil}
+use Rattle.content.specs.Content.{withRecord, nodeContent, laidOver, cutTo, keptContent, dataContent}
+
+-- ---- a record
+
+-- the first k bytes of a record laid over a block
+unfoldable pub laidTo : ℕ → List ℕ → ℕ → List ℕ → List ℕ
+laidTo at new k old = paste old at new k
+
+pub laid-none : (at : ℕ) (new old : List ℕ) → old ≡ laidTo at new 0 old
+unfolding laidTo
+laid-none at new old = paste-zero old at new
+
+pub laid-more : (at k : ℕ) (q new old : List ℕ) → q ≡ laidTo at new k old → at + k < length old → k < length new
+    → set q (at + k) (getD new k 0) ≡ laidTo at new (k + 1) old
+unfolding laidTo
+laid-more at k q new old e h l = rw (add-one k, ← paste-suc old at new k 0 h l, e)
+
+pub laid-all : (i at k : ℕ) (q new old : List ℕ) → at ≡ 32 * (i % 16) → k ≡ length new → q ≡ laidTo at new k old → q ≡ withRecord i new old
+unfolding laidTo withRecord
+laid-all i at k q new old ea ek e =
+    e ∙ rw (ek, take-all (length new) new (omega arith), ea) (append-assoc (take (32 * (i % 16)) old) new (drop (32 * (i % 16) + length new) old))
+
+-- ---- a node
+
+unfoldable pub filled : List ℕ → List ℕ
+filled xs = exactly 512 xs
+
+set-exactly : (n : ℕ) (xs : List ℕ) (a : ℕ) → set (exactly n xs) (length xs) a ≡ exactly n (xs ++ (a ∷ []))
+set-exactly zero xs a = refl
+set-exactly (suc n) [] a = refl
+set-exactly (suc n) (x ∷ xs) a = ap (λ (l : List ℕ). x ∷ l) (set-exactly n xs a)
+
+set-filled : (n : ℕ) (xs : List ℕ) (a : ℕ) → n ≡ length xs → set (filled xs) n a ≡ filled (xs ++ (a ∷ []))
+unfolding filled
+set-filled n xs a e = rw e (set-exactly 512 xs a)
+
+-- four bytes stored behind xs
+filled-more : (n : ℕ) (xs : List ℕ) (a b c d : ℕ) → n ≡ length xs
+    → set (set (set (set (filled xs) n a) (n + 1) b) (n + 2) c) (n + 3) d ≡ filled (xs ++ (a ∷ b ∷ c ∷ d ∷ []))
+filled-more n xs a b c d e =
+    let l1 : n + 1 ≡ length (xs ++ (a ∷ [])) = simp length-append (omega arith) in
+    let l2 : n + 2 ≡ length ((xs ++ (a ∷ [])) ++ (b ∷ [])) = simp length-append (omega arith) in
+    let l3 : n + 3 ≡ length (((xs ++ (a ∷ [])) ++ (b ∷ [])) ++ (c ∷ [])) = simp length-append (omega arith) in
+    rw (set-filled n xs a e, set-filled (n + 1) (xs ++ (a ∷ [])) b l1, set-filled (n + 2) ((xs ++ (a ∷ [])) ++ (b ∷ [])) c l2,
+    set-filled (n + 3) (((xs ++ (a ∷ [])) ++ (b ∷ [])) ++ (c ∷ [])) d l3)
+    (ap filled (simp append-assoc))
+
+bytes-append : (xs ys : List Extent) → bytesOfSlots (xs ++ ys) ≡ bytesOfSlots xs ++ bytesOfSlots ys
+bytes-append [] ys = refl
+bytes-append (x ∷ xs) ys = simp (bytes-append xs ys, append-assoc)
+
+length-bytes : (es : List Extent) → length (bytesOfSlots es) ≡ 4 * length es
+length-bytes [] = refl
+length-bytes (e ∷ es) = let h = length-bytes es in omega arith
+
+module _ (fs cs : List ℕ) where
+  pub length-extents : (k n : ℕ) → length (extentsFrom fs cs k n) ≡ n
+  unfolding extentsFrom
+  length-extents k zero = refl
+  length-extents k (suc n) = ap suc (length-extents (suc k) n)
+
+  pub extents-more : (k n j : ℕ) → k + n ≡ j → extentsFrom fs cs k (suc n) ≡ extentsFrom fs cs k n ++ (extent (getD fs j 0) (getD cs j 0) ∷ [])
+  unfolding extentsFrom
+  extents-more k zero j e = let z : k ≡ j = omega arith in rw z
+  extents-more k (suc n) j e = ap (λ (l : List Extent). extent (getD fs k 0) (getD cs k 0) ∷ l) (extents-more (suc k) n j (omega arith))
+
+  pub extents-drop : (m k n : ℕ) → drop m (extentsFrom fs cs k n) ≡ extentsFrom fs cs (m + k) (n - m)
+  unfolding extentsFrom
+  extents-drop zero k n = let z : n - 0 ≡ n = omega arith in let y : 0 + k ≡ k = omega arith in rw (z, y)
+  extents-drop (suc m) k zero = let z : zero - suc m ≡ 0 = omega arith in rw z
+  extents-drop (suc m) k (suc n) =
+      let z : suc n - suc m ≡ n - m = omega arith in
+      let y : m + suc k ≡ suc m + k = omega arith in
+      rw z (extents-drop m (suc k) n ∙ ap (λ (j : ℕ). extentsFrom fs cs j (n - m)) y)
+
+  pub extents-take : (m k n : ℕ) → take m (extentsFrom fs cs k n) ≡ extentsFrom fs cs k (min m n)
+  unfolding extentsFrom
+  extents-take zero k n = let z : min 0 n ≡ 0 = omega arith in rw z
+  extents-take (suc m) k zero = let z : min (suc m) 0 ≡ 0 = omega arith in rw z
+  extents-take (suc m) k (suc n) =
+      let z : min (suc m) (suc n) ≡ suc (min m n) = omega arith in
+      rw z (ap (λ (l : List Extent). extent (getD fs k 0) (getD cs k 0) ∷ l) (extents-take m (suc k) n))
+
+  -- one more slot
+  pub slots-more : (out : List ℕ) (at k : ℕ) → out ≡ filled (bytesOfSlots (extentsFrom fs cs at k))
+      → (f c : ℕ) → f ≡ getD fs (at + k) 0 → c ≡ getD cs (at + k) 0
+      → set (set (set (set out (4 * k) (f % 256)) (4 * k + 1) (f / 256 % 256)) (4 * k + 2) (c % 256)) (4 * k + 3) (c / 256 % 256)
+      ≡ filled (bytesOfSlots (extentsFrom fs cs at (k + 1)))
+  slots-more out at k e f c p q =
+      let l : 4 * k ≡ length (bytesOfSlots (extentsFrom fs cs at k)) = omega (arith, length-bytes (extentsFrom fs cs at k), length-extents at k) in
+      rw (e, filled-more (4 * k) (bytesOfSlots (extentsFrom fs cs at k)) (f % 256) (f / 256 % 256) (c % 256) (c / 256 % 256) l, add-one k,
+      extents-more at k (at + k) refl, p, q)
+      (ap filled (sym (bytes-append (extentsFrom fs cs at k) (extent (getD fs (at + k) 0) (getD cs (at + k) 0) ∷ []))))
+
+pub slots-none : (fs cs : List ℕ) (at : ℕ) → filled [] ≡ filled (bytesOfSlots (extentsFrom fs cs at 0))
+unfolding extentsFrom
+slots-none fs cs at = refl
+
+pub slots-all : (r : Runs) (j k : ℕ) (out : List ℕ) → k ≡ min 128 (r .len - 128 * j) → out ≡ filled (bytesOfSlots (extentsFrom (r .first) (r .count) (128 * j) k))
+    → out ≡ nodeContent r j
+unfolding nodeContent filled listed
+slots-all r j k out ek e =
+    e ∙ rw (extents-drop (r .first) (r .count) (128 * j) 0 (r .len), extents-take (r .first) (r .count) 128 (128 * j + 0) (r .len - 128 * j), add-zero (128 * j), ek)
+
+-- ---- a data block
+
+pub over-before : (x at n : ℕ) (b o : ℕ) → at < x → o ≡ cond (leb x at && ltb at (x + n)) b o
+over-before x at n b o h = rw (lt-leb x at h)
+
+pub over-behind : (x at n : ℕ) (b o : ℕ) → x ≤ at → x + n ≤ at → o ≡ cond (leb x at && ltb at (x + n)) b o
+over-behind x at n b o h l = rw (le-leb x at h, le-ltb at (x + n) l)
+
+pub over-in : (x at n : ℕ) (b o : ℕ) → x ≤ at → at < x + n → b ≡ cond (leb x at && ltb at (x + n)) b o
+over-in x at n b o h l = rw (le-leb x at h, lt-ltb at (x + n) l)
+
+-- the first k bytes are done
+pub record OverTo (x : ℕ) (bytes : List ℕ) (p : ℕ) (old q : List ℕ) (k : ℕ) : Type 0 where
+  pub long : length q ≡ 512
+  pub whole : length old ≡ 512
+  pub is : laidOver x bytes p old ≡ take k q ++ overlay x bytes (512 * p + k) (drop k old)
+
+module _ (x : ℕ) (bytes : List ℕ) (p : ℕ) (old : List ℕ) where
+  pub over-start : length old ≡ 512 → OverTo x bytes p old old 0
+  unfolding laidOver
+  over-start l = record { long = l; whole = l; is = rw (add-zero (512 * p)) }
+
+  module _ (q : List ℕ) (k : ℕ) (h : OverTo x bytes p old q k) where
+    pub over-more : (b : ℕ) → k < 512
+        → b ≡ cond (leb x (512 * p + k) && ltb (512 * p + k) (x + length bytes)) (getD bytes (512 * p + k - x) 0) (getD old k 0)
+        → OverTo x bytes p old (set q k b) (k + 1)
+    over-more b l e =
+        let z : 512 * p + (k + 1) ≡ suc (512 * p + k) = omega arith in
+        let d : drop k old ≡ getD old k 0 ∷ drop (suc k) old = drop-cons old k 0 (omega (arith, h .whole)) in
+        let t : take (suc k) (set q k b) ≡ take k q ++ (b ∷ []) = take-suc-set q k b (omega (arith, h .long)) in
+        record {
+          long = simp length-set (h .long);
+          whole = h .whole;
+          is = h .is ∙ rw (z, add-one k, t, d, ← e) (sym (append-snoc (take k q) b (overlay x bytes (suc (512 * p + k)) (drop (suc k) old))));
+        }
+
+    pub over-end : 512 ≤ k → q ≡ laidOver x bytes p old
+    over-end l =
+        let d : drop k old ≡ [] = drop-of-length-le old {i = k} (omega (arith, h .whole)) in
+        let t : take k q ≡ q = take-all k q (omega (arith, h .long)) in
+        sym (h .is ∙ rw (d, t) (append-nil q))
+
+pub cut-is : (n : ℕ) (old q : List ℕ) → q ≡ exactly 512 (take (n - 0) old) → q ≡ cutTo n old
+unfolding cutTo
+cut-is n old q e = e ∙ ap (λ (m : ℕ). exactly 512 (take m old)) (sub-zero n)
+
+-- the size of the last kept block
+last-kept : (oldSize size p : ℕ) → isLastKept oldSize size p ≡ true → size - 512 * p ≡ size % 512
+last-kept oldSize size p h = go (ltb size oldSize) (eqb (size % 512) 0) (eqb p (size / 512)) refl refl refl
+  where
+    go : (a b c : Bool) → ltb size oldSize ≡ a → eqb (size % 512) 0 ≡ b → eqb p (size / 512) ≡ c → size - 512 * p ≡ size % 512
+    go a b true ea eb ec = let e = eqb-true p (size / 512) ec in omega arith
+    go true true false ea eb ec = let z : false ≡ true = rw (ea, eb) at h in absurd (true≢false (sym z))
+    go true false false ea eb ec = let z : false ≡ true = rw (ea, eb, ec) at h in absurd (true≢false (sym z))
+    go false b false ea eb ec = let z : false ≡ true = rw ea at h in absurd (true≢false (sym z))
+
+module _ (held oldSize size p : ℕ) (old : List ℕ) where
+  pub kept-new : held ≤ p → zeros 512 ≡ keptContent held oldSize size p old
+  unfolding keptContent
+  kept-new h = rw (le-leb held p h)
+
+  pub kept-cut : p < held → isLastKept oldSize size p ≡ true → (q : List ℕ) → q ≡ cutTo (size % 512) old → q ≡ keptContent held oldSize size p old
+  unfolding keptContent cutTo
+  kept-cut h l q e = e ∙ rw (lt-leb held p h, l, last-kept oldSize size p l)
+
+  pub kept-same : p < held → isLastKept oldSize size p ≡ false → old ≡ keptContent held oldSize size p old
+  unfolding keptContent
+  kept-same h l = rw (lt-leb held p h, l)
+
+pub data-is : (held oldSize size x : ℕ) (bytes : List ℕ) (p : ℕ) (old kept q : List ℕ) → kept ≡ keptContent held oldSize size p old → q ≡ laidOver x bytes p kept
+    → q ≡ dataContent held oldSize size x bytes p old
+unfolding keptContent laidOver dataContent
+data-is held oldSize size x bytes p old kept q ek eq = eq ∙ rw ek

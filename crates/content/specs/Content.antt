@@ -1,0 +1,34 @@
+-- The content of blocks after a change, sealed, for the contracts of this crate.
+use Prim.Native.Nat.{ℕ, _*_}
+use mathlib.Core.Bool.{cond}
+use mathlib.Core.List.{List}
+use lib.ListN.{take, drop}
+use lib.Dec.{leb}
+use Rattle.spec.specs.Bytes.{exactly, patch, zeros}
+use Rattle.spec.specs.Inode.{placeOfInode, nodeBytes}
+use Rattle.spec.specs.Plan.{overlay, clearTail, isLastKept, newContent}
+use Rattle.runs.specs.declared.Runs.{Runs}
+use Rattle.runs.specs.Runs.{listed}
+
+-- the block of record i with the record's bytes replaced
+unfoldable pub withRecord : ℕ → List ℕ → List ℕ → List ℕ
+withRecord i new old = patch (placeOfInode i) new old
+
+-- node j of a tree with these extents
+unfoldable pub nodeContent : Runs → ℕ → List ℕ
+nodeContent r j = nodeBytes (take 128 (drop (128 * j) (listed r)))
+
+-- the bytes from x on laid over block p of a file
+unfoldable pub laidOver : ℕ → List ℕ → ℕ → List ℕ → List ℕ
+laidOver x bytes p old = overlay x bytes (512 * p) old
+
+-- the first n bytes of a block, and zeros
+unfoldable pub cutTo : ℕ → List ℕ → List ℕ
+cutTo n old = exactly 512 (take n old)
+
+-- what they are laid over
+unfoldable pub keptContent : ℕ → ℕ → ℕ → ℕ → List ℕ → List ℕ
+keptContent held oldSize size p old = cond (leb held p) (zeros 512) (cond (isLastKept oldSize size p) (clearTail size p old) old)
+
+unfoldable pub dataContent : ℕ → ℕ → ℕ → ℕ → List ℕ → ℕ → List ℕ → List ℕ
+dataContent held oldSize size x bytes p old = newContent held oldSize size x bytes p old

@@ -1,0 +1,162 @@
+// The content of a block after a change: a file record's block, a node, a data block.
+use block::copy_of;
+use runs::Runs;
+use spec::Limits;
+ghost use mathlib.Core.Path.{_≡_};
+ghost use mathlib.Core.Bool.{cond, _&&_};
+ghost use Prim.Native.Nat.{_+_, _*_, _-_, _<_, _≤_, min};
+ghost use lib.ListN.{length, getD};
+ghost use lib.Dec.{leb, ltb};
+ghost use Rattle.spec.specs.Plan.{isLastKept, holdsData, isStaged};
+ghost use Rattle.content.specs.Content.{withRecord, nodeContent, laidOver, cutTo, keptContent, dataContent};
+
+// The block of file record i with the record's bytes replaced.
+pub fn with_record(old: [u8; 512], i: usize, new: [u8; 32]) -> [u8; 512]
+    ensures { λ q. ⌜ q ≡ withRecord i new old ⌝ }
+{
+    let at = 32 * (i % 16);
+    let mut q = old;
+    let mut k: usize = 0;
+    while k < 32 {
+        q[at + k] = new[k];
+        k += 1;
+    }
+    q
+}
+
+// How many of so many extents stand in node j.
+fn slots_in(len: usize, j: usize) -> usize
+    requires { ⌜ j < 4 ⌝ }
+    ensures { λ n. ⌜ n ≡ min 128 (len - 128 * j) ⌝ }
+{
+    let start = 128 * j;
+    if len <= start {
+        return 0;
+    }
+    if 128 < len - start {
+        return 128;
+    }
+    len - start
+}
+
+// The content of node j.
+pub fn node_content(r: Runs, j: usize) -> [u8; 512]
+    requires { ⌜ (r .len ≤ 512) × (j < 4) ⌝ }
+    ensures { λ q. ⌜ q ≡ nodeContent r j ⌝ }
+{
+    let firsts = r.first;
+    let counts = r.count;
+    let start = 128 * j;
+    let n = slots_in(r.len, j);
+    let mut out = [0u8; 512];
+    let mut k: usize = 0;
+    while k < n {
+        let f = firsts[start + k];
+        let c = counts[start + k];
+        let at = 4 * k;
+        out[at] = (f % 256) as u8;
+        out[at + 1] = (f / 256 % 256) as u8;
+        out[at + 2] = (c % 256) as u8;
+        out[at + 3] = (c / 256 % 256) as u8;
+        k += 1;
+    }
+    out
+}
+
+// The byte at a place of the file: the data's where the data has one there, else the old one.
+fn byte_over(x: usize, bytes: &[u8], at: usize, old: u8) -> u8
+    requires { ⌜ x + length (now bytes) ≤ 1048576 ⌝ }
+    ensures { λ r. ⌜ r ≡ cond (leb x at && ltb at (x + length (now (bytes .entry)))) (getD (now (bytes .entry)) (at - x) 0) old ⌝ }
+{
+    if at < x {
+        return old;
+    }
+    if x + bytes.len() <= at {
+        return old;
+    }
+    bytes[at - x]
+}
+
+// The data from place x of the file on, laid over the file's block p.
+fn lay_over(old: [u8; 512], x: usize, bytes: &[u8], p: usize) -> [u8; 512]
+    requires { ⌜ (p < 4294967296) × (x + length (now bytes) ≤ 1048576) ⌝ }
+    ensures { λ q. ⌜ q ≡ laidOver x (now (bytes .entry)) p old ⌝ }
+{
+    let start = Limits::BLOCK_SIZE * p;
+    let mut q = old;
+    let mut k: usize = 0;
+    while k < Limits::BLOCK_SIZE {
+        q[k] = byte_over(x, bytes, start + k, old[k]);
+        k += 1;
+    }
+    q
+}
+
+// "on shortening to a size not divisible by 512, the last kept block"
+fn is_last_kept(was: usize, size: usize, p: usize) -> bool
+    ensures { λ r. ⌜ r ≡ isLastKept was size p ⌝ }
+{
+    (size < was) & !(size % Limits::BLOCK_SIZE == 0) & (p == size / Limits::BLOCK_SIZE)
+}
+
+// "each data block holding a byte of the data"
+fn holds_data(x: usize, bytes: &[u8], p: usize) -> bool
+    requires { ⌜ (p < 4294967296) × (x + length (now bytes) ≤ 1048576) ⌝ }
+    ensures { λ r. ⌜ r ≡ holdsData x (now (bytes .entry)) p ⌝ }
+{
+    let n = bytes.len();
+    (0 < n) & (x < Limits::BLOCK_SIZE * (p + 1)) & (Limits::BLOCK_SIZE * p < x + n)
+}
+
+// "each data block holding a byte of the data; each new data .. block; .. the last kept block"
+pub fn is_staged(
+    held: usize,
+    was: usize,
+    size: usize,
+    x: usize,
+    bytes: &[u8],
+    p: usize,
+) -> bool
+    requires { ⌜ (p < 4294967296) × (x + length (now bytes) ≤ 1048576) ⌝ }
+    ensures { λ r. ⌜ r ≡ isStaged held was size x (now (bytes .entry)) p ⌝ }
+{
+    (held <= p) | holds_data(x, bytes, p) | is_last_kept(was, size, p)
+}
+
+// The first n bytes, and zeros.
+fn cut_to(old: [u8; 512], n: usize) -> [u8; 512]
+    requires { ⌜ n ≤ 512 ⌝ }
+    ensures { λ q. ⌜ q ≡ cutTo n old ⌝ }
+{
+    let bytes: &[u8] = &old;
+    copy_of(&bytes[0..n])
+}
+
+// Block p of the file before the data is laid over it: a new one is zeros, in the last kept one the bytes from the size on are.
+fn kept_content(held: usize, was: usize, size: usize, p: usize, old: [u8; 512]) -> [u8; 512]
+    ensures { λ q. ⌜ q ≡ keptContent held was size p old ⌝ }
+{
+    if held <= p {
+        return [0u8; 512];
+    }
+    if is_last_kept(was, size, p) {
+        return cut_to(old, size % Limits::BLOCK_SIZE);
+    }
+    old
+}
+
+// Block p of the file after the change.
+pub fn data_content(
+    held: usize,
+    was: usize,
+    size: usize,
+    x: usize,
+    bytes: &[u8],
+    p: usize,
+    old: [u8; 512],
+) -> [u8; 512]
+    requires { ⌜ (p < 4294967296) × (x + length (now bytes) ≤ 1048576) ⌝ }
+    ensures { λ q. ⌜ q ≡ dataContent held was size x (now (bytes .entry)) p old ⌝ }
+{
+    lay_over(kept_content(held, was, size, p, old), x, bytes, p)
+}

@@ -1,22 +1,21 @@
 -- Laws of the content of blocks after a change. Assumes nothing.
 use Prim.Native.Nat.{ℕ, zero, suc, _+_, _*_, _-_, _/_, _%_, _<_, _≤_, min}
 use mathlib.Core.Path.{_≡_, refl, sym, ap, _∙_}
-use mathlib.Core.Bool.{Bool, true, false, cond, not, _&&_, true≢false}
+use mathlib.Core.Bool.{Bool, true, false, cond, _&&_, true≢false}
 use mathlib.Core.List.{List, [], _∷_, _++_, append-assoc, append-nil}
 use native.Mathlib.Omega.{arith}
 use native.Mathlib.Nat.{add-zero, sub-zero}
 use native.Mathlib.Numerals.{add-one}
-use borrow.Author.Tests.{eqb-true, eqb-false, le-leb, lt-leb, lt-ltb, le-ltb, ltb-true}
+use borrow.Author.Tests.{eqb-true, le-leb, lt-leb, lt-ltb, le-ltb}
 use lib.Dec.{eqb, leb, ltb}
 use lib.ListN.{length, take, drop, getD, set, length-set, length-append, drop-of-length-le}
 use lib.Seq.{paste, paste-zero, paste-suc, take-suc-set, take-all, drop-cons, append-snoc}
-use Rattle.spec.specs.Bytes.{exactly, patch, zeros, bytes2}
+use Rattle.spec.specs.Bytes.{exactly, zeros}
 use Rattle.spec.specs.declared.Extent.{Extent}
-use Rattle.spec.specs.Inode.{extent, placeOfInode, bytesOfSlots, nodeBytes}
-use Rattle.spec.specs.Plan.{overlay, clearTail, isLastKept, newContent}
+use Rattle.spec.specs.Inode.{extent, bytesOfSlots}
+use Rattle.spec.specs.Plan.{overlay, isLastKept}
 use Rattle.runs.specs.declared.Runs.{Runs}
 use Rattle.runs.specs.Runs.{extentsFrom, listed}
-use Rattle.block.proofs.Laws.{exactly-nil}
 use Rattle.content.specs.Content.{withRecord, nodeContent, laidOver, cutTo, keptContent, dataContent}
 
 -- ---- a record
@@ -60,8 +59,12 @@ filled-more n xs a b c d e =
     let l1 : n + 1 ≡ length (xs ++ (a ∷ [])) = simp length-append (omega arith) in
     let l2 : n + 2 ≡ length ((xs ++ (a ∷ [])) ++ (b ∷ [])) = simp length-append (omega arith) in
     let l3 : n + 3 ≡ length (((xs ++ (a ∷ [])) ++ (b ∷ [])) ++ (c ∷ [])) = simp length-append (omega arith) in
-    rw (set-filled n xs a e, set-filled (n + 1) (xs ++ (a ∷ [])) b l1, set-filled (n + 2) ((xs ++ (a ∷ [])) ++ (b ∷ [])) c l2,
-    set-filled (n + 3) (((xs ++ (a ∷ [])) ++ (b ∷ [])) ++ (c ∷ [])) d l3)
+    rw (
+      set-filled n xs a e,
+      set-filled (n + 1) (xs ++ (a ∷ [])) b l1,
+      set-filled (n + 2) ((xs ++ (a ∷ [])) ++ (b ∷ [])) c l2,
+      set-filled (n + 3) (((xs ++ (a ∷ [])) ++ (b ∷ [])) ++ (c ∷ [])) d l3,
+    )
     (ap filled (simp append-assoc))
 
 bytes-append : (xs ys : List Extent) → bytesOfSlots (xs ++ ys) ≡ bytesOfSlots xs ++ bytesOfSlots ys
@@ -107,8 +110,14 @@ module _ (fs cs : List ℕ) where
       ≡ filled (bytesOfSlots (extentsFrom fs cs at (k + 1)))
   slots-more out at k e f c p q =
       let l : 4 * k ≡ length (bytesOfSlots (extentsFrom fs cs at k)) = omega (arith, length-bytes (extentsFrom fs cs at k), length-extents at k) in
-      rw (e, filled-more (4 * k) (bytesOfSlots (extentsFrom fs cs at k)) (f % 256) (f / 256 % 256) (c % 256) (c / 256 % 256) l, add-one k,
-      extents-more at k (at + k) refl, p, q)
+      rw (
+        e,
+        filled-more (4 * k) (bytesOfSlots (extentsFrom fs cs at k)) (f % 256) (f / 256 % 256) (c % 256) (c / 256 % 256) l,
+        add-one k,
+        extents-more at k (at + k) refl,
+        p,
+        q,
+      )
       (ap filled (sym (bytes-append (extentsFrom fs cs at k) (extent (getD fs (at + k) 0) (getD cs (at + k) 0) ∷ []))))
 
 pub slots-none : (fs cs : List ℕ) (at : ℕ) → filled [] ≡ filled (bytesOfSlots (extentsFrom fs cs at 0))

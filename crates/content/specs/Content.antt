@@ -5,10 +5,12 @@ use mathlib.Core.List.{List}
 use lib.ListN.{take, drop}
 use lib.Dec.{leb}
 use Rattle.spec.specs.Bytes.{exactly, patch, zeros}
-use Rattle.spec.specs.Inode.{placeOfInode, nodeBytes}
+use Rattle.spec.specs.declared.Extent.{Extent}
+use Rattle.spec.specs.Inode.{placeOfInode, nodeBytes, counts, topSlots}
 use Rattle.spec.specs.Plan.{overlay, clearTail, isLastKept, newContent}
 use Rattle.runs.specs.declared.Runs.{Runs}
-use Rattle.runs.specs.Runs.{listed}
+use Rattle.runs.specs.declared.Tree.{Tree}
+use Rattle.runs.specs.Runs.{listed, levelsIn}
 
 -- the block of record i with the record's bytes replaced
 unfoldable pub withRecord : ℕ → List ℕ → List ℕ → List ℕ
@@ -17,6 +19,14 @@ withRecord i new old = patch (placeOfInode i) new old
 -- node j of a tree with these extents
 unfoldable pub nodeContent : Runs → ℕ → List ℕ
 nodeContent r j = nodeBytes (take 128 (drop (128 * j) (listed r)))
+
+-- how many blocks the extents of node j have
+unfoldable pub countsBelow : Runs → ℕ → ℕ
+countsBelow r j = counts (take 128 (drop (128 * j) (listed r)))
+
+-- the slots of the record of a tree
+unfoldable pub slotsAbove : Tree → List Extent
+slotsAbove t = topSlots (levelsIn t) (listed (t .runs))
 
 -- the bytes from x on laid over block p of a file
 unfoldable pub laidOver : ℕ → List ℕ → ℕ → List ℕ → List ℕ

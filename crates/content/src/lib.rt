@@ -1,14 +1,20 @@
 // The content of a block after a change: a file record's block, a node, a data block.
 use block::copy_of;
 use runs::Runs;
+use runs::Tree;
+use spec::Extent;
 use spec::Limits;
 ghost use mathlib.Core.Path.{_≡_};
 ghost use mathlib.Core.Bool.{cond, _&&_};
+ghost use mathlib.Core.List.{[], _∷_, _++_};
 ghost use Prim.Native.Nat.{_+_, _*_, _-_, _<_, _≤_, min};
 ghost use lib.ListN.{length, getD};
 ghost use lib.Dec.{leb, ltb};
+ghost use Rattle.spec.specs.Bytes.{bytes2, bytes4};
+ghost use Rattle.spec.specs.Inode.{extent, counts, bytesOfInode, inodeWith};
 ghost use Rattle.spec.specs.Plan.{isLastKept, holdsData, isStaged};
-ghost use Rattle.content.specs.Content.{withRecord, nodeContent, laidOver, cutTo, keptContent, dataContent};
+ghost use Rattle.runs.specs.Runs.{Bounded, listed, levelsIn};
+ghost use Rattle.content.specs.Content.{withRecord, nodeContent, countsBelow, slotsAbove, laidOver, cutTo, keptContent, dataContent};
 
 // The block of file record i with the record's bytes replaced.
 pub fn with_record(old: [u8; 512], i: usize, new: [u8; 32]) -> [u8; 512]
@@ -63,6 +69,147 @@ pub fn node_content(r: Runs, j: usize) -> [u8; 512]
     out
 }
 
+// The extent at place k, of no blocks past the last one.
+fn extent_at(r: Runs, k: usize) -> Extent
+    requires { ⌜ k < 512 ⌝ }
+    ensures { λ e. ⌜ e ≡ getD (listed r) k (extent 0 0) ⌝ }
+{
+    if k < r.len {
+        let first = r.first[k];
+        let count = r.count[k];
+        return Extent {
+            first: first,
+            count: count,
+        };
+    }
+    Extent { first: 0, count: 0 }
+}
+
+// How many data blocks are below node j.
+fn blocks_below(r: Runs, j: usize) -> u32
+    requires { ⌜ (counts (listed r) ≤ 8192) × (r .len ≤ 512) × (j < 4) ⌝ }
+    ensures { λ n. ⌜ n ≡ countsBelow r j ⌝ }
+{
+    let lengths = r.count;
+    let start = 128 * j;
+    let m = slots_in(r.len, j);
+    let mut n: u32 = 0;
+    let mut k: usize = 0;
+    while k < m {
+        n += lengths[start + k];
+        k += 1;
+    }
+    n
+}
+
+// Slot k of the record: an extent, or a node with the data blocks below it.
+fn top_slot(t: Tree, k: usize) -> Extent
+    requires { ⌜ (k < 4) × Bounded t ⌝ }
+    ensures { λ e. ⌜ e ≡ getD (slotsAbove t) k (extent 0 0) ⌝ }
+{
+    let r = t.runs;
+    if t.nodes == 0 {
+        return extent_at(r, k);
+    }
+    if k < t.nodes {
+        let b = t.node[k];
+        return Extent {
+            first: b,
+            count: blocks_below(r, k),
+        };
+    }
+    Extent { first: 0, count: 0 }
+}
+
+fn slot_bytes(e: Extent) -> [u8; 4]
+    ensures { λ q. ⌜ q ≡ bytes2 (e .first) ++ bytes2 (e .count) ⌝ }
+{
+    let f = e.first;
+    let n = e.count;
+    [
+        (f % 256) as u8,
+        (f / 256 % 256) as u8,
+        (n % 256) as u8,
+        (n / 256 % 256) as u8,
+    ]
+}
+
+fn size_bytes(size: usize) -> [u8; 4]
+    ensures { λ q. ⌜ q ≡ bytes4 size ⌝ }
+{
+    let low = size % 65536;
+    let high = size / 65536;
+    [
+        (low % 256) as u8,
+        (low / 256 % 256) as u8,
+        (high % 256) as u8,
+        (high / 256 % 256) as u8,
+    ]
+}
+
+fn depth_of(t: Tree) -> u8
+    ensures { λ d. ⌜ d ≡ length (levelsIn t) ⌝ }
+{
+    if t.nodes == 0 {
+        return 0;
+    }
+    1
+}
+
+// The fields of a record, one after the other.
+fn joined(n: [u8; 8], z: [u8; 4], d: u8, a: [u8; 4], b: [u8; 4], c: [u8; 4], e: [u8; 4]) -> [u8; 32]
+    ensures { λ q. ⌜ q ≡ n ++ (z ++ (d ∷ 0 ∷ 0 ∷ 0 ∷ (a ++ (b ++ (c ++ (e ++ [])))))) ⌝ }
+{
+    [
+        n[0],
+        n[1],
+        n[2],
+        n[3],
+        n[4],
+        n[5],
+        n[6],
+        n[7],
+        z[0],
+        z[1],
+        z[2],
+        z[3],
+        d,
+        0,
+        0,
+        0,
+        a[0],
+        a[1],
+        a[2],
+        a[3],
+        b[0],
+        b[1],
+        b[2],
+        b[3],
+        c[0],
+        c[1],
+        c[2],
+        c[3],
+        e[0],
+        e[1],
+        e[2],
+        e[3],
+    ]
+}
+
+// "Bytes 0 to 7 name; 8 to 11 size in bytes; 12 depth, 0 or 1; 13 to 15 zero; 16 to 31 four slots."
+pub fn record_bytes(name: [u8; 8], size: usize, t: Tree) -> [u8; 32]
+    requires { ⌜ Bounded t × (size < 4294967296) ⌝ }
+    ensures { λ q. ⌜ q ≡ bytesOfInode (inodeWith name size (listed (t .runs)) (levelsIn t)) ⌝ }
+{
+    let z = size_bytes(size);
+    let d = depth_of(t);
+    let a = slot_bytes(top_slot(t, 0));
+    let b = slot_bytes(top_slot(t, 1));
+    let c = slot_bytes(top_slot(t, 2));
+    let e = slot_bytes(top_slot(t, 3));
+    joined(name, z, d, a, b, c, e)
+}
+
 // The byte at a place of the file: the data's where the data has one there, else the old one.
 fn byte_over(x: usize, bytes: &[u8], at: usize, old: u8) -> u8
     requires { ⌜ x + length (now bytes) ≤ 1048576 ⌝ }
@@ -109,14 +256,7 @@ fn holds_data(x: usize, bytes: &[u8], p: usize) -> bool
 }
 
 // "each data block holding a byte of the data; each new data .. block; .. the last kept block"
-pub fn is_staged(
-    held: usize,
-    was: usize,
-    size: usize,
-    x: usize,
-    bytes: &[u8],
-    p: usize,
-) -> bool
+pub fn is_staged(held: usize, was: usize, size: usize, x: usize, bytes: &[u8], p: usize) -> bool
     requires { ⌜ (p < 4294967296) × (x + length (now bytes) ≤ 1048576) ⌝ }
     ensures { λ r. ⌜ r ≡ isStaged held was size x (now (bytes .entry)) p ⌝ }
 {

@@ -1,10 +1,7 @@
 use Rattle.content.proofs.Laws.{over-before, over-behind, over-in}
 use native.Mathlib.Omega.{arith}
-use borrow.Author.Needs.{needs}
 use Rattle.content.proofs.byte_over.Statement.{statement}
 use Rattle.content.proofs.byte_over.Tie as tie
-use Rattle.content.proofs.byte_over.Reads as reads
-use Rattle.content.proofs.byte_over.Lts as lts
 
 returns : tie.Need-returns
 returns c = over-before _ _ _ _ _ (c .if1 .taken)

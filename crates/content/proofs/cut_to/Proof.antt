@@ -3,9 +3,6 @@ use native.Mathlib.Omega.{arith}
 use borrow.Author.Needs.{needs}
 use Rattle.content.proofs.cut_to.Statement.{statement}
 use Rattle.content.proofs.cut_to.Tie as tie
-use Rattle.content.proofs.cut_to.Reads as reads
-use Rattle.content.proofs.cut_to.Lts as lts
-use Rattle.block.proofs.copy_of.Reads as copy-of-reads
 
 slice-aggregate-bytes : tie.Need-slice-aggregate-bytes
 slice-aggregate-bytes c = search needs

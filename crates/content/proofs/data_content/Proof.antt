@@ -2,10 +2,6 @@ use Rattle.content.proofs.Laws.{data-is}
 use borrow.Author.Needs.{needs}
 use Rattle.content.proofs.data_content.Statement.{statement}
 use Rattle.content.proofs.data_content.Tie as tie
-use Rattle.content.proofs.data_content.Reads as reads
-use Rattle.content.proofs.data_content.Lts as lts
-use Rattle.content.proofs.kept_content.Reads as kept-content-reads
-use Rattle.content.proofs.lay_over.Reads as lay-over-reads
 
 kept-content-requires : tie.Need-kept-content-requires
 kept-content-requires c κs = search needs

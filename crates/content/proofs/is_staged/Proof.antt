@@ -1,10 +1,6 @@
 use borrow.Author.Needs.{needs}
 use Rattle.content.proofs.is_staged.Statement.{statement}
 use Rattle.content.proofs.is_staged.Tie as tie
-use Rattle.content.proofs.is_staged.Reads as reads
-use Rattle.content.proofs.is_staged.Lts as lts
-use Rattle.content.proofs.holds_data.Reads as holds-data-reads
-use Rattle.content.proofs.is_last_kept.Reads as is-last-kept-reads
 
 holds-data-requires : tie.Need-holds-data-requires
 holds-data-requires c κs = search needs

@@ -4,10 +4,6 @@ use Rattle.content.proofs.Laws.{kept-new, kept-cut, kept-same}
 use borrow.Author.Needs.{needs}
 use Rattle.content.proofs.kept_content.Statement.{statement}
 use Rattle.content.proofs.kept_content.Tie as tie
-use Rattle.content.proofs.kept_content.Reads as reads
-use Rattle.content.proofs.kept_content.Lts as lts
-use Rattle.content.proofs.cut_to.Reads as cut-to-reads
-use Rattle.content.proofs.is_last_kept.Reads as is-last-kept-reads
 
 returns : tie.Need-returns
 unfolding zeros

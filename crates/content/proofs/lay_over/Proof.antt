@@ -6,9 +6,6 @@ use native.Mathlib.Omega.{arith}
 use borrow.Author.Needs.{needs}
 use Rattle.content.proofs.lay_over.Statement.{statement}
 use Rattle.content.proofs.lay_over.Tie as tie
-use Rattle.content.proofs.lay_over.Reads as reads
-use Rattle.content.proofs.lay_over.Lts as lts
-use Rattle.content.proofs.byte_over.Reads as byte-over-reads
 
 abbrev Inv-loop : tie.InvT-loop
 Inv-loop x bytes p old start q₀ k₀ q k = (k ≤ 512) × (start ≡ 512 * p) × (p < 4294967296) × (x + length bytes ≤ 1048576) × OverTo x bytes p old q k

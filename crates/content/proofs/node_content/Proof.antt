@@ -1,4 +1,4 @@
-use Prim.Native.Nat.{_+_, _*_, _-_, _<_, _≤_, min}
+use Prim.Native.Nat.{_-_, _≤_}
 use mathlib.Core.Path.{_≡_, refl, _∙_}
 use Rattle.spec.specs.Inode.{bytesOfSlots}
 use Rattle.runs.specs.Runs.{extentsFrom}
@@ -6,9 +6,6 @@ use Rattle.content.proofs.Laws.{filled, slots-none, slots-more, slots-a
 use native.Mathlib.Omega.{arith}
 use Rattle.content.proofs.node_content.Statement.{statement}
 use Rattle.content.proofs.node_content.Tie as tie
-use Rattle.content.proofs.node_content.Reads as reads
-use Rattle.content.proofs.node_content.Lts as lts
-use Rattle.content.proofs.slots_in.Reads as slots-in-reads
 
 abbrev Inv-loop : tie.InvT-loop
 Inv-loop j firsts counts start n out₀ k₀ out k = (k ≤ n) × (out ≡ filled (bytesOfSlots (extentsFrom firsts counts start k)))

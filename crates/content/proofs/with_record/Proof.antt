@@ -1,4 +1,4 @@
-use Prim.Native.Nat.{_+_, _*_, _-_, _%_, _<_, _≤_}
+use Prim.Native.Nat.{_*_, _-_, _%_, _≤_}
 use mathlib.Core.Path.{_≡_, refl}
 use lib.ListN.{length, length-set}
 use Rattle.content.proofs.Laws.{laidTo, laid-none, laid-more, laid-all}
@@ -6,8 +6,6 @@ use native.Mathlib.Omega.{arith}
 use borrow.Author.Needs.{needs}
 use Rattle.content.proofs.with_record.Statement.{statement}
 use Rattle.content.proofs.with_record.Tie as tie
-use Rattle.content.proofs.with_record.Reads as reads
-use Rattle.content.proofs.with_record.Lts as lts
 
 abbrev Inv-loop : tie.InvT-loop
 Inv-loop i new at q₀ k₀ q k = (k ≤ 32) × (at ≡ 32 * (i % 16)) × (length new ≡ 32) × (length q ≡ 512) × (length q₀ ≡ 512) × (q ≡ laidTo at new k q₀)
@@ -38,9 +36,14 @@ loop-less c = omega arith
 
 loop-again : tie.Need-loop-again Inv-loop μ-loop
 loop-again c =
-    let lp = c .before .loop in
-    (omega arith, refl, lp .inv .2, simp length-set (lp .inv .3), lp .inv .4,
-    laid-more _ _ _ _ _ (lp .inv .5) (omega arith) (omega arith))
+    let lp = c .before .loop in (
+      omega arith,
+      refl,
+      lp .inv .2,
+      simp length-set (lp .inv .3),
+      lp .inv .4,
+      laid-more _ _ _ _ _ (lp .inv .5) (omega arith) (omega arith),
+    )
 
 returns : tie.Need-returns Inv-loop μ-loop
 returns c =

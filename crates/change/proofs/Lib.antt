@@ -1,0 +1,4 @@
+pub mod Contents
+pub mod Places
+pub mod Steps
+pub mod Staging

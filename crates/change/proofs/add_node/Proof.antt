@@ -1,0 +1,46 @@
+use mathlib.Core.Path.{refl}
+use native.Mathlib.Omega.{arith}
+use Rattle.change.proofs.Steps.{held-lists, new-lists}
+use Rattle.change.proofs.add_node.Statement.{statement}
+use Rattle.change.proofs.add_node.Tie as tie
+
+node-at-requires : tie.Need-node-at-requires
+node-at-requires c κs = let o = c .before .before .before .before in omega (arith, o .pre .3, o .pre .2 .nodes)
+
+cast-tag : tie.Need-cast-tag
+cast-tag c = let o = c .before .before .before .before .before in omega (arith, o .pre .3, o .pre .2 .nodes)
+
+add-tag : tie.Need-add-tag
+add-tag c = let o = c .before .before .before .before .before in omega (arith, o .pre .3, o .pre .2 .nodes)
+
+add-changed-requires : tie.Need-add-changed-requires
+add-changed-requires c κs = let o = c .before .before .before .before .before .before .before in (o .pre .0, o .pre .2 .extents, o .pre .1)
+
+returns : tie.Need-returns
+returns c =
+    let o = c .before .before .before .before .before .before .before .before in
+    let a = o .args in
+    let n = c .before .before .before .node-at .ensures in
+    (held-lists _ (a .i) (a .c) (a .x) (a .bytes .now) (a .j) (o .pre .3) (o .pre .2 .nodes) (n .1) _ (n .0) _ (omega (arith, c .before .if1 .taken)) (c .add-changed .ensures .0 _ _ refl (o .pre .4)), c .add-changed .ensures .1)
+
+insert-requires : tie.Need-insert-requires
+insert-requires c κs = let o = c .before .before .before .before .before .before .before in o .pre .0
+
+returns-2 : tie.Need-returns-2
+returns-2 c =
+    let o = c .before .before .before .before .before .before .before .before in
+    let a = o .args in
+    let n = c .before .before .before .node-at .ensures in
+    (new-lists _ (a .i) (a .c) (a .x) (a .bytes .now) (a .j) (o .pre .3) (o .pre .2 .nodes) (n .1) _ (n .0) _ (omega (arith, c .before .if1 .left)) (c .insert .ensures .0 _ _ (o .pre .4)), c .insert .ensures .1)
+
+pub add-node-spec : {M : Type 1} → statement M
+add-node-spec =
+    tie.close
+    (tie.spec
+    node-at-requires
+    cast-tag
+    add-tag
+    add-changed-requires
+    returns
+    insert-requires
+    returns-2)

@@ -1,0 +1,37 @@
+use Rattle.change.proofs.Steps.{place-taken, place-left}
+use native.Mathlib.Omega.{arith}
+use borrow.Author.Needs.{needs}
+use Rattle.change.proofs.add_place.Statement.{statement}
+use Rattle.change.proofs.add_place.Tie as tie
+
+is-staged-requires : tie.Need-is-staged-requires
+is-staged-requires c κs = search needs
+
+cast-insert : tie.Need-cast-insert
+cast-insert c = omega arith
+
+add-insert : tie.Need-add-insert
+add-insert c = omega arith
+
+insert-requires : tie.Need-insert-requires
+insert-requires c κs = search needs
+
+returns : tie.Need-returns
+returns c =
+    let o = c .before .before .before .before in
+    let a = o .args in (
+      λ v i h. place-taken v i (a .c) (a .x) (a .bytes .now) (a .p) (a .b) (o .pre .3) (o .pre .4) _ (c .before .before .is-staged .ensures) _ (c .before .if1 .taken)
+          (c .insert .ensures .0 _ _ h),
+      c .insert .ensures .1,
+    )
+
+returns-2 : tie.Need-returns-2
+returns-2 c =
+    let o = c .before .before .before in
+    let a = o .args in
+    (λ v i h. place-left v i (a .c) (a .x) (a .bytes .now) (a .p) (a .b) (o .pre .3) (o .pre .4) _ (c .before .is-staged .ensures) _ (c .if1 .left) h, o .pre .0)
+
+pub add-place-spec : {M : Type 1} → statement M
+add-place-spec =
+    tie.close
+    (tie.spec is-staged-requires cast-insert add-insert insert-requires returns returns-2)

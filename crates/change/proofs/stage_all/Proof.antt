@@ -1,0 +1,106 @@
+use Prim.Native.Nat.{_-_, _≤_}
+use mathlib.Core.Path.{_≡_, _∙_}
+use lib.ListN.{length, take, drop}
+use Rattle.spec.specs.Transaction.{view, stateOf, stageEach, stagedOf, withStaging}
+use Rattle.agenda.specs.Agenda.{storesBy}
+use Rattle.change.specs.Contents.{contentIn}
+use Rattle.change.proofs.Staging.{Going, going-start, stage-room, stage-step, stage-end}
+use native.Mathlib.Omega.{arith}
+use borrow.Author.Needs.{needs}
+use Rattle.change.proofs.stage_all.Statement.{statement}
+use Rattle.change.proofs.stage_all.Tie as tie
+
+abbrev Inv-loop : tie.InvT-loop
+Inv-loop device work₀ i c x bytes blocks tags n t₀ k₀ work t k =
+    (k ≤ n) × (n ≤ 32) × (length blocks ≡ 32) × (length tags ≡ 32) × (length work ≡ 16384)
+    × Going i c x bytes
+    (withStaging (stateOf t₀ device work₀) (stageEach (stagedOf (stateOf t₀ device work₀)) (storesBy (contentIn (view (stateOf t₀ device work₀)) i c x bytes) (take n blocks) (take n tags))))
+    (stateOf t device work) (drop k (take n blocks)) (drop k (take n tags))
+
+abbrev μ-loop : tie.MeasureT-loop
+μ-loop device work₀ i c x bytes blocks tags n t₀ k₀ work t k = n - k
+
+loop-holds : tie.Need-loop-holds Inv-loop μ-loop
+loop-holds c =
+    let o = c .before .before .before .before .before in
+    let a = o .args in
+    (omega arith, omega arith, search needs, search needs, o .pre .1, going-start (a .i) (a .c) (a .x) (a .bytes .now) _ _ _ (o .pre .4) (o .pre .5))
+
+mul-b : tie.Need-mul-b Inv-loop μ-loop
+mul-b c = omega arith
+
+array-read-b : tie.Need-array-read-b Inv-loop μ-loop
+array-read-b c = omega arith
+
+block-now-requires : tie.Need-block-now-requires Inv-loop μ-loop
+block-now-requires c κs = search needs
+
+mul-content : tie.Need-mul-content Inv-loop μ-loop
+mul-content c = omega arith
+
+array-read-content : tie.Need-array-read-content Inv-loop μ-loop
+array-read-content c = omega arith
+
+content-requires : tie.Need-content-requires Inv-loop μ-loop
+content-requires c κs = let o = c .before .before .before .before .before .before .before .before .before in (o .pre .2, o .pre .3)
+
+stage-requires : tie.Need-stage-requires Inv-loop μ-loop
+stage-requires c κs =
+    let p = c .before .before .before .before .before in
+    let lp = p .before .loop in
+    let a = p .before .before .before .before .before .before .before .args in
+    (lp .inv .4, stage-room (a .i) (a .c) (a .x) (a .bytes .now) _ _ _ _ (a .a .block) (a .a .tag) _ _ (lp .inv .5) (p .loop-test .taken) (omega arith) (omega arith))
+
+add-k : tie.Need-add-k Inv-loop μ-loop
+add-k c = omega arith
+
+loop-less : tie.Need-loop-less Inv-loop μ-loop
+loop-less c = omega arith
+
+loop-again : tie.Need-loop-again Inv-loop μ-loop
+loop-again c =
+    let p = c .before .before .before .before .before .before .before .before in
+    let lp = p .before .loop in
+    let o = p .before .before .before .before .before .before .before in
+    let a = o .args in (
+      omega arith,
+      lp .inv .1,
+      lp .inv .2,
+      lp .inv .3,
+      c .before .before .stage .kept .0 ∙ lp .inv .4,
+      stage-step (a .i) (a .c) (a .x) (a .bytes .now) _ _ _ _ (a .a .block) (a .a .tag) _ _ (lp .inv .5) (p .loop-test .taken) (omega arith) (omega arith) _ _ _
+          (c .before .before .before .before .before .before .block-now .ensures) (c .before .before .before .before .before .content .ensures) (c .before .before .stage .ensures (a .device .now)),
+    )
+
+settled-requires : tie.Need-settled-requires Inv-loop μ-loop
+settled-requires c κs = search needs
+
+same-length : tie.Need-same-length Inv-loop μ-loop
+same-length c = search needs
+
+returns : tie.Need-returns Inv-loop μ-loop
+returns c =
+    let lp = c .before .before .loop in
+    let a = c .before .before .before .before .before .before .before .before .args in
+    stage-end (a .i) (a .c) (a .x) (a .bytes .now) _ _ _ _ (a .a .block) (a .a .tag) _ _ (lp .inv .5) (c .before .loop-test .left) _ (c .settled .ensures)
+
+pub stage-all-spec : {M : Type 1} → statement M
+stage-all-spec =
+    tie.close
+    (tie.spec
+    Inv-loop
+    μ-loop
+    loop-holds
+    mul-b
+    array-read-b
+    block-now-requires
+    mul-content
+    array-read-content
+    content-requires
+    stage-requires
+    add-k
+    loop-less
+    loop-again
+    settled-requires
+    same-length
+    returns)

@@ -1,0 +1,55 @@
+-- What the code inserts into an agenda, entry by entry, and the content of each, for the contracts of this crate.
+use Prim.Native.Nat.{ℕ, _*_, _-_}
+use mathlib.Core.Bool.{cond}
+use mathlib.Core.List.{List, _∷_, _++_, map}
+use lib.ListN.{length, drop, getD}
+use lib.Dec.{eqb, ltb}
+use Rattle.spec.specs.Bytes.{same, keep, upFrom}
+use Rattle.spec.specs.Disk.{Disk}
+use Rattle.spec.specs.Inode.{blocksIn, counts}
+use Rattle.spec.specs.Transaction.{BlockStore, put}
+use Rattle.spec.specs.Plan.{edit, ifChanged, storesOf, inodeEdit, nodeEdits, dataEdits, isStaged, newContent}
+use Rattle.runs.specs.declared.Runs.{Runs}
+use Rattle.runs.specs.Runs.{extentsFrom, listed, nodesIn}
+use Rattle.content.specs.Content.{withRecord, nodeContent, dataContent}
+use Rattle.change.specs.declared.Change.{Change}
+
+-- the content of a block by its tag: 0 the bitmap, 1 the record's block, 2 + j node j, 6 + p the file's data block p
+unfoldable pub contentOf : ℕ → Change → ℕ → List ℕ → ℕ → List ℕ → List ℕ
+contentOf i c x bytes tag old =
+    cond (eqb tag 0) (c .tree .table)
+    (cond (eqb tag 1) (withRecord i (c .record) old)
+    (cond (ltb tag 6) (nodeContent (c .tree .runs) (tag - 2))
+    (dataContent (c .tree .held) (c .old) (c .size) x bytes (tag - 6) old)))
+
+-- the same for block b of a disk
+unfoldable pub contentIn : Disk → ℕ → Change → ℕ → List ℕ → ℕ → ℕ → List ℕ
+contentIn v i c x bytes b tag = contentOf i c x bytes tag (v b)
+
+-- a store before others, where it changes the block
+unfoldable pub withChanged : Disk → List ℕ → ℕ → List BlockStore → List BlockStore
+withChanged v new b ws = cond (same new (v b)) ws (put b new ∷ ws)
+
+-- the stores of the data blocks from place p on
+unfoldable pub dataStores : Disk → Change → ℕ → List ℕ → ℕ → List BlockStore
+dataStores v c x bytes p =
+    let blocks = blocksIn (listed (c .tree .runs)) in
+    storesOf v (map (λ q. edit (getD blocks q 0) (newContent (c .tree .held) (c .old) (c .size) x bytes q))
+    (keep (isStaged (c .tree .held) (c .old) (c .size) x bytes) (upFrom p (length blocks - p))))
+
+-- those of the nodes from node j on, and of all data blocks
+unfoldable pub nodeStores : Disk → Change → ℕ → List ℕ → ℕ → List BlockStore
+nodeStores v c x bytes j =
+    storesOf v (nodeEdits v (c .tree .before - j) (drop j (nodesIn (c .tree))) (drop (128 * j) (listed (c .tree .runs)))
+    ++ dataEdits (c .tree .held) (c .old) (c .size) x bytes (blocksIn (listed (c .tree .runs))))
+
+-- those of the record, of all nodes and of all data blocks
+unfoldable pub recordStores : Disk → ℕ → Change → ℕ → List ℕ → List BlockStore
+recordStores v i c x bytes =
+    storesOf v (ifChanged v (inodeEdit i (c .record))
+    ++ (nodeEdits v (c .tree .before) (nodesIn (c .tree)) (listed (c .tree .runs))
+    ++ dataEdits (c .tree .held) (c .old) (c .size) x bytes (blocksIn (listed (c .tree .runs)))))
+
+-- how many blocks the first k extents have
+unfoldable pub placeOf : Runs → ℕ → ℕ
+placeOf r k = counts (extentsFrom (r .first) (r .count) 0 k)

@@ -1,0 +1,213 @@
+-- What each call stages is what its change stages. Assumes nothing.
+use Prim.Native.Nat.{ℕ, zero, suc, _+_, _-_, _<_, _≤_}
+use mathlib.Core.Path.{_≡_, refl, sym, ap, ap₂, _∙_}
+use mathlib.Core.Bool.{Bool, true, false, cond}
+use mathlib.Core.List.{List, [], _∷_, _++_, map, append-assoc, append-nil}
+use lib.Dec.{eqb}
+use lib.ListN.{length, take, drop, replicate, length-append, length-drop, length-take, take-append-drop}
+use lib.Seq.{drop-drop}
+use native.Mathlib.Omega.{arith}
+use Rattle.spec.specs.declared.Extent.{Extent}
+use borrow.Author.Tests.{eqb-true, le-leb}
+use Rattle.spec.specs.Bytes.{upFrom, part, patch, same, zeros, concat}
+use Rattle.spec.specs.Disk.{Disk}
+use Rattle.spec.specs.Bitmap.{bitsOf, bytesOf, freeBits, mark, picks}
+use Rattle.spec.specs.Inode.{inodeAt, nameAt, dataOf, levelsOf, nodesOf, inodeWith, bytesOfInode, blockOfInode, placeOfInode, inodeBytes, levelsFor, extent, prepend, blocksIn, runs}
+use Rattle.spec.specs.Transaction.{BlockStore, put}
+use Rattle.spec.specs.Plan as plan
+use Rattle.spec.specs.Plan.{Edit, edit, ifChanged, storesOf, inodeEdit, bitmapEdit, nodeEdits, levelEdits, dataEdits, lowestLevel, surplus, resized, fits, creates, removes, renames, rewrites}
+use Rattle.block.proofs.Laws.{same-self}
+use Rattle.inode.proofs.Laws.{drop-take}
+use Rattle.runs.specs.declared.Tree.{Tree}
+use Rattle.runs.specs.Runs.{listed, nodesIn, levelsIn, Bounded}
+use Rattle.spec.specs.Answers.{accept}
+use Rattle.checks.specs.declared.Checked.{Checked}
+use Rattle.checks.specs.declared.Checked.the-variants.{Fine, Bad}
+use Rattle.alloc.specs.declared.Draft.{Draft}
+use Rattle.alloc.specs.Draft.{resizedAt, tableOf, Built, resultWith, Drafted}
+use Rattle.change.specs.declared.Change.{Change}
+use Rattle.change.specs.Change.{changeStores}
+
+-- ---- records
+
+-- bytes 8 to 31 of a record laid over themselves change nothing
+renamed-patch : (at : ℕ) (name old : List ℕ) → length name ≡ 8 → at + 32 ≤ 512 → length old ≡ 512
+    → patch at (name ++ drop 8 (part at 32 old)) old ≡ patch at name old
+renamed-patch at name old l h k =
+    let n : length (name ++ drop 8 (part at 32 old)) ≡ 32 = simp (length-append, length-drop, length-take) (omega arith) in
+    let q : drop 8 (part at 32 old) ++ drop (at + 32) old ≡ drop (at + 8) old =
+    ap₂ (λ (xs ys : List ℕ). xs ++ ys) (drop-take 32 8 (drop at old)) (sym (drop-drop 32 at old)) ∙ rest-of (drop at old) ∙ drop-drop 8 at old in
+    rw (n, l) (ap (λ (z : List ℕ). take at old ++ z) (append-assoc name (drop 8 (part at 32 old)) (drop (at + 32) old) ∙ ap (λ (z : List ℕ). name ++ z) q))
+  where
+    rest-of : (xs : List ℕ) → take 24 (drop 8 xs) ++ drop 32 xs ≡ drop 8 xs
+    rest-of xs = ap (λ (z : List ℕ). take 24 (drop 8 xs) ++ z) (sym (drop-drop 24 8 xs)) ∙ take-append-drop 24 (drop 8 xs)
+
+inside-table : (i : ℕ) → placeOfInode i + 32 ≤ 512
+inside-table i = omega arith
+
+-- ---- trees
+
+prepend-blocks : (b : ℕ) (es : List Extent) → blocksIn (prepend b es) ≡ b ∷ blocksIn es
+unfolding blocksIn
+prepend-blocks b [] = refl
+prepend-blocks b (e ∷ es) = go (eqb (e .first) (suc b)) refl
+  where
+    go : (t : Bool) → eqb (e .first) (suc b) ≡ t → blocksIn (cond t (extent b (suc (e .count)) ∷ es) (extent b 1 ∷ e ∷ es)) ≡ b ∷ blocksIn (e ∷ es)
+    go true q = ap (λ k. b ∷ (upFrom k (e .count) ++ blocksIn es)) (sym (eqb-true (e .first) (suc b) q))
+    go false q = refl
+
+no-blocks : blocksIn [] ≡ []
+unfolding blocksIn
+no-blocks = refl
+
+runs-blocks : (bs : List ℕ) → blocksIn (runs bs) ≡ bs
+unfolding runs
+runs-blocks [] = no-blocks
+runs-blocks (b ∷ bs) = prepend-blocks b (runs bs) ∙ ap (λ (l : List ℕ). b ∷ l) (runs-blocks bs)
+
+-- a file without blocks gives all of its own back
+all-surplus : (ls : List (List ℕ)) → surplus [] ls ≡ concat ls
+all-surplus [] = refl
+all-surplus (bs ∷ ls) = ap (λ (z : List ℕ). bs ++ z) (all-surplus ls)
+
+all-dropped : (bits held : List ℕ) (levels : List (List ℕ)) → let t = resized bits held levels 0 in
+    mark 0 (t .dropped) (mark 1 (t .newData ++ t .newNodes) bits) ≡ mark 0 (held ++ concat levels) (mark 1 [] bits)
+unfolding resized picks levelsFor runs
+all-dropped bits held levels =
+    let z : 0 - length held ≡ 0 = omega arith in
+    rw z (ap (λ (x : List ℕ). mark 0 (held ++ x) (mark 1 [] bits)) (all-surplus levels))
+
+emptied : (v : Disk) (i : ℕ) → tableOf v (resizedAt v i 0) ≡ bytesOf (mark 0 (dataOf v (inodeAt v i) ++ nodesOf v (inodeAt v i)) (mark 1 [] (bitsOf (v 33))))
+unfolding tableOf resizedAt
+emptied v i = ap bytesOf (all-dropped (bitsOf (v 33)) (dataOf v (inodeAt v i)) (levelsOf v (inodeAt v i)))
+
+empty-extents : (v : Disk) (i : ℕ) → resizedAt v i 0 .extents ≡ []
+unfolding resizedAt resized picks runs
+empty-extents v i =
+    let z : 0 - length (dataOf v (inodeAt v i)) ≡ 0 = omega arith in
+    rw z
+
+empty-levels : (v : Disk) (i : ℕ) → resizedAt v i 0 .levels ≡ []
+unfolding resizedAt resized picks runs levelsFor
+empty-levels v i =
+    let z : 0 - length (dataOf v (inodeAt v i)) ≡ 0 = omega arith in
+    rw z
+
+no-levels : (t : Tree) → levelsIn t ≡ [] → nodesIn t ≡ []
+unfolding levelsIn nodesIn
+no-levels t e = go (eqb (t .nodes) 0) refl
+  where
+    go : (z : Bool) → eqb (t .nodes) 0 ≡ z → take (t .nodes) (t .node) ≡ []
+    go true h = rw (eqb-true (t .nodes) 0 h)
+    go false h = let q : _∷_ (take (t .nodes) (t .node)) [] ≡ [] = rw h at e in cc
+
+-- it always fits
+emptied-accepts : (bits held : List ℕ) (levels : List (List ℕ)) → fits bits held levels 0 ≡ accept (resized bits held levels 0)
+unfolding fits resized picks runs levelsFor
+emptied-accepts bits held levels =
+    let z : 0 - length held ≡ 0 = omega arith in
+    rw (z, le-leb 0 (freeBits bits) (omega arith))
+
+accept-fine : (c : Checked) (t u : plan.Tree) → accept u ≡ resultWith c t → c ≡ Fine
+accept-fine Fine t u e = refl
+accept-fine (Bad r) t u e = cc
+
+pub emptied-fits : (v : Disk) (i : ℕ) (d : Draft) → Drafted v i 0 d → Built v i 0 (d .tree)
+emptied-fits v i d h =
+    h .tree (accept-fine (d .verdict) _ _ (sym (emptied-accepts (bitsOf (v 33)) (dataOf v (inodeAt v i)) (levelsOf v (inodeAt v i))) ∙ h .verdict))
+
+-- the levels of a tree as code holds it: none, or one
+one-level : (v : Disk) (held : List (List ℕ)) (t : Tree) (es : List Extent) → levelEdits v held (levelsIn t) es ≡ nodeEdits v (length (lowestLevel held)) (nodesIn t) es
+unfolding levelsIn nodesIn
+one-level v held t es = go (eqb (t .nodes) 0) refl
+  where
+    go : (z : Bool) → eqb (t .nodes) 0 ≡ z → levelEdits v held (cond (eqb (t .nodes) 0) [] (take (t .nodes) (t .node) ∷ [])) es ≡ nodeEdits v (length (lowestLevel held)) (take (t .nodes) (t .node)) es
+    go true e = rw (e, eqb-true (t .nodes) 0 e)
+    go false e = rw e (append-nil (nodeEdits v (length (lowestLevel held)) (take (t .nodes) (t .node)) es))
+
+resized-blocks : (v : Disk) (i wanted : ℕ) → resizedAt v i wanted .blocks ≡ blocksIn (resizedAt v i wanted .extents)
+unfolding resizedAt resized
+resized-blocks v i wanted = sym (runs-blocks _)
+
+-- ---- edits of which only the content counts
+
+module _ (v : Disk) where
+  -- an edit that is staged where it changes its block, before others
+  stores-if : (b : ℕ) (g h : List ℕ → List ℕ) (xs ys : List Edit) → g (v b) ≡ h (v b) → storesOf v xs ≡ storesOf v ys
+      → storesOf v (ifChanged v (edit b g) ++ xs) ≡ storesOf v (ifChanged v (edit b h) ++ ys)
+  stores-if b g h xs ys e t = go (same (g (v b)) (v b)) refl
+    where
+      go : (z : Bool) → same (g (v b)) (v b) ≡ z
+          → storesOf v (ifChanged v (edit b g) ++ xs) ≡ storesOf v (ifChanged v (edit b h) ++ ys)
+      go true p =
+          let q : same (h (v b)) (v b) ≡ true = ap (λ (z : List ℕ). same z (v b)) (sym e) ∙ p in
+          rw (p, q) t
+      go false p =
+          let q : same (h (v b)) (v b) ≡ false = ap (λ (z : List ℕ). same z (v b)) (sym e) ∙ p in
+          rw (p, q) (ap₂ (λ (z : List ℕ) (ws : List BlockStore). put b z ∷ ws) e t)
+
+  -- one that changes nothing
+  stores-same : (b : ℕ) (y : List ℕ) (xs : List Edit) → y ≡ v b → storesOf v (ifChanged v (edit b (λ old. y)) ++ xs) ≡ storesOf v xs
+  stores-same b y xs e = rw (e, same-self (v b))
+
+  -- ---- changes of the record, and of bitmap and record
+
+  module _ (i : ℕ) (c : Change) (x : ℕ) (bytes : List ℕ) (nodes : nodesIn (c .tree) ≡ []) (extents : listed (c .tree .runs) ≡ []) where
+    both-alone : storesOf v (ifChanged v (edit 33 (λ old. c .tree .table)) ++ ifChanged v (inodeEdit i (c .record))) ≡ changeStores v i c x bytes
+    unfolding changeStores blocksIn
+    both-alone = rw (nodes, extents, append-nil (ifChanged v (inodeEdit i (c .record))))
+
+    pub record-alone : c .tree .table ≡ v 33 → storesOf v (ifChanged v (inodeEdit i (c .record))) ≡ changeStores v i c x bytes
+    record-alone h = sym (stores-same 33 (c .tree .table) (ifChanged v (inodeEdit i (c .record))) h) ∙ both-alone
+
+    pub create-stores : (name : List ℕ) → c .tree .table ≡ v 33 → c .record ≡ bytesOfInode (inodeWith name 0 [] []) → creates v i name ≡ changeStores v i c x bytes
+    unfolding creates
+    create-stores name h r = rw (← r) (record-alone h)
+
+    -- the record with another name and nothing else changed
+    pub rename-stores : (name : List ℕ) → length name ≡ 8 → length (v (blockOfInode i)) ≡ 512 → c .tree .table ≡ v 33
+        → c .record ≡ name ++ drop 8 (inodeBytes v i) → renames v i name ≡ changeStores v i c x bytes
+    unfolding renames inodeBytes
+    rename-stores name l k h r =
+        let b = v (blockOfInode i) in
+        let at = placeOfInode i in
+        let e : patch at name b ≡ patch at (c .record) b = sym (ap (λ (z : List ℕ). patch at z b) r ∙ renamed-patch at name b l (inside-table i) k) in
+        sym (ap (storesOf v) (append-nil (ifChanged v (inodeEdit i name))))
+        ∙ stores-if (blockOfInode i) (patch at name) (patch at (c .record)) [] [] e refl
+        ∙ ap (storesOf v) (append-nil (ifChanged v (inodeEdit i (c .record))))
+        ∙ record-alone h
+
+  -- a tree without blocks
+  module _ (i : ℕ) (c : Change) (x : ℕ) (bytes : List ℕ) (b : Built v i 0 (c .tree)) where
+    pub remove-stores : c .record ≡ replicate 32 0 → removes v i ≡ changeStores v i c x bytes
+    unfolding removes zeros
+    remove-stores r =
+        stores-if 33 (λ old. bytesOf (mark 0 (dataOf v (inodeAt v i) ++ nodesOf v (inodeAt v i)) (mark 1 [] (bitsOf old)))) (λ old. c .tree .table)
+        (ifChanged v (inodeEdit i (zeros 32))) (ifChanged v (inodeEdit i (c .record))) (sym (b .table ∙ emptied v i))
+        (ap (λ (z : List ℕ). storesOf v (ifChanged v (inodeEdit i z))) (sym r))
+        ∙ both-alone i c x bytes (no-levels (c .tree) (b .levels ∙ empty-levels v i)) (b .extents ∙ empty-extents v i)
+
+  -- ---- write and set size
+
+  module _ (i wanted : ℕ) (c : Change) (x : ℕ) (bytes : List ℕ) (b : Built v i wanted (c .tree)) where
+    node-edits : levelEdits v (levelsOf v (inodeAt v i)) (resizedAt v i wanted .levels) (resizedAt v i wanted .extents)
+        ≡ nodeEdits v (c .tree .before) (nodesIn (c .tree)) (listed (c .tree .runs))
+    node-edits =
+        ap₂ (λ (l : List (List ℕ)) (es : List Extent). levelEdits v (levelsOf v (inodeAt v i)) l es) (sym (b .levels)) (sym (b .extents))
+        ∙ one-level v (levelsOf v (inodeAt v i)) (c .tree) (listed (c .tree .runs))
+        ∙ ap (λ (n : ℕ). nodeEdits v n (nodesIn (c .tree)) (listed (c .tree .runs))) (sym (b .before))
+
+    pub rewrite-stores : (name : List ℕ) (size : ℕ) → c .record ≡ bytesOfInode (inodeWith name size (listed (c .tree .runs)) (levelsIn (c .tree)))
+        → c .old ≡ inodeAt v i .size → c .size ≡ size → rewrites v i name size x bytes (resizedAt v i wanted) ≡ changeStores v i c x bytes
+    unfolding rewrites changeStores tableOf
+    rewrite-stores name size r o z =
+        stores-if 33 (bitmapEdit (resizedAt v i wanted .newData ++ resizedAt v i wanted .newNodes) (resizedAt v i wanted .dropped) .change) (λ old. c .tree .table) _ _
+        (sym (b .table))
+        (ap (storesOf v)
+        (ap₂ (λ (y : List ℕ) (es : List Edit). ifChanged v (inodeEdit i y) ++ es)
+        (ap₂ (λ (es : List Extent) (l : List (List ℕ)). bytesOfInode (inodeWith name size es l)) (sym (b .extents)) (sym (b .levels)) ∙ sym r)
+        (ap₂ (λ (xs ys : List Edit). xs ++ ys) node-edits data-edits)))
+      where
+        data-edits : dataEdits (length (dataOf v (inodeAt v i))) (inodeAt v i .size) size x bytes (resizedAt v i wanted .blocks)
+            ≡ dataEdits (c .tree .held) (c .old) (c .size) x bytes (blocksIn (listed (c .tree .runs)))
+        data-edits = rw (b .held, o, z, b .extents, resized-blocks v i wanted)

@@ -1,0 +1,92 @@
+use mathlib.Core.Path.{refl, sym, ap, subst, _∙_}
+use mathlib.Core.List.{[]}
+use Rattle.spec.specs.Transaction.{view, stateOf}
+use Rattle.lookup.specs.Looks.{lookedOf, InTable}
+use native.Mathlib.Omega.{arith}
+use mathlib.Core.Path.{refl, sym, ap, _∙_}
+use Rattle.lookup.specs.Looks.{lookedOf}
+use Rattle.lookup.proofs.Laws.{new-says}
+use Rattle.checks.proofs.Laws.{told}
+use Rattle.update.proofs.Records.{new-record}
+use Rattle.update.proofs.Stores.{create-stores}
+use Rattle.update.proofs.Laws.{create-bad, create-fine}
+use borrow.Author.Needs.{needs}
+use Rattle.update.proofs.create.Statement.{statement}
+use Rattle.update.proofs.create.Tie as tie
+
+look-up-new-requires : tie.Need-look-up-new-requires
+look-up-new-requires c κs = search needs
+
+enum-known-why : tie.Need-enum-known-why
+enum-known-why c = search needs
+
+refused-requires : tie.Need-refused-requires
+refused-requires c κs = search needs
+
+enum-known-i : tie.Need-enum-known-i
+enum-known-i c = search needs
+
+sub-renamed : tie.Need-sub-renamed
+sub-renamed c = search needs
+
+part-renamed-start : tie.Need-part-renamed-start
+part-renamed-start c = search needs
+
+part-renamed-end : tie.Need-part-renamed-end
+part-renamed-end c = search needs
+
+renamed-requires : tie.Need-renamed-requires
+renamed-requires c κs = (new-says (c .before .before .before .before .before .before .before .before .before .args .session) (c .before .before .before .before .before .before .before .before .before .args .device .now) (c .before .before .before .before .before .before .before .before .before .args .work .now) (c .before .before .before .before .before .before .before .before .before .args .name .now) _ (sym (ap lookedOf (c .before .before .i .given .1)) ∙ c .before .before .before .before .look-up-new .ensures .0) .1, omega arith)
+
+record-change-requires : tie.Need-record-change-requires
+record-change-requires c κs = search needs
+
+sub-apply : tie.Need-sub-apply
+sub-apply c = search needs
+
+part-apply-start : tie.Need-part-apply-start
+part-apply-start c = search needs
+
+part-apply-end : tie.Need-part-apply-end
+part-apply-end c = search needs
+
+apply-requires : tie.Need-apply-requires
+apply-requires c κs = let a = c .before .before .record-change .ensures in
+    let o = a .old in
+    let z = a .size in
+    (subst InTable (c .before .before .before .before .before .before .before .i .given .1) (c .before .before .before .before .before .before .before .before .before .look-up-new .ensures .1), new-says (c .before .before .before .before .before .before .before .before .before .before .before .before .before .before .args .session) (c .before .before .before .before .before .before .before .before .before .before .before .before .before .before .args .device .now) (c .before .before .before .before .before .before .before .before .before .before .before .before .before .before .args .work .now) (c .before .before .before .before .before .before .before .before .before .before .before .before .before .before .args .name .now) _ (sym (ap lookedOf (c .before .before .before .before .before .before .before .i .given .1)) ∙ c .before .before .before .before .before .before .before .before .before .look-up-new .ensures .0) .0, a .bounded, omega arith, omega arith, omega arith)
+
+same-length : tie.Need-same-length
+same-length c = search needs
+
+returns : tie.Need-returns
+returns c = told _ _ _ _ (c .before .before .before .before .before .before .before .before .before .args .device .now) (c .before .before .before .before .before .before .before .before .before .args .work .now) _ (c .refused .ensures .0) (c .refused .ensures .1) (create-bad (c .before .before .before .before .before .before .before .before .before .args .session) (c .before .before .before .before .before .before .before .before .before .args .device .now) (c .before .before .before .before .before .before .before .before .before .args .work .now) (c .before .before .before .before .before .before .before .before .before .args .name .now) _ (sym (ap lookedOf (c .before .before .why .given .1)) ∙ c .before .before .before .before .look-up-new .ensures .0))
+
+same-length-2 : tie.Need-same-length-2
+same-length-2 c = search needs
+
+returns-2 : tie.Need-returns-2
+returns-2 c = let a = c .before .before .before .before .before .record-change .ensures in
+    create-fine (c .before .before .before .before .before .before .before .before .before .before .before .before .before .before .before .before .before .args .session) (c .before .before .before .before .before .before .before .before .before .before .before .before .before .before .before .before .before .args .device .now) (c .before .before .before .before .before .before .before .before .before .before .before .before .before .before .before .before .before .args .work .now) (c .before .before .before .before .before .before .before .before .before .before .before .before .before .before .before .before .before .args .name .now) _ _ _ (sym (ap lookedOf (c .before .before .before .before .before .before .before .before .before .before .i .given .1)) ∙ c .before .before .before .before .before .before .before .before .before .before .before .before .look-up-new .ensures .0) (create-stores (view (stateOf (c .before .before .before .before .before .before .before .before .before .before .before .before .before .before .before .before .before .args .session) (c .before .before .before .before .before .before .before .before .before .before .before .before .before .before .before .before .before .args .device .now) (c .before .before .before .before .before .before .before .before .before .before .before .before .before .before .before .before .before .args .work .now))) _ _ 0 [] (a .nodes) (a .extents) (c .before .before .before .before .before .before .before .before .before .before .before .before .before .before .before .before .before .args .name .now) (a .table) (a .bytes-are ∙ c .before .before .before .before .before .before .before .renamed .ensures ∙ new-record (c .before .before .before .before .before .before .before .before .before .before .before .before .before .before .before .before .before .args .name .now))) (c .before .before .apply .ensures)
+
+pub create-spec : {M : Type 1} → statement M
+create-spec =
+    tie.close
+    (tie.spec
+    look-up-new-requires
+    enum-known-why
+    refused-requires
+    enum-known-i
+    sub-renamed
+    part-renamed-start
+    part-renamed-end
+    renamed-requires
+    record-change-requires
+    sub-apply
+    part-apply-start
+    part-apply-end
+    apply-requires
+    same-length
+    returns
+    same-length-2
+    returns-2)

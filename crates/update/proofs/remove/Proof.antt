@@ -1,0 +1,71 @@
+use native.Mathlib.Omega.{arith}
+use mathlib.Core.Path.{refl, sym, ap, subst, _∙_}
+use mathlib.Core.List.{[]}
+use Rattle.spec.specs.Transaction.{view, stateOf}
+use Rattle.lookup.specs.Looks.{lookedOf, InTable}
+use Rattle.checks.proofs.Laws.{told}
+use Rattle.lookup.proofs.Laws.{file-says}
+use Rattle.update.proofs.Stores.{remove-stores, emptied-fits}
+use Rattle.update.proofs.Laws.{remove-bad, remove-fine}
+use borrow.Author.Needs.{needs}
+use Rattle.update.proofs.remove.Statement.{statement}
+use Rattle.update.proofs.remove.Tie as tie
+
+look-up-requires : tie.Need-look-up-requires
+look-up-requires c κs = search needs
+
+enum-known-why : tie.Need-enum-known-why
+enum-known-why c = search needs
+
+refused-requires : tie.Need-refused-requires
+refused-requires c κs = search needs
+
+enum-known-i : tie.Need-enum-known-i
+enum-known-i c = search needs
+
+draft-of-requires : tie.Need-draft-of-requires
+draft-of-requires c κs = (subst InTable (c .before .before .i .given .1) (c .before .before .before .before .look-up .ensures .1), omega arith)
+
+sub-apply : tie.Need-sub-apply
+sub-apply c = search needs
+
+part-apply-start : tie.Need-part-apply-start
+part-apply-start c = search needs
+
+part-apply-end : tie.Need-part-apply-end
+part-apply-end c = search needs
+
+apply-requires : tie.Need-apply-requires
+apply-requires c κs = let b = emptied-fits (view (stateOf (c .before .before .before .before .before .before .before .before .before .before .before .before .before .args .session) (c .before .before .before .before .before .before .before .before .before .before .before .before .before .args .device .now) (c .before .before .before .before .before .before .before .before .before .before .before .before .before .args .work .now))) _ _ (c .before .before .before .draft-of .ensures) in
+    (subst InTable (c .before .before .before .before .before .before .i .given .1) (c .before .before .before .before .before .before .before .before .look-up .ensures .1), file-says (c .before .before .before .before .before .before .before .before .before .before .before .before .before .args .session) (c .before .before .before .before .before .before .before .before .before .before .before .before .before .args .device .now) (c .before .before .before .before .before .before .before .before .before .before .before .before .before .args .work .now) (c .before .before .before .before .before .before .before .before .before .before .before .before .before .args .name .now) _ (sym (ap lookedOf (c .before .before .before .before .before .before .i .given .1)) ∙ c .before .before .before .before .before .before .before .before .look-up .ensures .0), b .bounded, omega arith, omega arith, omega arith)
+
+same-length : tie.Need-same-length
+same-length c = search needs
+
+returns : tie.Need-returns
+returns c = told _ _ _ _ (c .before .before .before .before .before .before .before .before .before .args .device .now) (c .before .before .before .before .before .before .before .before .before .args .work .now) _ (c .refused .ensures .0) (c .refused .ensures .1) (remove-bad (c .before .before .before .before .before .before .before .before .before .args .session) (c .before .before .before .before .before .before .before .before .before .args .device .now) (c .before .before .before .before .before .before .before .before .before .args .work .now) (c .before .before .before .before .before .before .before .before .before .args .name .now) _ (sym (ap lookedOf (c .before .before .why .given .1)) ∙ c .before .before .before .before .look-up .ensures .0))
+
+same-length-2 : tie.Need-same-length-2
+same-length-2 c = search needs
+
+returns-2 : tie.Need-returns-2
+returns-2 c = let b = emptied-fits (view (stateOf (c .before .before .before .before .before .before .before .before .before .before .before .before .before .before .before .before .args .session) (c .before .before .before .before .before .before .before .before .before .before .before .before .before .before .before .before .args .device .now) (c .before .before .before .before .before .before .before .before .before .before .before .before .before .before .before .before .args .work .now))) _ _ (c .before .before .before .before .before .before .draft-of .ensures) in
+    remove-fine (c .before .before .before .before .before .before .before .before .before .before .before .before .before .before .before .before .args .session) (c .before .before .before .before .before .before .before .before .before .before .before .before .before .before .before .before .args .device .now) (c .before .before .before .before .before .before .before .before .before .before .before .before .before .before .before .before .args .work .now) (c .before .before .before .before .before .before .before .before .before .before .before .before .before .before .before .before .args .name .now) _ _ _ (sym (ap lookedOf (c .before .before .before .before .before .before .before .before .before .i .given .1)) ∙ c .before .before .before .before .before .before .before .before .before .before .before .look-up .ensures .0) (remove-stores (view (stateOf (c .before .before .before .before .before .before .before .before .before .before .before .before .before .before .before .before .args .session) (c .before .before .before .before .before .before .before .before .before .before .before .before .before .before .before .before .args .device .now) (c .before .before .before .before .before .before .before .before .before .before .before .before .before .before .before .before .args .work .now))) _ _ 0 [] b refl) (c .before .before .apply .ensures)
+
+pub remove-spec : {M : Type 1} → statement M
+remove-spec =
+    tie.close
+    (tie.spec
+    look-up-requires
+    enum-known-why
+    refused-requires
+    enum-known-i
+    draft-of-requires
+    sub-apply
+    part-apply-start
+    part-apply-end
+    apply-requires
+    same-length
+    returns
+    same-length-2
+    returns-2)

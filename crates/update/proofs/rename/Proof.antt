@@ -1,0 +1,87 @@
+use native.Mathlib.Omega.{arith}
+use mathlib.Core.Path.{refl, sym, ap, subst, _∙_}
+use mathlib.Core.List.{[]}
+use Rattle.spec.specs.Transaction.{view, stateOf}
+use Rattle.lookup.specs.Looks.{lookedOf, InTable}
+use Rattle.checks.proofs.Laws.{told}
+use Rattle.inode.proofs.Laws.{record-at, view-length}
+use Rattle.lookup.proofs.Laws.{rename-says}
+use Rattle.update.proofs.Records.{renamed-record}
+use Rattle.update.proofs.Stores.{rename-stores}
+use Rattle.update.proofs.Laws.{rename-bad, rename-fine}
+use borrow.Author.Needs.{needs}
+use Rattle.update.proofs.rename.Statement.{statement}
+use Rattle.update.proofs.rename.Tie as tie
+
+look-up-pair-requires : tie.Need-look-up-pair-requires
+look-up-pair-requires c κs = search needs
+
+enum-known-why : tie.Need-enum-known-why
+enum-known-why c = search needs
+
+refused-requires : tie.Need-refused-requires
+refused-requires c κs = search needs
+
+enum-known-i : tie.Need-enum-known-i
+enum-known-i c = search needs
+
+mul-at : tie.Need-mul-at
+mul-at c = search needs
+
+inode-block-requires : tie.Need-inode-block-requires
+inode-block-requires c κs = subst InTable (c .before .before .i .given .1) (c .before .before .before .before .look-up-pair .ensures .1)
+
+renamed-requires : tie.Need-renamed-requires
+renamed-requires c κs = (rename-says (c .before .before .before .before .before .before .before .before .before .before .before .args .session) (c .before .before .before .before .before .before .before .before .before .before .before .args .device .now) (c .before .before .before .before .before .before .before .before .before .before .before .args .work .now) (c .before .before .before .before .before .before .before .before .before .before .before .args .name .now) _ (c .before .before .before .before .before .before .before .before .before .before .before .args .new .now) (sym (ap lookedOf (c .before .before .before .i .given .1)) ∙ c .before .before .before .before .before .look-up-pair .ensures .0) .1, omega arith)
+
+record-change-requires : tie.Need-record-change-requires
+record-change-requires c κs = search needs
+
+sub-apply : tie.Need-sub-apply
+sub-apply c = search needs
+
+part-apply-start : tie.Need-part-apply-start
+part-apply-start c = search needs
+
+part-apply-end : tie.Need-part-apply-end
+part-apply-end c = search needs
+
+apply-requires : tie.Need-apply-requires
+apply-requires c κs = let a = c .before .before .record-change .ensures in
+    let o = a .old in
+    let z = a .size in
+    (subst InTable (c .before .before .before .before .before .before .before .before .i .given .1) (c .before .before .before .before .before .before .before .before .before .before .look-up-pair .ensures .1), rename-says (c .before .before .before .before .before .before .before .before .before .before .before .before .before .before .before .before .args .session) (c .before .before .before .before .before .before .before .before .before .before .before .before .before .before .before .before .args .device .now) (c .before .before .before .before .before .before .before .before .before .before .before .before .before .before .before .before .args .work .now) (c .before .before .before .before .before .before .before .before .before .before .before .before .before .before .before .before .args .name .now) _ (c .before .before .before .before .before .before .before .before .before .before .before .before .before .before .before .before .args .new .now) (sym (ap lookedOf (c .before .before .before .before .before .before .before .before .i .given .1)) ∙ c .before .before .before .before .before .before .before .before .before .before .look-up-pair .ensures .0) .0, a .bounded, omega arith, omega arith, omega arith)
+
+same-length : tie.Need-same-length
+same-length c = search needs
+
+returns : tie.Need-returns
+returns c = told _ _ _ _ (c .before .before .before .before .before .before .before .before .before .before .args .device .now) (c .before .before .before .before .before .before .before .before .before .before .args .work .now) _ (c .refused .ensures .0) (c .refused .ensures .1) (rename-bad (c .before .before .before .before .before .before .before .before .before .before .args .session) (c .before .before .before .before .before .before .before .before .before .before .args .device .now) (c .before .before .before .before .before .before .before .before .before .before .args .work .now) (c .before .before .before .before .before .before .before .before .before .before .args .name .now) (c .before .before .before .before .before .before .before .before .before .before .args .new .now) _ (sym (ap lookedOf (c .before .before .why .given .1)) ∙ c .before .before .before .before .look-up-pair .ensures .0))
+
+same-length-2 : tie.Need-same-length-2
+same-length-2 c = search needs
+
+returns-2 : tie.Need-returns-2
+returns-2 c = let a = c .before .before .before .before .before .record-change .ensures in
+    rename-fine (c .before .before .before .before .before .before .before .before .before .before .before .before .before .before .before .before .before .before .before .args .session) (c .before .before .before .before .before .before .before .before .before .before .before .before .before .before .before .before .before .before .before .args .device .now) (c .before .before .before .before .before .before .before .before .before .before .before .before .before .before .before .before .before .before .before .args .work .now) (c .before .before .before .before .before .before .before .before .before .before .before .before .before .before .before .before .before .before .before .args .name .now) (c .before .before .before .before .before .before .before .before .before .before .before .before .before .before .before .before .before .before .before .args .new .now) _ _ _ (sym (ap lookedOf (c .before .before .before .before .before .before .before .before .before .before .before .i .given .1)) ∙ c .before .before .before .before .before .before .before .before .before .before .before .before .before .look-up-pair .ensures .0) (rename-stores (view (stateOf (c .before .before .before .before .before .before .before .before .before .before .before .before .before .before .before .before .before .before .before .args .session) (c .before .before .before .before .before .before .before .before .before .before .before .before .before .before .before .before .before .before .before .args .device .now) (c .before .before .before .before .before .before .before .before .before .before .before .before .before .before .before .before .before .before .before .args .work .now))) _ _ 0 [] (a .nodes) (a .extents) (c .before .before .before .before .before .before .before .before .before .before .before .before .before .before .before .before .before .before .before .args .new .now) (rename-says (c .before .before .before .before .before .before .before .before .before .before .before .before .before .before .before .before .before .before .before .args .session) (c .before .before .before .before .before .before .before .before .before .before .before .before .before .before .before .before .before .before .before .args .device .now) (c .before .before .before .before .before .before .before .before .before .before .before .before .before .before .before .before .before .before .before .args .work .now) (c .before .before .before .before .before .before .before .before .before .before .before .before .before .before .before .before .before .before .before .args .name .now) _ (c .before .before .before .before .before .before .before .before .before .before .before .before .before .before .before .before .before .before .before .args .new .now) (sym (ap lookedOf (c .before .before .before .before .before .before .before .before .before .before .before .i .given .1)) ∙ c .before .before .before .before .before .before .before .before .before .before .before .before .before .look-up-pair .ensures .0) .1) (view-length (c .before .before .before .before .before .before .before .before .before .before .before .before .before .before .before .before .before .before .before .args .session) (c .before .before .before .before .before .before .before .before .before .before .before .before .before .before .before .before .before .before .before .args .device .now) (c .before .before .before .before .before .before .before .before .before .before .before .before .before .before .before .before .before .before .before .args .work .now) _) (a .table) (a .bytes-are ∙ c .before .before .before .before .before .before .before .renamed .ensures ∙ renamed-record (view (stateOf (c .before .before .before .before .before .before .before .before .before .before .before .before .before .before .before .before .before .before .before .args .session) (c .before .before .before .before .before .before .before .before .before .before .before .before .before .before .before .before .before .before .before .args .device .now) (c .before .before .before .before .before .before .before .before .before .before .before .before .before .before .before .before .before .before .before .args .work .now))) _ _ (c .before .before .before .before .before .before .before .before .before .before .before .before .before .before .before .before .before .before .before .args .new .now) (c .before .before .before .before .before .before .before .before .inode-block .ensures))) (c .before .before .apply .ensures)
+
+pub rename-spec : {M : Type 1} → statement M
+rename-spec =
+    tie.close
+    (tie.spec
+    look-up-pair-requires
+    enum-known-why
+    refused-requires
+    enum-known-i
+    mul-at
+    inode-block-requires
+    renamed-requires
+    record-change-requires
+    sub-apply
+    part-apply-start
+    part-apply-end
+    apply-requires
+    same-length
+    returns
+    same-length-2
+    returns-2)

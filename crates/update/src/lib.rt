@@ -1,0 +1,247 @@
+// The public calls that change files: tests in the order of the numbers, the plan, then one call below.
+use alloc::draft_of;
+use block::ByteOffset;
+use block::DiskBlock;
+use block::copy_of;
+use block::load;
+use change::Change;
+use change::apply;
+use checks::Checked;
+use checks::refused;
+use content::record_bytes;
+use inode::inode_block;
+use inode::name_of;
+use inode::size_of;
+use lookup::Looked;
+use lookup::look_up;
+use lookup::look_up_new;
+use lookup::look_up_pair;
+use lookup::look_up_sized;
+use runs::Tree;
+use runs::no_runs;
+use spec::Finished;
+use spec::Limits;
+use spec::Session;
+use transaction::view_block;
+ghost use mathlib.Core.Path.{_≡_};
+ghost use mathlib.Core.List.{[]};
+ghost use Prim.Native.Nat.{_+_, _<_, _≤_, max};
+ghost use lib.ListN.{length, getD};
+ghost use Rattle.spec.specs.Inode.{blocksFor};
+ghost use Rattle.spec.specs.Answers.{doneOf};
+ghost use Rattle.spec.specs.Transaction.{stateOf, view};
+ghost use Rattle.spec.specs.Calls.{left, outcome, settle, rewrite, create, remove, rename, write, setSize};
+ghost use Rattle.runs.specs.Runs.{listed, nodesIn, Bounded};
+ghost use Rattle.update.specs.Records.{renamedIn, Alone};
+
+// A file of which only the record changes: the bitmap stays.
+fn same_tree(table: [u8; 512]) -> Tree
+    ensures { λ t. ⌜ (t .table ≡ table) × (nodesIn t ≡ []) × (listed (t .runs) ≡ []) × Bounded t ⌝ }
+{
+    let runs = no_runs();
+    Tree {
+        table: table,
+        runs: runs,
+        node: [0u32; 4],
+        nodes: 0,
+        before: 0,
+        held: 0,
+    }
+}
+
+// The change of a record alone.
+fn record_change<'a>(device: &'a [u8], work: &'a [u8], session: Session, bytes: [u8; 32]) -> Change
+    ensures { λ c. ⌜ Alone (view (stateOf session (now (device .entry)) (now (work .entry)))) bytes c ⌝ }
+{
+    let table = copy_of(view_block(device, work, session, DiskBlock(33)));
+    let tree = same_tree(table);
+    Change {
+        tree: tree,
+        record: bytes,
+        old: 0,
+        size: 0,
+    }
+}
+
+fn byte_named(name: &[u8], block: &[u8], at: usize, k: usize) -> u8
+    requires { ⌜ (length (now name) ≡ 8) × (at + 32 ≤ 512) × (k < 32) ⌝ }
+    ensures { λ r. ⌜ r ≡ getD (renamedIn (now (name .entry)) (now (block .entry)) at) k 0 ⌝ }
+{
+    if k < 8 {
+        return name[k];
+    }
+    load(block, at + k) as u8
+}
+
+// The record at a place of a block, under another name.
+fn renamed(name: &[u8], block: &[u8], at: usize) -> [u8; 32]
+    requires { ⌜ (length (now name) ≡ 8) × (at + 32 ≤ 512) ⌝ }
+    ensures { λ q. ⌜ q ≡ renamedIn (now (name .entry)) (now (block .entry)) at ⌝ }
+{
+    let mut q = [0u8; 32];
+    let mut k: usize = 0;
+    while k < 32 {
+        q[k] = byte_named(name, block, at, k);
+        k += 1;
+    }
+    q
+}
+
+// "Create takes the lowest empty record."
+pub fn create(device: &[u8], work: &mut [u8], session: Session, name: &[u8]) -> Finished
+    ensures { λ r. ⌜ left (r .session) (now (device .entry)) (now (work .exit)) (doneOf (r .answer))
+        ≡ create (stateOf session (now (device .entry)) (now (work .entry))) (now (name .entry)) ⌝ }
+{
+    match look_up_new(device, work, session, name) {
+        Looked::Bad(why) => refused(session, why),
+        Looked::At(i) => {
+            let record = renamed(name, &name[0..0], 0);
+            let c = record_change(device, work, session, record);
+            apply(device, work, session, i, c, 0, &name[0..0])
+        }
+    }
+}
+
+// "Rename keeps the record in its place."
+pub fn rename(device: &[u8], work: &mut [u8], session: Session, name: &[u8], new: &[u8]) -> Finished
+    ensures { λ r. ⌜ left (r .session) (now (device .entry)) (now (work .exit)) (doneOf (r .answer))
+        ≡ rename (stateOf session (now (device .entry)) (now (work .entry))) (now (name .entry)) (now (new .entry)) ⌝ }
+{
+    match look_up_pair(device, work, session, name, new) {
+        Looked::Bad(why) => refused(session, why),
+        Looked::At(i) => {
+            let at = 32 * (i % 16);
+            let record = renamed(new, inode_block(device, work, session, i), at);
+            let c = record_change(device, work, session, record);
+            apply(device, work, session, i, c, 0, &new[0..0])
+        }
+    }
+}
+
+// "Remove .. give back every data and extent block": the record is emptied.
+pub fn remove(device: &[u8], work: &mut [u8], session: Session, name: &[u8]) -> Finished
+    ensures { λ r. ⌜ left (r .session) (now (device .entry)) (now (work .exit)) (doneOf (r .answer))
+        ≡ remove (stateOf session (now (device .entry)) (now (work .entry))) (now (name .entry)) ⌝ }
+{
+    match look_up(device, work, session, name) {
+        Looked::Bad(why) => refused(session, why),
+        Looked::At(i) => {
+            let d = draft_of(device, work, session, i, 0);
+            let tree = d.tree;
+            let c = Change {
+                tree: tree,
+                record: [0u8; 32],
+                old: 0,
+                size: 0,
+            };
+            apply(device, work, session, i, c, 0, &name[0..0])
+        }
+    }
+}
+
+// "A file of size s has s/512 blocks, rounded up."
+fn blocks_for(size: usize) -> usize
+    requires { ⌜ size < 4294967296 ⌝ }
+    ensures { λ r. ⌜ (r ≡ blocksFor size) × (r ≤ 8388608) ⌝ }
+{
+    (size + (Limits::BLOCK_SIZE - 1)) / Limits::BLOCK_SIZE
+}
+
+fn wide(n: u32) -> usize
+    ensures { λ r. ⌜ (r ≡ n) × (r < 4294967296) ⌝ }
+{
+    n as usize
+}
+
+// 16, 17 and 18: record i becomes a file of this size, with bytes laid over it at x.
+fn resize(
+    device: &[u8],
+    work: &mut [u8],
+    session: Session,
+    i: usize,
+    size: usize,
+    x: usize,
+    bytes: &[u8],
+) -> Finished
+    requires { ⌜ (i < 128) × (length (now work) ≡ 16384) × (x + length (now bytes) ≤ 1048576) × (size < 4294967296) ⌝ }
+    ensures { λ r. ⌜ left (r .session) (now (device .entry)) (now (work .exit)) (doneOf (r .answer))
+        ≡ settle (outcome (stateOf session (now (device .entry)) (now (work .entry)))) (rewrite (stateOf session (now (device .entry)) (now (work .entry))) i size x (now (bytes .entry))) ⌝ }
+{
+    let d = draft_of(device, work, session, i, blocks_for(size));
+    let tree = d.tree;
+    let verdict = d.verdict;
+    match verdict {
+        Checked::Bad(why) => refused(session, why),
+        Checked::Fine => {
+            let table = inode_block(device, work, session, i);
+            let old = wide(size_of(table, i));
+            let record = record_bytes(name_of(table, i), size, tree);
+            let c = Change {
+                tree: tree,
+                record: record,
+                old: old,
+                size: size,
+            };
+            apply(device, work, session, i, c, x, bytes)
+        }
+    }
+}
+
+// The larger of a file's size and an end.
+fn larger(size: u32, end: usize) -> usize
+    requires { ⌜ end ≤ 1048576 ⌝ }
+    ensures { λ r. ⌜ (r ≡ max size end) × (r < 4294967296) ⌝ }
+{
+    let n = wide(size);
+    if n < end {
+        return end;
+    }
+    n
+}
+
+// "the size becomes the larger of the old size and x plus the data length, a gap is zeros"
+pub fn write(
+    device: &[u8],
+    work: &mut [u8],
+    session: Session,
+    name: &[u8],
+    x: ByteOffset,
+    bytes: &[u8],
+) -> Finished
+    ensures { λ r. ⌜ left (r .session) (now (device .entry)) (now (work .exit)) (doneOf (r .answer))
+        ≡ write (stateOf session (now (device .entry)) (now (work .entry))) (now (name .entry)) (x .0) (now (bytes .entry)) ⌝ }
+{
+    let from = x.0;
+    match look_up_sized(device, work, session, name, from, bytes.len()) {
+        Looked::Bad(why) => refused(session, why),
+        Looked::At(i) => {
+            let old = size_of(inode_block(device, work, session, i), i);
+            resize(
+                device,
+                work,
+                session,
+                i,
+                larger(old, from + bytes.len()),
+                from,
+                bytes,
+            )
+        }
+    }
+}
+
+// Cut, or lengthened by zeros.
+pub fn set_size(
+    device: &[u8],
+    work: &mut [u8],
+    session: Session,
+    name: &[u8],
+    size: usize,
+) -> Finished
+    ensures { λ r. ⌜ left (r .session) (now (device .entry)) (now (work .exit)) (doneOf (r .answer))
+        ≡ setSize (stateOf session (now (device .entry)) (now (work .entry))) (now (name .entry)) size ⌝ }
+{
+    match look_up_sized(device, work, session, name, 0, size) {
+        Looked::Bad(why) => refused(session, why),
+        Looked::At(i) => resize(device, work, session, i, size, 0, &name[0..0]),
+    }
+}

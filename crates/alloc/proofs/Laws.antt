@@ -26,6 +26,7 @@ use Rattle.extents.proofs.Laws.{length-up}
 use Rattle.runs.specs.declared.Runs.{Runs}
 use Rattle.runs.specs.Push.{Holds, Small, Pushed}
 use Rattle.runs.proofs.Laws.{pushed-blocks}
+use Rattle.lists.specs.Bits.{length-picks, mark-append}
 use Rattle.alloc.specs.declared.Kept.{Kept}
 use Rattle.alloc.specs.declared.Nodes.{Nodes}
 use Rattle.alloc.specs.Parts.{dataAt, nodesAt, Picked, KeptOf, GaveBack, HeldNodes, TookNodes}
@@ -36,16 +37,6 @@ picks-more : (bits : List ℕ) (k : ℕ) → picks bits (suc k) ≡ picks bits k
 unfolding picks mark
 picks-more bits zero = refl
 picks-more bits (suc k) = ap (λ (l : List ℕ). pick bits ∷ l) (picks-more (set bits (pick bits) 1) k)
-
-pub length-picks : (bits : List ℕ) (n : ℕ) → length (picks bits n) ≡ n
-unfolding picks
-length-picks bits zero = refl
-length-picks bits (suc n) = ap suc (length-picks (set bits (pick bits) 1) n)
-
-pub mark-append : (v : ℕ) (xs ys bits : List ℕ) → mark v (xs ++ ys) bits ≡ mark v ys (mark v xs bits)
-unfolding mark
-mark-append v [] ys bits = refl
-mark-append v (x ∷ xs) ys bits = mark-append v xs ys (set bits x v)
 
 mark-more : (v : ℕ) (bs : List ℕ) (b : ℕ) (bits : List ℕ) → mark v (bs ++ (b ∷ [])) bits ≡ set (mark v bs bits) b v
 unfolding mark

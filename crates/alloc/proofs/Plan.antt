@@ -26,13 +26,14 @@ use Rattle.runs.specs.declared.Runs.{Runs}
 use Rattle.runs.specs.declared.Tree.{Tree}
 use Rattle.runs.specs.Runs.{listed, nodesIn, levelsIn, Bounded}
 use Rattle.runs.specs.Push.{Holds}
-use Rattle.runs.proofs.Laws.{listed-is, counts-runs}
+use Rattle.lists.specs.Bits.{length-picks, mark-append}
+use Rattle.lists.specs.Extents.{runs-counts}
+use Rattle.runs.proofs.Laws.{listed-is}
 use Rattle.alloc.specs.declared.Draft.{Draft}
 use Rattle.alloc.specs.declared.Kept.{Kept}
 use Rattle.alloc.specs.declared.Nodes.{Nodes}
 use Rattle.alloc.specs.Parts.{dataAt, nodesAt, KeptOf, TookData, HeldNodes, TookNodes, GaveBack, nodesHeld}
 use Rattle.alloc.specs.Draft.{resizedAt, tableOf, Drafted}
-use Rattle.alloc.proofs.Laws.{length-picks, mark-append}
 
 -- ---- at most one level
 
@@ -272,7 +273,7 @@ module _ (v : Disk) (i wanted : ℕ) (t₀ : List ℕ) (free : ℕ) (kept : Kept
         -- as many extents' blocks as blocks
         all-blocks : counts (resizedAt v i wanted .extents) ≤ 8192
         all-blocks =
-            rw (extents-are v i wanted, counts-runs (take wanted (dataAt v i) ++ picks (bitsOf (v 33)) (wanted - length (dataAt v i))))
+            rw (extents-are v i wanted, runs-counts (take wanted (dataAt v i) ++ picks (bitsOf (v 33)) (wanted - length (dataAt v i))))
             (omega (
               arith,
               length-append (take wanted (dataAt v i)) (picks (bitsOf (v 33)) (wanted - length (dataAt v i))),

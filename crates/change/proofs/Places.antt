@@ -13,28 +13,15 @@ use Rattle.spec.specs.Inode.{extent, blocksIn, counts}
 use Rattle.runs.specs.declared.Runs.{Runs}
 use Rattle.runs.specs.Runs.{extentsFrom, listed}
 use Rattle.content.proofs.Laws.{extents-more}
-use Rattle.content.proofs.Record.{counts-append, extents-join}
+use Rattle.lists.specs.Counts.{length-upFrom}
+use Rattle.lists.specs.Extents.{counts-append, blocks-append, length-blocks}
+use Rattle.content.proofs.Record.{extents-join}
 use Rattle.change.specs.Contents.{placeOf}
-
-blocks-append : (es fs : List Extent) → blocksIn (es ++ fs) ≡ blocksIn es ++ blocksIn fs
-unfolding blocksIn
-blocks-append [] fs = refl
-blocks-append (e ∷ es) fs = ap (λ (l : List ℕ). upFrom (e .first) (e .count) ++ l) (blocks-append es fs) ∙ sym (append-assoc (upFrom (e .first) (e .count)) (blocksIn es) (blocksIn fs))
-
-length-up : (a n : ℕ) → length (upFrom a n) ≡ n
-length-up a zero = refl
-length-up a (suc n) = ap suc (length-up (suc a) n)
 
 up-at : (a n j : ℕ) → j < n → getD (upFrom a n) j 0 ≡ a + j
 up-at a zero j h = absurd (omega arith)
 up-at a (suc n) zero h = sym (add-zero a)
 up-at a (suc n) (suc j) h = up-at (suc a) n j (omega arith) ∙ omega arith
-
-pub length-blocks : (es : List Extent) → length (blocksIn es) ≡ counts es
-unfolding blocksIn
-length-blocks [] = refl
-length-blocks (e ∷ es) =
-    length-append (upFrom (e .first) (e .count)) (blocksIn es) ∙ omega (arith, length-up (e .first) (e .count), length-blocks es)
 
 module _ (r : Runs) where
   pub place-none : placeOf r 0 ≡ 0
@@ -70,7 +57,7 @@ module _ (r : Runs) where
         let s = ap (λ (l : List ℕ). length l) (split k m (omega arith)) in
         let a = length-append (blocksIn (extentsFrom (r .first) (r .count) 0 k)) (upFrom (getD (r .first) k 0) (getD (r .count) k 0) ++ blocksIn (extentsFrom (r .first) (r .count) (suc k) m)) in
         let b = length-append (upFrom (getD (r .first) k 0) (getD (r .count) k 0)) (blocksIn (extentsFrom (r .first) (r .count) (suc k) m)) in
-        let u = length-up (getD (r .first) k 0) (getD (r .count) k 0) in
+        let u = length-upFrom (getD (r .first) k 0) (getD (r .count) k 0) in
         let l = length-blocks (extentsFrom (r .first) (r .count) 0 k) in
         omega arith
 
@@ -86,7 +73,7 @@ module _ (r : Runs) where
         ap (λ (xs : List ℕ). getD xs (counts (extentsFrom (r .first) (r .count) 0 k) + j) 0) (split k m (omega arith))
         ∙ ap (λ (n : ℕ). getD (front ++ (own ++ behind)) (n + j) 0) (sym (length-blocks (extentsFrom (r .first) (r .count) 0 k)))
         ∙ getD-append-add front (own ++ behind) j 0
-        ∙ List·getD-append own behind 0 j (rw (length-up (getD (r .first) k 0) (getD (r .count) k 0)) l)
+        ∙ List·getD-append own behind 0 j (rw (length-upFrom (getD (r .first) k 0) (getD (r .count) k 0)) l)
         ∙ up-at (getD (r .first) k 0) (getD (r .count) k 0) j l
         )
 

@@ -16,14 +16,11 @@ use Rattle.spec.specs.Inode.{extent, counts, bytesOfSlots, nodeSlots, topSlots,
 use Rattle.runs.specs.declared.Runs.{Runs}
 use Rattle.runs.specs.declared.Tree.{Tree}
 use Rattle.runs.specs.Runs.{extentsFrom, listed, nodesIn, levelsIn}
+use Rattle.lists.specs.Extents.{counts-append}
 use Rattle.content.specs.Content.{countsBelow, slotsAbove}
 use Rattle.content.proofs.Laws.{extents-drop, extents-take, extents-more}
 
 -- ---- extents
-
-pub counts-append : (es fs : List Extent) → counts (es ++ fs) ≡ counts es + counts fs
-counts-append [] fs = omega arith
-counts-append (e ∷ es) fs = let h = counts-append es fs in omega arith
 
 module _ (fs cs : List ℕ) where
   pub extents-join : (k n m : ℕ) → extentsFrom fs cs k (n + m) ≡ extentsFrom fs cs k n ++ extentsFrom fs cs (k + n) m

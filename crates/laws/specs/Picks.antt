@@ -39,11 +39,6 @@ bit-set bits b x h z = go (eqb b x) refl
 
 -- ---- many
 
-pub length-picks : (bits : List ℕ) (n : ℕ) → length (picks bits n) ≡ n
-unfolding picks
-length-picks bits zero = refl
-length-picks bits (suc n) = ap suc (length-picks (set bits (pick bits) 1) n)
-
 -- the table with all picks set: each bit as before, and 1 more where it was picked
 pub mark-picks : (bits : List ℕ) (n : ℕ) → n ≤ freeBits bits → (x : ℕ) → getD (mark 1 (picks bits n) bits) x 0 ≡ getD bits x 0 + occurs x (picks bits n)
 unfolding picks mark
@@ -91,11 +86,6 @@ picks-append bits zero m = let e : 0 + m ≡ m = omega arith in rw e
 picks-append bits (suc n) m =
     let e : suc n + m ≡ suc (n + m) = omega arith in
     rw e (ap (λ (l : List ℕ). pick bits ∷ l) (picks-append (set bits (pick bits) 1) n m))
-
-pub mark-append : (x : ℕ) (bs cs bits : List ℕ) → mark x (bs ++ cs) bits ≡ mark x cs (mark x bs bits)
-unfolding mark
-mark-append x [] cs bits = refl
-mark-append x (b ∷ bs) cs bits = mark-append x bs cs (set bits b x)
 
 -- ---- the places of the zero bits, ascending
 

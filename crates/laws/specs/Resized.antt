@@ -27,7 +27,8 @@ use Rattle.laws.specs.Volume.{VolumeSound}
 use Rattle.laws.specs.Tree.{levels-few}
 use Rattle.laws.specs.Runs.{count-runs}
 use Rattle.laws.specs.Marks.{Exchange}
-use Rattle.laws.specs.Picks.{length-picks, picks-fresh, picks-within, picks-append}
+use Rattle.laws.specs.Picks.{picks-fresh, picks-within, picks-append}
+use Rattle.lists.specs.Bits.{length-picks}
 use Rattle.laws.specs.FreeList.{free-length, picks-free, picks-behind}
 
 -- ---- at most one level

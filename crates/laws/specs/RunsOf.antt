@@ -14,30 +14,6 @@ use Rattle.spec.specs.Sound.{apart}
 use Rattle.lists.specs.Counts.{occurs-head}
 use Rattle.lists.specs.All.{All}
 use Rattle.laws.specs.Soundness.{Inside, ExtentInside}
-use Rattle.laws.specs.Tree.{length-blocks}
-
--- ---- the blocks again
-
-prepend-blocks : (b : ℕ) (es : List Extent) → blocksIn (prepend b es) ≡ b ∷ blocksIn es
-unfolding blocksIn
-prepend-blocks b [] = refl
-prepend-blocks b (e ∷ es) = go (eqb (e .first) (suc b)) refl
-  where
-    go : (t : Bool) → eqb (e .first) (suc b) ≡ t → blocksIn (cond t (extent b (suc (e .count)) ∷ es) (extent b 1 ∷ e ∷ es)) ≡ b ∷ blocksIn (e ∷ es)
-    go true q = ap (λ k. b ∷ (upFrom k (e .count) ++ blocksIn es)) (sym (eqb-true (e .first) (suc b) q))
-    go false q = refl
-
-no-blocks : blocksIn [] ≡ []
-unfolding blocksIn
-no-blocks = refl
-
-pub runs-blocks : (bs : List ℕ) → blocksIn (runs bs) ≡ bs
-unfolding runs
-runs-blocks [] = no-blocks
-runs-blocks (b ∷ bs) = prepend-blocks b (runs bs) ∙ ap (λ (l : List ℕ). b ∷ l) (runs-blocks bs)
-
-pub runs-counts : (bs : List ℕ) → counts (runs bs) ≡ length bs
-runs-counts bs = sym (length-blocks (runs bs)) ∙ ap length (runs-blocks bs)
 
 -- ---- inside
 

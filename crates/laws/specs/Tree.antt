@@ -12,7 +12,8 @@ use Rattle.spec.specs.Bytes.{occurs, concat, upFrom}
 use Rattle.spec.specs.Disk.{Disk}
 use Rattle.spec.specs.declared.Extent.{Extent}
 use Rattle.spec.specs.Inode.{Inode, inodeOf, used, slotsAt, below, extentsBelow, treeDepth, extentsOf, levelsOf, nodesOf, blocksIn, dataOf, blocksFor, counts}
-use Rattle.lists.specs.Counts.{occurs-take, length-upFrom, occurs-upFrom}
+use Rattle.lists.specs.Counts.{occurs-take, occurs-upFrom}
+use Rattle.lists.specs.Extents.{counts-append, length-blocks}
 use Rattle.lists.specs.All.{All}
 use Rattle.bitmap.proofs.Laws.{occurs-append}
 use Rattle.laws.specs.Soundness.{Inside, ExtentInside, Counted, CountsAgree, FileSound}
@@ -58,16 +59,6 @@ module _ (v : Disk) (n : Inode) where
   nodes-deep e = ap concat (levels-deep e) ∙ append-nil (map (λ e. e .first) (used (n .slots)))
 
 -- ---- how many data blocks
-
-pub counts-append : (es fs : List Extent) → counts (es ++ fs) ≡ counts es + counts fs
-counts-append [] fs = omega arith
-counts-append (e ∷ es) fs = omega (arith, counts-append es fs)
-
-pub length-blocks : (es : List Extent) → length (blocksIn es) ≡ counts es
-unfolding blocksIn
-length-blocks [] = refl
-length-blocks (e ∷ es) =
-    length-append (upFrom (e .first) (e .count)) (blocksIn es) ∙ ap₂ (λ (x y : ℕ). x + y) (length-upFrom (e .first) (e .count)) (length-blocks es)
 
 counts-below : (v : Disk) (slots : List Extent) → All (Counted v) slots → counts (below v slots) ≡ counts slots
 counts-below v [] c = refl

@@ -18,7 +18,8 @@ use Rattle.lists.specs.Counts.{occurs-head}
 use Rattle.lists.specs.All.{All, all-at}
 use Rattle.laws.specs.Soundness.{Inside, ExtentInside, CountsAgree, packed-of, FileSound}
 use Rattle.laws.specs.Tree.{extents-flat, extents-deep, levels-flat, levels-deep, nodes-flat}
-use Rattle.laws.specs.RunsOf.{Fits, runs-blocks, runs-counts, runs-fit, runs-apart}
+use Rattle.laws.specs.RunsOf.{Fits, runs-fit, runs-apart}
+use Rattle.lists.specs.Extents.{runs-blocks, runs-counts}
 use Rattle.laws.specs.Readback.{Slot, slot-of, padded, used-padded, padded-packed, read-inode, read-reserved, length-nodeSlots, tops-nodeSlots, nodeSlots-slot, counts-nodeSlots, Filled, Packed, packed, packed-slots, packed-counts, packed-below, packed-full}
 
 All-inside : (N : ℕ) (es : List Extent) → All (Fits N) es → All (ExtentInside N) es

@@ -4,3 +4,5 @@ pub mod All
 pub mod Members
 pub mod Lowest
 pub mod Places
+pub mod Extents
+pub mod Bits

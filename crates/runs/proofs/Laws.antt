@@ -220,20 +220,6 @@ listed-is r es n h s l =
     (λ j q. rw (zero-add j) (column-at (r .len) j (r .first) (firsts es) (omega arith) (omega (arith, s .firsts)) (h .first)))
     (λ j q. rw (zero-add j) (column-at (r .len) j (r .count) (lengths es) (omega arith) (omega (arith, s .counts)) (h .count))))
 
--- as many blocks as the list has
-counts-prepend : (b : ℕ) (es : List Extent) → counts (prepend b es) ≡ suc (counts es)
-counts-prepend b [] = refl
-counts-prepend b (e ∷ es) = go (eqb (e .first) (suc b))
-  where
-    go : (t : Bool) → counts (cond t (extent b (suc (e .count)) ∷ es) (extent b 1 ∷ e ∷ es)) ≡ suc (counts (e ∷ es))
-    go true = omega arith
-    go false = omega arith
-
-pub counts-runs : (bs : List ℕ) → counts (runs bs) ≡ length bs
-unfolding runs
-counts-runs [] = refl
-counts-runs (b ∷ bs) = counts-prepend b (runs bs) ∙ ap suc (counts-runs bs)
-
 -- ---- numbers stay small
 
 set-each : (P : ℕ → Type 0) (xs : List ℕ) (m a : ℕ) → P a → ((k : ℕ) → P (getD xs k 0)) → (k : ℕ) → P (getD (set xs m a) k 0)

@@ -17,6 +17,7 @@ use Rattle.spec.specs.Transaction.{BlockStore, put}
 use Rattle.spec.specs.Plan as plan
 use Rattle.spec.specs.Plan.{Edit, edit, ifChanged, storesOf, inodeEdit, bitmapEdit, nodeEdits, levelEdits, dataEdits, lowestLevel, surplus, resized, fits, creates, removes, renames, rewrites}
 use Rattle.block.proofs.Laws.{same-self}
+use Rattle.lists.specs.Extents.{runs-blocks}
 use Rattle.inode.proofs.Laws.{drop-take}
 use Rattle.runs.specs.declared.Tree.{Tree}
 use Rattle.runs.specs.Runs.{listed, nodesIn, levelsIn, Bounded}
@@ -46,24 +47,6 @@ inside-table : (i : ℕ) → placeOfInode i + 32 ≤ 512
 inside-table i = omega arith
 
 -- ---- trees
-
-prepend-blocks : (b : ℕ) (es : List Extent) → blocksIn (prepend b es) ≡ b ∷ blocksIn es
-unfolding blocksIn
-prepend-blocks b [] = refl
-prepend-blocks b (e ∷ es) = go (eqb (e .first) (suc b)) refl
-  where
-    go : (t : Bool) → eqb (e .first) (suc b) ≡ t → blocksIn (cond t (extent b (suc (e .count)) ∷ es) (extent b 1 ∷ e ∷ es)) ≡ b ∷ blocksIn (e ∷ es)
-    go true q = ap (λ k. b ∷ (upFrom k (e .count) ++ blocksIn es)) (sym (eqb-true (e .first) (suc b) q))
-    go false q = refl
-
-no-blocks : blocksIn [] ≡ []
-unfolding blocksIn
-no-blocks = refl
-
-runs-blocks : (bs : List ℕ) → blocksIn (runs bs) ≡ bs
-unfolding runs
-runs-blocks [] = no-blocks
-runs-blocks (b ∷ bs) = prepend-blocks b (runs bs) ∙ ap (λ (l : List ℕ). b ∷ l) (runs-blocks bs)
 
 -- a file without blocks gives all of its own back
 all-surplus : (ls : List (List ℕ)) → surplus [] ls ≡ concat ls

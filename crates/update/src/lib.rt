@@ -96,8 +96,8 @@ pub fn create(device: &[u8], work: &mut [u8], session: Session, name: &[u8]) -> 
         Looked::Bad(why) => refused(session, why),
         Looked::At(i) => {
             let record = renamed(name, &name[0..0], 0);
-            let c = record_change(device, work, session, record);
-            apply(device, work, session, i, c, 0, &name[0..0])
+            let made = record_change(device, work, session, record);
+            apply(device, work, session, i, made, 0, &name[0..0])
         }
     }
 }
@@ -112,8 +112,8 @@ pub fn rename(device: &[u8], work: &mut [u8], session: Session, name: &[u8], new
         Looked::At(i) => {
             let at = 32 * (i % 16);
             let record = renamed(new, inode_block(device, work, session, i), at);
-            let c = record_change(device, work, session, record);
-            apply(device, work, session, i, c, 0, &new[0..0])
+            let named = record_change(device, work, session, record);
+            apply(device, work, session, i, named, 0, &new[0..0])
         }
     }
 }
@@ -128,13 +128,13 @@ pub fn remove(device: &[u8], work: &mut [u8], session: Session, name: &[u8]) -> 
         Looked::At(i) => {
             let d = draft_of(device, work, session, i, 0);
             let tree = d.tree;
-            let c = Change {
+            let gone = Change {
                 tree: tree,
                 record: [0u8; 32],
                 old: 0,
                 size: 0,
             };
-            apply(device, work, session, i, c, 0, &name[0..0])
+            apply(device, work, session, i, gone, 0, &name[0..0])
         }
     }
 }

@@ -1,10 +1,11 @@
+use Rattle.lists.specs.Extents.{length-blocks}
 use Prim.Native.Nat.{_-_, _≤_}
 use mathlib.Core.Path.{_≡_, sym}
 use native.Mathlib.Omega.{arith}
 use borrow.Author.Needs.{needs}
 use Rattle.runs.specs.Runs.{listed}
 use Rattle.change.specs.Contents.{placeOf}
-use Rattle.change.proofs.Places.{place-none, place-step, place-end, place-room, length-blocks}
+use Rattle.change.proofs.Places.{place-none, place-step, place-end, place-room}
 use Rattle.change.proofs.total.Statement.{statement}
 use Rattle.change.proofs.total.Tie as tie
 

@@ -58,11 +58,13 @@ slice-stored b x y w e full fits =
     rw (e, k, drop-drop (length x) (512 * b) w, length-patch (512 * b) x w f, blocks-patch b x w full fits)
 
 -- the first k bytes of x stored
-pub stored-more : (k : ℕ) (x to : List ℕ) → take k to ≡ take k x → k < length to → k < length x → take (k + 1) (set to k (getD x k 0)) ≡ take (k + 1) x
-stored-more k x to e ht hx = rw (add-one, take-suc-set to k (getD x k 0) ht, take-suc x k 0 hx, e)
+pub placed-more : (k x : ℕ) (to from : List ℕ) → take k to ≡ take k from → k < length to → k < length from → x ≡ getD from k 0
+    → take (k + 1) (set to k x) ≡ take (k + 1) from
+placed-more k x to from e h m q =
+    rw (add-one k) (take-suc-set to k x h ∙ ap (λ (l : List ℕ). l ++ (x ∷ [])) e ∙ ap (λ (y : ℕ). take k from ++ (y ∷ [])) q ∙ sym (take-suc from k 0 m))
 
-pub stored-all : (n k : ℕ) (x to : List ℕ) → length to ≡ n → length x ≡ n → n ≤ k → take k to ≡ take k x → to ≡ x
-stored-all n k x to lt lx h e = sym (take-all k to (omega arith)) ∙ e ∙ take-all k x (omega arith)
+pub placed-all : (k n : ℕ) (to from : List ℕ) → take k to ≡ take k from → length to ≡ n → length from ≡ n → n ≤ k → to ≡ from
+placed-all k n to from e a b h = sym (take-all k to (omega arith)) ∙ e ∙ take-all k from (omega arith)
 
 -- ---- blocks read
 

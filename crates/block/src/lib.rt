@@ -136,6 +136,18 @@ pub fn copy_of(bytes: &[u8]) -> [u8; 512]
     out
 }
 
+// All bytes of one slice copied to another of the same length.
+pub fn copy(from: &[u8], to: &mut [u8])
+    requires { ⌜ length (now from) ≡ length (now to) ⌝ }
+    ensures { λ _. ⌜ now (to .exit) ≡ now (from .entry) ⌝ }
+{
+    let mut k: usize = 0;
+    while k < to.len() {
+        to[k] = from[k];
+        k += 1;
+    }
+}
+
 // Block b stored.
 pub fn store_block(bytes: &mut [u8], b: DiskBlock, x: &[u8; 512])
     requires { ⌜ 512 * b .0 + 512 ≤ length (now bytes) ⌝ }
@@ -144,19 +156,7 @@ pub fn store_block(bytes: &mut [u8], b: DiskBlock, x: &[u8; 512])
     let n = b.0 as usize;
     let at = Limits::BLOCK_SIZE * n;
     let end = at + Limits::BLOCK_SIZE;
-    fill(&mut bytes[at..end], x);
-}
-
-// 512 bytes copied.
-fn fill(to: &mut [u8], x: &[u8])
-    requires { ⌜ (length (now to) ≡ 512) × (length (now x) ≡ 512) ⌝ }
-    ensures { λ _. ⌜ now (to .exit) ≡ now (x .entry) ⌝ }
-{
-    let mut k: usize = 0;
-    while k < Limits::BLOCK_SIZE {
-        to[k] = x[k];
-        k += 1;
-    }
+    copy(x, &mut bytes[at..end]);
 }
 
 // Block b cleared.

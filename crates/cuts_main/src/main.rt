@@ -7,24 +7,9 @@ use block::load2;
 use libc::STDOUT_FILENO;
 use spec::Phase;
 use spec::Session;
+use trial::number;
+use trial::stage;
 ghost use Prim.Native.Nat.{_≤_};
-
-fn number(n: u64) {
-    io::write_all(STDOUT_FILENO, b" ");
-    io::print_decimal(STDOUT_FILENO, n);
-}
-
-// Block b staged with 512 times a byte.
-fn stage(work: &mut [u8], s: Session, b: u32, byte: u8) -> Session {
-    let x = [byte; 512];
-    if work.len() != 16384 {
-        return s;
-    }
-    if 32 <= transaction::staged_count(s) {
-        return s;
-    }
-    transaction::stage(work, s, DiskBlock(b), &x)
-}
 
 // At most n advances.
 fn advance(device: &mut [u8], work: &[u8], s: Session, n: usize) -> Session {

@@ -12,16 +12,6 @@ use Rattle.block.proofs.Laws.{getD-exactly, length-exactly, exactly-take, exact
 use Rattle.inode.proofs.Laws.{drop-take}
 use Rattle.file.specs.Bytes.{runBytes}
 
--- ---- the first k bytes are in place
-
-pub placed-more : (k x : ℕ) (to from : List ℕ) → take k to ≡ take k from → k < length to → k < length from → x ≡ getD from k 0
-    → take (k + 1) (set to k x) ≡ take (k + 1) from
-placed-more k x to from e h m q =
-    rw (add-one k) (take-suc-set to k x h ∙ ap (λ (l : List ℕ). l ++ (x ∷ [])) e ∙ ap (λ (y : ℕ). take k from ++ (y ∷ [])) q ∙ sym (take-suc from k 0 m))
-
-pub placed-all : (k n : ℕ) (to from : List ℕ) → take k to ≡ take k from → length to ≡ n → length from ≡ n → n ≤ k → to ≡ from
-placed-all k n to from e a b h = sym (take-all k to (omega arith)) ∙ e ∙ take-all k from (omega arith)
-
 -- ---- a part of a block
 
 module _ (block : List ℕ) (off n : ℕ) (h : off + n ≤ 512) where

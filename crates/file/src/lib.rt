@@ -1,6 +1,7 @@
 // Files read by stretches.
 use block::ByteOffset;
 use block::DiskBlock;
+use block::copy;
 use block::load;
 use extents::Piece;
 use extents::next_piece;
@@ -19,18 +20,6 @@ ghost use Rattle.spec.specs.Inode.{inodeAt};
 ghost use Rattle.spec.specs.Map.{contentOf};
 ghost use Rattle.spec.specs.Transaction.{view, stateOf};
 ghost use Rattle.file.specs.Bytes.{runBytes, blockBytes, Filled};
-
-// All bytes of a slice into one of the same length.
-fn copy(from: &[u8], to: &mut [u8])
-    requires { ⌜ length (now from) ≡ length (now to) ⌝ }
-    ensures { λ _. ⌜ now (to .exit) ≡ now (from .entry) ⌝ }
-{
-    let mut k: usize = 0;
-    while k < to.len() {
-        to[k] = from[k];
-        k += 1;
-    }
-}
 
 // Bytes of a block from a place on, zeros where the block's bytes end.
 fn copy_padded(block: &[u8], off: usize, to: &mut [u8])

@@ -6,12 +6,9 @@ use spec::Advanced;
 use spec::Phase;
 use spec::Session;
 use spec::Stored;
+use trial::number;
+use trial::stage;
 ghost use Prim.Native.Nat.{_<_};
-
-fn number(n: u64) {
-    io::write_all(STDOUT_FILENO, b" ");
-    io::print_decimal(STDOUT_FILENO, n);
-}
 
 fn end_line() {
     io::write_all(STDOUT_FILENO, b"\n");
@@ -178,18 +175,6 @@ fn run(device: &mut [u8], work: &[u8], s: Session, steps: usize) {
         show_device(device);
         i += 1;
     }
-}
-
-// Block b staged with 512 times a byte, where there is room.
-fn stage(work: &mut [u8], s: Session, b: u32, byte: u8) -> Session {
-    let x = [byte; 512];
-    if work.len() != 16384 {
-        return s;
-    }
-    if 32 <= transaction::staged_count(s) {
-        return s;
-    }
-    transaction::stage(work, s, DiskBlock(b), &x)
 }
 
 // Blocks 63, 33 and 34 staged and committed, and one step more.

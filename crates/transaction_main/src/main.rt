@@ -4,23 +4,8 @@ use libc::STDOUT_FILENO;
 use spec::Phase;
 use spec::Session;
 use transaction::Place;
-
-fn number(n: u64) {
-    io::write_all(STDOUT_FILENO, b" ");
-    io::print_decimal(STDOUT_FILENO, n);
-}
-
-// Block b staged with 512 times a byte, where there is room.
-fn stage(work: &mut [u8], s: Session, b: u32, byte: u8) -> Session {
-    let x = [byte; 512];
-    if work.len() != 16384 {
-        return s;
-    }
-    if 32 <= transaction::staged_count(s) {
-        return s;
-    }
-    transaction::stage(work, s, DiskBlock(b), &x)
-}
+use trial::number;
+use trial::stage;
 
 // Blocks 40 to 79 staged, as far as there is room.
 fn stage_many(work: &mut [u8], s: Session) -> Session {

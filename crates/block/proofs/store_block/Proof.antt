@@ -13,17 +13,17 @@ mul-at c = search needs
 add-end : tie.Need-add-end
 add-end c = search needs
 
-sub-fill : tie.Need-sub-fill
-sub-fill c = search needs
+sub-copy : tie.Need-sub-copy
+sub-copy c = search needs
 
-part-fill-start : tie.Need-part-fill-start
-part-fill-start c = search needs
+part-copy-start : tie.Need-part-copy-start
+part-copy-start c = search needs
 
-part-fill-end : tie.Need-part-fill-end
-part-fill-end c = search needs
+part-copy-end : tie.Need-part-copy-end
+part-copy-end c = search needs
 
-fill-requires : tie.Need-fill-requires
-fill-requires c κs = search needs
+copy-requires : tie.Need-copy-requires
+copy-requires c κs = search needs
 
 same-length : tie.Need-same-length
 same-length c = search needs
@@ -31,7 +31,7 @@ same-length c = search needs
 returns : tie.Need-returns
 returns c =
     let a = c .before .before .before .before .before .before .before .args in
-    slice-stored (a .b .0) (a .x .now) _ (a .bytes .now) (c .before .before .fill .ensures) (c .before .before .before .fill-arg2 .given .0) (omega arith)
+    slice-stored (a .b .0) (a .x .now) _ (a .bytes .now) (c .before .before .copy .ensures) (c .before .before .before .before .copy-arg .given .0) (omega arith)
 
 pub store-block-spec : {M : Type 1} → statement M
 store-block-spec =
@@ -40,9 +40,9 @@ store-block-spec =
     cast-n
     mul-at
     add-end
-    sub-fill
-    part-fill-start
-    part-fill-end
-    fill-requires
+    sub-copy
+    part-copy-start
+    part-copy-end
+    copy-requires
     same-length
     returns)

@@ -5,7 +5,8 @@ use mathlib.Core.Path.{_≡_, refl, _∙_}
 use native.Mathlib.Omega.{arith}
 use lib.ListN.{length, take, drop, length-set}
 use Rattle.spec.specs.Bytes.{exactly}
-use Rattle.file.proofs.Laws.{placed-more, placed-all, part-length, part-byte}
+use Rattle.block.proofs.Steps.{placed-more, placed-all}
+use Rattle.file.proofs.Laws.{part-length, part-byte}
 use borrow.Author.Needs.{needs}
 use Rattle.file.proofs.copy_padded.Statement.{statement}
 use Rattle.file.proofs.copy_padded.Tie as tie

@@ -2,7 +2,7 @@ use Prim.Native.Nat.{_-_, _≤_}
 use mathlib.Core.Path.{_≡_, refl, sym, ap, _∙_}
 use native.Mathlib.Omega.{arith}
 use lib.ListN.{length, take, length-set}
-use Rattle.block.proofs.Steps.{stored-more, stored-all}
+use Rattle.block.proofs.Steps.{placed-more, placed-all}
 use Rattle.update.specs.Records.{renamedIn}
 use Rattle.update.proofs.Records.{renamed-length}
 use borrow.Author.Needs.{needs}
@@ -31,11 +31,13 @@ loop-less : tie.Need-loop-less Inv-loop μ-loop
 loop-less c = search needs
 
 loop-again : tie.Need-loop-again Inv-loop μ-loop
-loop-again c = let z = renamed-length (c .before .before .before .before .before .args .name .now) (c .before .before .before .before .before .args .block .now) (c .before .before .before .before .before .args .at) (c .before .before .before .before .before .pre .0) (c .before .before .before .before .before .pre .1) in
-    (rw (c .byte-named .ensures) (stored-more (c .before .before .loop .k) (renamedIn (c .before .before .before .before .before .args .name .now) (c .before .before .before .before .before .args .block .now) (c .before .before .before .before .before .args .at)) (c .before .before .loop .q) (c .before .before .loop .inv .0) (omega arith) (omega arith)), omega arith, simp length-set (c .before .before .loop .inv .2))
+loop-again c =
+    let z = renamed-length (c .before .before .before .before .before .args .name .now) (c .before .before .before .before .before .args .block .now) (c .before .before .before .before .before .args .at) (c .before .before .before .before .before .pre .0) (c .before .before .before .before .before .pre .1) in
+    (placed-more (c .before .before .loop .k) _ (c .before .before .loop .q) (renamedIn (c .before .before .before .before .before .args .name .now) (c .before .before .before .before .before .args .block .now) (c .before .before .before .before .before .args .at)) (c .before .before .loop .inv .0) (omega arith) (omega arith) (c .byte-named .ensures), omega arith, simp length-set (c .before .before .loop .inv .2))
 
 returns : tie.Need-returns Inv-loop μ-loop
-returns c = stored-all 32 (c .before .loop .k) _ _ (c .before .loop .inv .2) (renamed-length (c .before .before .before .before .args .name .now) (c .before .before .before .before .args .block .now) (c .before .before .before .before .args .at) (c .before .before .before .before .pre .0) (c .before .before .before .before .pre .1)) (omega arith) (c .before .loop .inv .0)
+returns c =
+    placed-all (c .before .loop .k) 32 _ _ (c .before .loop .inv .0) (c .before .loop .inv .2) (renamed-length (c .before .before .before .before .args .name .now) (c .before .before .before .before .args .block .now) (c .before .before .before .before .args .at) (c .before .before .before .before .pre .0) (c .before .before .before .before .pre .1)) (omega arith)
 
 pub renamed-spec : {M : Type 1} → statement M
 renamed-spec =

@@ -4,10 +4,10 @@ use Prim.Native.Nat.{_≤_, _-_}
 use mathlib.Core.Path.{_≡_, refl, _∙_}
 use native.Mathlib.Omega.{arith}
 use lib.ListN.{length, take, length-set}
-use Rattle.file.proofs.Laws.{placed-more, placed-all}
+use Rattle.block.proofs.Steps.{placed-more, placed-all}
 use borrow.Author.Needs.{needs}
-use Rattle.file.proofs.copy.Statement.{statement}
-use Rattle.file.proofs.copy.Tie as tie
+use Rattle.block.proofs.copy.Statement.{statement}
+use Rattle.block.proofs.copy.Tie as tie
 
 abbrev Inv-loop : tie.InvT-loop
 Inv-loop from to₀ k₀ to k = (k ≤ length to) × (length from ≡ length to) × (length to ≡ length to₀) × (take k to ≡ take k from)

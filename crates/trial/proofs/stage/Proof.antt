@@ -1,8 +1,8 @@
 use native.Mathlib.Omega.{arith}
 use Rattle.transaction.proofs.Laws.{spot-le}
 use borrow.Author.Needs.{needs}
-use Rattle.cuts_main.proofs.stage.Statement.{statement}
-use Rattle.cuts_main.proofs.stage.Tie as tie
+use Rattle.trial.proofs.stage.Statement.{statement}
+use Rattle.trial.proofs.stage.Tie as tie
 
 returns : tie.Need-returns
 returns c = search needs

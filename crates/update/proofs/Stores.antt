@@ -28,6 +28,7 @@ use Rattle.alloc.specs.declared.Draft.{Draft}
 use Rattle.alloc.specs.Draft.{resizedAt, tableOf, Built, resultWith, Drafted}
 use Rattle.change.specs.declared.Change.{Change}
 use Rattle.change.specs.Change.{changeStores}
+use Rattle.update.specs.Records.{recordStores}
 
 -- ---- records
 
@@ -140,25 +141,25 @@ module _ (v : Disk) where
     unfolding changeStores blocksIn
     both-alone = rw (nodes, extents, append-nil (ifChanged v (inodeEdit i (c .record))))
 
-    pub record-alone : c .tree .table ≡ v 33 → storesOf v (ifChanged v (inodeEdit i (c .record))) ≡ changeStores v i c x bytes
+    pub record-alone : c .tree .table ≡ v 33 → recordStores v i (c .record) ≡ changeStores v i c x bytes
+    unfolding recordStores
     record-alone h = sym (stores-same 33 (c .tree .table) (ifChanged v (inodeEdit i (c .record))) h) ∙ both-alone
 
-    pub create-stores : (name : List ℕ) → c .tree .table ≡ v 33 → c .record ≡ bytesOfInode (inodeWith name 0 [] []) → creates v i name ≡ changeStores v i c x bytes
-    unfolding creates
-    create-stores name h r = rw (← r) (record-alone h)
+  pub create-stores : (i : ℕ) (name bytes : List ℕ) → bytes ≡ bytesOfInode (inodeWith name 0 [] []) → creates v i name ≡ recordStores v i bytes
+  unfolding creates recordStores
+  create-stores i name bytes r = rw r
 
-    -- the record with another name and nothing else changed
-    pub rename-stores : (name : List ℕ) → length name ≡ 8 → length (v (blockOfInode i)) ≡ 512 → c .tree .table ≡ v 33
-        → c .record ≡ name ++ drop 8 (inodeBytes v i) → renames v i name ≡ changeStores v i c x bytes
-    unfolding renames inodeBytes
-    rename-stores name l k h r =
-        let b = v (blockOfInode i) in
-        let at = placeOfInode i in
-        let e : patch at name b ≡ patch at (c .record) b = sym (ap (λ (z : List ℕ). patch at z b) r ∙ renamed-patch at name b l (inside-table i) k) in
-        sym (ap (storesOf v) (append-nil (ifChanged v (inodeEdit i name))))
-        ∙ stores-if (blockOfInode i) (patch at name) (patch at (c .record)) [] [] e refl
-        ∙ ap (storesOf v) (append-nil (ifChanged v (inodeEdit i (c .record))))
-        ∙ record-alone h
+  -- the record with another name and nothing else changed
+  pub rename-stores : (i : ℕ) (name bytes : List ℕ) → length name ≡ 8 → length (v (blockOfInode i)) ≡ 512
+      → bytes ≡ name ++ drop 8 (inodeBytes v i) → renames v i name ≡ recordStores v i bytes
+  unfolding renames inodeBytes recordStores
+  rename-stores i name bytes l k r =
+      let b = v (blockOfInode i) in
+      let at = placeOfInode i in
+      let e : patch at name b ≡ patch at bytes b = sym (ap (λ (z : List ℕ). patch at z b) r ∙ renamed-patch at name b l (inside-table i) k) in
+      sym (ap (storesOf v) (append-nil (ifChanged v (inodeEdit i name))))
+      ∙ stores-if (blockOfInode i) (patch at name) (patch at bytes) [] [] e refl
+      ∙ ap (storesOf v) (append-nil (ifChanged v (inodeEdit i bytes)))
 
   -- a tree without blocks
   module _ (i : ℕ) (c : Change) (x : ℕ) (bytes : List ℕ) (b : Built v i 0 (c .tree)) where

@@ -30,9 +30,9 @@ ghost use lib.ListN.{length, getD};
 ghost use Rattle.spec.specs.Inode.{blocksFor};
 ghost use Rattle.spec.specs.Answers.{doneOf};
 ghost use Rattle.spec.specs.Transaction.{stateOf, view};
-ghost use Rattle.spec.specs.Calls.{left, outcome, settle, rewrite, create, remove, rename, write, setSize};
+ghost use Rattle.spec.specs.Calls.{left, outcome, settle, staging, rewrite, create, remove, rename, write, setSize};
 ghost use Rattle.runs.specs.Runs.{listed, nodesIn, Bounded};
-ghost use Rattle.update.specs.Records.{renamedIn, Alone};
+ghost use Rattle.update.specs.Records.{renamedIn, recordStores};
 
 // A file of which only the record changes: the bitmap stays.
 fn same_tree(table: [u8; 512]) -> Tree
@@ -49,18 +49,29 @@ fn same_tree(table: [u8; 512]) -> Tree
     }
 }
 
-// The change of a record alone.
-fn record_change<'a>(device: &'a [u8], work: &'a [u8], session: Session, bytes: [u8; 32]) -> Change
-    ensures { λ c. ⌜ Alone (view (stateOf session (now (device .entry)) (now (work .entry)))) bytes c ⌝ }
+// The bytes of record i changed, and nothing else: 18.
+fn change_record(
+    device: &[u8],
+    work: &mut [u8],
+    session: Session,
+    i: usize,
+    bytes: [u8; 32],
+) -> Finished
+    requires { ⌜ (i < 128) × (length (now work) ≡ 16384) ⌝ }
+    ensures { λ r. ⌜ left (r .session) (now (device .entry)) (now (work .exit)) (doneOf (r .answer))
+        ≡ settle (outcome (stateOf session (now (device .entry)) (now (work .entry))))
+        (staging (stateOf session (now (device .entry)) (now (work .entry)))
+        (recordStores (view (stateOf session (now (device .entry)) (now (work .entry)))) i bytes)) ⌝ }
 {
     let table = copy_of(view_block(device, work, session, DiskBlock(33)));
     let tree = same_tree(table);
-    Change {
+    let c = Change {
         tree: tree,
         record: bytes,
         old: 0,
         size: 0,
-    }
+    };
+    apply(device, work, session, i, c, 0, &device[0..0])
 }
 
 fn byte_named(name: &[u8], block: &[u8], at: usize, k: usize) -> u8
@@ -95,9 +106,8 @@ pub fn create(device: &[u8], work: &mut [u8], session: Session, name: &[u8]) -> 
     match look_up_new(device, work, session, name) {
         Looked::Bad(why) => refused(session, why),
         Looked::At(i) => {
-            let record = renamed(name, &name[0..0], 0);
-            let made = record_change(device, work, session, record);
-            apply(device, work, session, i, made, 0, &name[0..0])
+            let bytes = renamed(name, &name[0..0], 0);
+            change_record(device, work, session, i, bytes)
         }
     }
 }
@@ -112,8 +122,7 @@ pub fn rename(device: &[u8], work: &mut [u8], session: Session, name: &[u8], new
         Looked::At(i) => {
             let at = 32 * (i % 16);
             let record = renamed(new, inode_block(device, work, session, i), at);
-            let named = record_change(device, work, session, record);
-            apply(device, work, session, i, named, 0, &new[0..0])
+            change_record(device, work, session, i, record)
         }
     }
 }

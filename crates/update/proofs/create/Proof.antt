@@ -1,12 +1,9 @@
-use mathlib.Core.Path.{refl, sym, ap, subst, _∙_}
-use mathlib.Core.List.{[]}
+use native.Mathlib.Omega.{arith}
+use mathlib.Core.Path.{sym, ap, subst, _∙_}
 use Rattle.spec.specs.Transaction.{view, stateOf}
 use Rattle.lookup.specs.Looks.{lookedOf, InTable}
-use native.Mathlib.Omega.{arith}
-use mathlib.Core.Path.{refl, sym, ap, _∙_}
-use Rattle.lookup.specs.Looks.{lookedOf}
-use Rattle.lookup.proofs.Laws.{new-says}
 use Rattle.checks.proofs.Laws.{told}
+use Rattle.lookup.proofs.Laws.{new-says}
 use Rattle.update.proofs.Records.{new-record}
 use Rattle.update.proofs.Stores.{create-stores}
 use Rattle.update.proofs.Laws.{create-bad, create-fine}
@@ -38,23 +35,8 @@ part-renamed-end c = search needs
 renamed-requires : tie.Need-renamed-requires
 renamed-requires c κs = (new-says (c .before .before .before .before .before .before .before .before .before .args .session) (c .before .before .before .before .before .before .before .before .before .args .device .now) (c .before .before .before .before .before .before .before .before .before .args .work .now) (c .before .before .before .before .before .before .before .before .before .args .name .now) _ (sym (ap lookedOf (c .before .before .i .given .1)) ∙ c .before .before .before .before .look-up-new .ensures .0) .1, omega arith)
 
-record-change-requires : tie.Need-record-change-requires
-record-change-requires c κs = search needs
-
-sub-apply : tie.Need-sub-apply
-sub-apply c = search needs
-
-part-apply-start : tie.Need-part-apply-start
-part-apply-start c = search needs
-
-part-apply-end : tie.Need-part-apply-end
-part-apply-end c = search needs
-
-apply-requires : tie.Need-apply-requires
-apply-requires c κs = let a = c .before .before .record-change .ensures in
-    let o = a .old in
-    let z = a .size in
-    (subst InTable (c .before .before .before .before .before .before .before .i .given .1) (c .before .before .before .before .before .before .before .before .before .look-up-new .ensures .1), new-says (c .before .before .before .before .before .before .before .before .before .before .before .before .before .before .args .session) (c .before .before .before .before .before .before .before .before .before .before .before .before .before .before .args .device .now) (c .before .before .before .before .before .before .before .before .before .before .before .before .before .before .args .work .now) (c .before .before .before .before .before .before .before .before .before .before .before .before .before .before .args .name .now) _ (sym (ap lookedOf (c .before .before .before .before .before .before .before .i .given .1)) ∙ c .before .before .before .before .before .before .before .before .before .look-up-new .ensures .0) .0, a .bounded, omega arith, omega arith, omega arith)
+change-record-requires : tie.Need-change-record-requires
+change-record-requires c κs = (subst InTable (c .before .before .before .before .i .given .1) (c .before .before .before .before .before .before .look-up-new .ensures .1), new-says (c .before .before .before .before .before .before .before .before .before .before .before .args .session) (c .before .before .before .before .before .before .before .before .before .before .before .args .device .now) (c .before .before .before .before .before .before .before .before .before .before .before .args .work .now) (c .before .before .before .before .before .before .before .before .before .before .before .args .name .now) _ (sym (ap lookedOf (c .before .before .before .before .i .given .1)) ∙ c .before .before .before .before .before .before .look-up-new .ensures .0) .0)
 
 same-length : tie.Need-same-length
 same-length c = search needs
@@ -66,8 +48,7 @@ same-length-2 : tie.Need-same-length-2
 same-length-2 c = search needs
 
 returns-2 : tie.Need-returns-2
-returns-2 c = let a = c .before .before .before .before .before .record-change .ensures in
-    create-fine (c .before .before .before .before .before .before .before .before .before .before .before .before .before .before .before .before .before .args .session) (c .before .before .before .before .before .before .before .before .before .before .before .before .before .before .before .before .before .args .device .now) (c .before .before .before .before .before .before .before .before .before .before .before .before .before .before .before .before .before .args .work .now) (c .before .before .before .before .before .before .before .before .before .before .before .before .before .before .before .before .before .args .name .now) _ _ _ (sym (ap lookedOf (c .before .before .before .before .before .before .before .before .before .before .i .given .1)) ∙ c .before .before .before .before .before .before .before .before .before .before .before .before .look-up-new .ensures .0) (create-stores (view (stateOf (c .before .before .before .before .before .before .before .before .before .before .before .before .before .before .before .before .before .args .session) (c .before .before .before .before .before .before .before .before .before .before .before .before .before .before .before .before .before .args .device .now) (c .before .before .before .before .before .before .before .before .before .before .before .before .before .before .before .before .before .args .work .now))) _ _ 0 [] (a .nodes) (a .extents) (c .before .before .before .before .before .before .before .before .before .before .before .before .before .before .before .before .before .args .name .now) (a .table) (a .bytes-are ∙ c .before .before .before .before .before .before .before .renamed .ensures ∙ new-record (c .before .before .before .before .before .before .before .before .before .before .before .before .before .before .before .before .before .args .name .now))) (c .before .before .apply .ensures)
+returns-2 c = create-fine (c .before .before .before .before .before .before .before .before .before .before .before .before .before .before .args .session) (c .before .before .before .before .before .before .before .before .before .before .before .before .before .before .args .device .now) (c .before .before .before .before .before .before .before .before .before .before .before .before .before .before .args .work .now) (c .before .before .before .before .before .before .before .before .before .before .before .before .before .before .args .name .now) _ _ _ (sym (ap lookedOf (c .before .before .before .before .before .before .before .i .given .1)) ∙ c .before .before .before .before .before .before .before .before .before .look-up-new .ensures .0) (create-stores (view (stateOf (c .before .before .before .before .before .before .before .before .before .before .before .before .before .before .args .session) (c .before .before .before .before .before .before .before .before .before .before .before .before .before .before .args .device .now) (c .before .before .before .before .before .before .before .before .before .before .before .before .before .before .args .work .now))) _ (c .before .before .before .before .before .before .before .before .before .before .before .before .before .before .args .name .now) _ (c .before .before .before .before .renamed .ensures ∙ new-record (c .before .before .before .before .before .before .before .before .before .before .before .before .before .before .args .name .now))) (c .before .before .change-record .ensures)
 
 pub create-spec : {M : Type 1} → statement M
 create-spec =
@@ -81,11 +62,7 @@ create-spec =
     part-renamed-start
     part-renamed-end
     renamed-requires
-    record-change-requires
-    sub-apply
-    part-apply-start
-    part-apply-end
-    apply-requires
+    change-record-requires
     same-length
     returns
     same-length-2

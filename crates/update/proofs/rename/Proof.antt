@@ -1,10 +1,9 @@
 use native.Mathlib.Omega.{arith}
-use mathlib.Core.Path.{refl, sym, ap, subst, _∙_}
-use mathlib.Core.List.{[]}
+use mathlib.Core.Path.{sym, ap, subst, _∙_}
 use Rattle.spec.specs.Transaction.{view, stateOf}
 use Rattle.lookup.specs.Looks.{lookedOf, InTable}
 use Rattle.checks.proofs.Laws.{told}
-use Rattle.inode.proofs.Laws.{record-at, view-length}
+use Rattle.inode.proofs.Laws.{view-length}
 use Rattle.lookup.proofs.Laws.{rename-says}
 use Rattle.update.proofs.Records.{renamed-record}
 use Rattle.update.proofs.Stores.{rename-stores}
@@ -34,23 +33,8 @@ inode-block-requires c κs = subst InTable (c .before .before .i .given .1) (c .
 renamed-requires : tie.Need-renamed-requires
 renamed-requires c κs = (rename-says (c .before .before .before .before .before .before .before .before .before .before .before .args .session) (c .before .before .before .before .before .before .before .before .before .before .before .args .device .now) (c .before .before .before .before .before .before .before .before .before .before .before .args .work .now) (c .before .before .before .before .before .before .before .before .before .before .before .args .name .now) _ (c .before .before .before .before .before .before .before .before .before .before .before .args .new .now) (sym (ap lookedOf (c .before .before .before .i .given .1)) ∙ c .before .before .before .before .before .look-up-pair .ensures .0) .1, omega arith)
 
-record-change-requires : tie.Need-record-change-requires
-record-change-requires c κs = search needs
-
-sub-apply : tie.Need-sub-apply
-sub-apply c = search needs
-
-part-apply-start : tie.Need-part-apply-start
-part-apply-start c = search needs
-
-part-apply-end : tie.Need-part-apply-end
-part-apply-end c = search needs
-
-apply-requires : tie.Need-apply-requires
-apply-requires c κs = let a = c .before .before .record-change .ensures in
-    let o = a .old in
-    let z = a .size in
-    (subst InTable (c .before .before .before .before .before .before .before .before .i .given .1) (c .before .before .before .before .before .before .before .before .before .before .look-up-pair .ensures .1), rename-says (c .before .before .before .before .before .before .before .before .before .before .before .before .before .before .before .before .args .session) (c .before .before .before .before .before .before .before .before .before .before .before .before .before .before .before .before .args .device .now) (c .before .before .before .before .before .before .before .before .before .before .before .before .before .before .before .before .args .work .now) (c .before .before .before .before .before .before .before .before .before .before .before .before .before .before .before .before .args .name .now) _ (c .before .before .before .before .before .before .before .before .before .before .before .before .before .before .before .before .args .new .now) (sym (ap lookedOf (c .before .before .before .before .before .before .before .before .i .given .1)) ∙ c .before .before .before .before .before .before .before .before .before .before .look-up-pair .ensures .0) .0, a .bounded, omega arith, omega arith, omega arith)
+change-record-requires : tie.Need-change-record-requires
+change-record-requires c κs = (subst InTable (c .before .before .before .before .before .i .given .1) (c .before .before .before .before .before .before .before .look-up-pair .ensures .1), rename-says (c .before .before .before .before .before .before .before .before .before .before .before .before .before .args .session) (c .before .before .before .before .before .before .before .before .before .before .before .before .before .args .device .now) (c .before .before .before .before .before .before .before .before .before .before .before .before .before .args .work .now) (c .before .before .before .before .before .before .before .before .before .before .before .before .before .args .name .now) _ (c .before .before .before .before .before .before .before .before .before .before .before .before .before .args .new .now) (sym (ap lookedOf (c .before .before .before .before .before .i .given .1)) ∙ c .before .before .before .before .before .before .before .look-up-pair .ensures .0) .0)
 
 same-length : tie.Need-same-length
 same-length c = search needs
@@ -62,8 +46,7 @@ same-length-2 : tie.Need-same-length-2
 same-length-2 c = search needs
 
 returns-2 : tie.Need-returns-2
-returns-2 c = let a = c .before .before .before .before .before .record-change .ensures in
-    rename-fine (c .before .before .before .before .before .before .before .before .before .before .before .before .before .before .before .before .before .before .before .args .session) (c .before .before .before .before .before .before .before .before .before .before .before .before .before .before .before .before .before .before .before .args .device .now) (c .before .before .before .before .before .before .before .before .before .before .before .before .before .before .before .before .before .before .before .args .work .now) (c .before .before .before .before .before .before .before .before .before .before .before .before .before .before .before .before .before .before .before .args .name .now) (c .before .before .before .before .before .before .before .before .before .before .before .before .before .before .before .before .before .before .before .args .new .now) _ _ _ (sym (ap lookedOf (c .before .before .before .before .before .before .before .before .before .before .before .i .given .1)) ∙ c .before .before .before .before .before .before .before .before .before .before .before .before .before .look-up-pair .ensures .0) (rename-stores (view (stateOf (c .before .before .before .before .before .before .before .before .before .before .before .before .before .before .before .before .before .before .before .args .session) (c .before .before .before .before .before .before .before .before .before .before .before .before .before .before .before .before .before .before .before .args .device .now) (c .before .before .before .before .before .before .before .before .before .before .before .before .before .before .before .before .before .before .before .args .work .now))) _ _ 0 [] (a .nodes) (a .extents) (c .before .before .before .before .before .before .before .before .before .before .before .before .before .before .before .before .before .before .before .args .new .now) (rename-says (c .before .before .before .before .before .before .before .before .before .before .before .before .before .before .before .before .before .before .before .args .session) (c .before .before .before .before .before .before .before .before .before .before .before .before .before .before .before .before .before .before .before .args .device .now) (c .before .before .before .before .before .before .before .before .before .before .before .before .before .before .before .before .before .before .before .args .work .now) (c .before .before .before .before .before .before .before .before .before .before .before .before .before .before .before .before .before .before .before .args .name .now) _ (c .before .before .before .before .before .before .before .before .before .before .before .before .before .before .before .before .before .before .before .args .new .now) (sym (ap lookedOf (c .before .before .before .before .before .before .before .before .before .before .before .i .given .1)) ∙ c .before .before .before .before .before .before .before .before .before .before .before .before .before .look-up-pair .ensures .0) .1) (view-length (c .before .before .before .before .before .before .before .before .before .before .before .before .before .before .before .before .before .before .before .args .session) (c .before .before .before .before .before .before .before .before .before .before .before .before .before .before .before .before .before .before .before .args .device .now) (c .before .before .before .before .before .before .before .before .before .before .before .before .before .before .before .before .before .before .before .args .work .now) _) (a .table) (a .bytes-are ∙ c .before .before .before .before .before .before .before .renamed .ensures ∙ renamed-record (view (stateOf (c .before .before .before .before .before .before .before .before .before .before .before .before .before .before .before .before .before .before .before .args .session) (c .before .before .before .before .before .before .before .before .before .before .before .before .before .before .before .before .before .before .before .args .device .now) (c .before .before .before .before .before .before .before .before .before .before .before .before .before .before .before .before .before .before .before .args .work .now))) _ _ (c .before .before .before .before .before .before .before .before .before .before .before .before .before .before .before .before .before .before .before .args .new .now) (c .before .before .before .before .before .before .before .before .inode-block .ensures))) (c .before .before .apply .ensures)
+returns-2 c = rename-fine (c .before .before .before .before .before .before .before .before .before .before .before .before .before .before .before .before .args .session) (c .before .before .before .before .before .before .before .before .before .before .before .before .before .before .before .before .args .device .now) (c .before .before .before .before .before .before .before .before .before .before .before .before .before .before .before .before .args .work .now) (c .before .before .before .before .before .before .before .before .before .before .before .before .before .before .before .before .args .name .now) (c .before .before .before .before .before .before .before .before .before .before .before .before .before .before .before .before .args .new .now) _ _ _ (sym (ap lookedOf (c .before .before .before .before .before .before .before .before .i .given .1)) ∙ c .before .before .before .before .before .before .before .before .before .before .look-up-pair .ensures .0) (rename-stores (view (stateOf (c .before .before .before .before .before .before .before .before .before .before .before .before .before .before .before .before .args .session) (c .before .before .before .before .before .before .before .before .before .before .before .before .before .before .before .before .args .device .now) (c .before .before .before .before .before .before .before .before .before .before .before .before .before .before .before .before .args .work .now))) _ (c .before .before .before .before .before .before .before .before .before .before .before .before .before .before .before .before .args .new .now) _ (rename-says (c .before .before .before .before .before .before .before .before .before .before .before .before .before .before .before .before .args .session) (c .before .before .before .before .before .before .before .before .before .before .before .before .before .before .before .before .args .device .now) (c .before .before .before .before .before .before .before .before .before .before .before .before .before .before .before .before .args .work .now) (c .before .before .before .before .before .before .before .before .before .before .before .before .before .before .before .before .args .name .now) _ (c .before .before .before .before .before .before .before .before .before .before .before .before .before .before .before .before .args .new .now) (sym (ap lookedOf (c .before .before .before .before .before .before .before .before .i .given .1)) ∙ c .before .before .before .before .before .before .before .before .before .before .look-up-pair .ensures .0) .1) (view-length (c .before .before .before .before .before .before .before .before .before .before .before .before .before .before .before .before .args .session) (c .before .before .before .before .before .before .before .before .before .before .before .before .before .before .before .before .args .device .now) (c .before .before .before .before .before .before .before .before .before .before .before .before .before .before .before .before .args .work .now) _) (c .before .before .before .before .renamed .ensures ∙ renamed-record (view (stateOf (c .before .before .before .before .before .before .before .before .before .before .before .before .before .before .before .before .args .session) (c .before .before .before .before .before .before .before .before .before .before .before .before .before .before .before .before .args .device .now) (c .before .before .before .before .before .before .before .before .before .before .before .before .before .before .before .before .args .work .now))) _ _ (c .before .before .before .before .before .before .before .before .before .before .before .before .before .before .before .before .args .new .now) (c .before .before .before .before .before .inode-block .ensures))) (c .before .before .change-record .ensures)
 
 pub rename-spec : {M : Type 1} → statement M
 rename-spec =
@@ -76,11 +59,7 @@ rename-spec =
     mul-at
     inode-block-requires
     renamed-requires
-    record-change-requires
-    sub-apply
-    part-apply-start
-    part-apply-end
-    apply-requires
+    change-record-requires
     same-length
     returns
     same-length-2

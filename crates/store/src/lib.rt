@@ -18,6 +18,7 @@ pub use query::nth_extent;
 pub use query::read;
 pub use query::record_at;
 pub use query::size;
+pub use runlist::run_list;
 use spec::Advanced;
 use spec::Committed;
 use spec::Finished;

@@ -21,7 +21,7 @@ use Rattle.bitmap.proofs.Laws.{length-bits, bits-binary, bits-bytes}
 use Rattle.laws.specs.Bytes.{bytes-small}
 use Rattle.laws.specs.Soundness.{Inside, FileSound}
 use Rattle.laws.specs.Volume.{bit, bitCount, VolumeSound}
-use Rattle.laws.specs.Reached.{reach-inside}
+use Rattle.laws.specs.Reached.{reach-inside, reach-marked, reach-apart}
 use Rattle.laws.specs.Replace.{Replaced}
 use Rattle.laws.specs.Patch.{inode-other}
 use Rattle.laws.specs.Edits.{blocksOf, changed-member, changed-targets, changed-fresh, changed-long, changed-own, changed-other, over-fresh}
@@ -141,3 +141,12 @@ module _ (N : ℕ) (v : Disk) (i : ℕ) (low : dataStart ≤ N) (most : N ≤ mo
               fixed = λ b up out. fixed b out;
               balance = λ b inn. count b;
             }
+
+    -- a block that another file reaches is not among those staged
+    pub others-apart : VolumeSound N v → N ≤ bitCount v → (j b : ℕ) → j < inodeCount → (j ≡ i → ⊥) → 1 ≤ occurs b (reachedFrom v j) → Fresh b (targetsOf stores)
+    others-apart s table j b hj ne o =
+        let inn = reach-inside N v s j b hj o in
+        let high = inn .low in
+        changed-fresh v b (bitmapEdit new dropped) (ifChanged v (inodeEdit i bytes) ++ more) (λ q. omega arith)
+        (changed-fresh v b (inodeEdit i bytes) more (λ q. omega arith)
+        (own .apart b inn (reach-apart N v s table j i b hj hi ne o) (λ z. omega (arith, reach-marked N v s table j b hj o))))

@@ -15,7 +15,7 @@ abbrev pub countsOf : Counted → Result ℕ
 countsOf (Refused r) = refuse r
 countsOf (Count n) = accept n
 
--- 1, 2, 3, 12, 13 and 19: "List too short for all runs", where the list has so much room
+-- 1, 2, 3, 12, 13, and 19: "Lent list shorter than the run list", of a list of `room` places
 unfoldable pub countOk : State → List ℕ → ℕ → ℕ → ℕ → Result ℕ
 countOk s name from n room = do
   i ← fileOk s name

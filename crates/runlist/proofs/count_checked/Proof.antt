@@ -1,4 +1,5 @@
 use mathlib.Core.Path.{sym, ap, _∙_, subst}
+use native.Mathlib.Omega.{arith}
 use Rattle.lookup.specs.Looks.{lookedOf, InTable}
 use Rattle.runlist.proofs.Laws.{count-bad, count-fine, count-short}
 use borrow.Author.Needs.{needs}
@@ -21,10 +22,10 @@ returns : tie.Need-returns
 returns c = count-bad _ _ _ _ _ _ (sym (ap lookedOf (c .before .why .given .1)) ∙ c .before .before .before .look-up .ensures .0)
 
 returns-2 : tie.Need-returns-2
-returns-2 c = count-fine _ _ _ _ _ _ _ (sym (ap lookedOf (c .before .before .before .i .given .1)) ∙ c .before .before .before .before .before .look-up .ensures .0) (c .before .count-runs .ensures) (c .if1 .taken)
+returns-2 c = count-fine _ _ _ _ _ _ _ (sym (ap lookedOf (c .before .before .before .i .given .1)) ∙ c .before .before .before .before .before .look-up .ensures .0) (c .before .count-runs .ensures) (omega (arith, c .if1 .taken))
 
 returns-3 : tie.Need-returns-3
-returns-3 c = count-short _ _ _ _ _ _ _ (sym (ap lookedOf (c .before .before .before .i .given .1)) ∙ c .before .before .before .before .before .look-up .ensures .0) (c .before .count-runs .ensures) (c .if1 .left)
+returns-3 c = count-short _ _ _ _ _ _ _ (sym (ap lookedOf (c .before .before .before .i .given .1)) ∙ c .before .before .before .before .before .look-up .ensures .0) (c .before .count-runs .ensures) (omega (arith, c .if1 .left))
 
 pub count-checked-spec : {M : Type 1} → statement M
 count-checked-spec =

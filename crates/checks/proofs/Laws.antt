@@ -1,6 +1,6 @@
 -- The cases of the tests at the head of a call. Assumes nothing.
 use Prim.Native.Nat.{ℕ, _+_, _*_, _-_, _/_, _%_, _<_, _≤_}
-use mathlib.Core.Path.{_≡_, refl, sym, ap, _∙_}
+use mathlib.Core.Path.{_≡_, refl, sym}
 use mathlib.Core.Bool.{Bool, true, false, not, _&&_}
 use mathlib.Core.List.{List, _∷_}
 use native.Mathlib.Numerals.{add-one}
@@ -22,7 +22,6 @@ use Rattle.spec.specs.Answers.{Result, refuse, accept, require, _>>_, doneOf}
 use Rattle.spec.specs.Transaction.{stateOf}
 use Rattle.spec.specs.Calls.{Outcome, left, lentOk, readyOk, nameOk, isReady}
 use Rattle.checks.specs.Checks.{resultOf, readyPhase, namesOk, nameSizeOk}
-use Rattle.checks.specs.declared.Checked.the-variants.{Fine, Bad}
 
 -- ---- 1
 

@@ -46,3 +46,6 @@ pub mod Extended
 pub mod RewriteStages
 pub mod Write
 pub mod Files
+pub mod Tie
+pub mod Tampered
+pub mod OneStore

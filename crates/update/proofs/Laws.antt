@@ -1,11 +1,10 @@
 -- The cases of the calls that change files. Assumes nothing.
 use Prim.Native.Nat.{ℕ, _+_, max}
-use mathlib.Core.Path.{_≡_, refl, sym, ap, ap₂, _∙_}
-use mathlib.Core.Bool.{Bool, true, not, _&&_}
+use mathlib.Core.Path.{_≡_, refl, sym, ap, _∙_}
+use mathlib.Core.Bool.{not, _&&_}
 use mathlib.Core.List.{List, []}
 use lib.ListN.{length}
 use native.Mathlib.Omega.{arith}
-use Rattle.spec.specs.Disk.{Disk}
 use Rattle.spec.specs.Bitmap.{bitsOf}
 use Rattle.spec.specs.Inode.{isName, inodeAt, nameAt, dataOf, levelsOf, blocksFor}
 use Rattle.spec.specs.declared.Session.{Session}

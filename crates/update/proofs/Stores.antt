@@ -1,18 +1,18 @@
 -- What each call stages is what its change stages. Assumes nothing.
-use Prim.Native.Nat.{ℕ, zero, suc, _+_, _-_, _<_, _≤_}
+use Prim.Native.Nat.{ℕ, _+_, _-_, _≤_}
 use mathlib.Core.Path.{_≡_, refl, sym, ap, ap₂, _∙_}
 use mathlib.Core.Bool.{Bool, true, false, cond}
-use mathlib.Core.List.{List, [], _∷_, _++_, map, append-assoc, append-nil}
+use mathlib.Core.List.{List, [], _∷_, _++_, append-assoc, append-nil}
 use lib.Dec.{eqb}
 use lib.ListN.{length, take, drop, replicate, length-append, length-drop, length-take, take-append-drop}
 use lib.Seq.{drop-drop}
 use native.Mathlib.Omega.{arith}
 use Rattle.spec.specs.declared.Extent.{Extent}
 use borrow.Author.Tests.{eqb-true, le-leb}
-use Rattle.spec.specs.Bytes.{upFrom, part, patch, same, zeros, concat}
+use Rattle.spec.specs.Bytes.{part, patch, same, zeros, concat}
 use Rattle.spec.specs.Disk.{Disk}
 use Rattle.spec.specs.Bitmap.{bitsOf, bytesOf, freeBits, mark, picks}
-use Rattle.spec.specs.Inode.{inodeAt, nameAt, dataOf, levelsOf, nodesOf, inodeWith, bytesOfInode, blockOfInode, placeOfInode, inodeBytes, levelsFor, extent, prepend, blocksIn, runs}
+use Rattle.spec.specs.Inode.{inodeAt, dataOf, levelsOf, nodesOf, inodeWith, bytesOfInode, blockOfInode, placeOfInode, inodeBytes, levelsFor, blocksIn, runs}
 use Rattle.spec.specs.Transaction.{BlockStore, put}
 use Rattle.spec.specs.Plan as plan
 use Rattle.spec.specs.Plan.{Edit, edit, ifChanged, storesOf, inodeEdit, bitmapEdit, nodeEdits, levelEdits, dataEdits, lowestLevel, surplus, resized, fits, creates, removes, renames, rewrites}
@@ -20,7 +20,7 @@ use Rattle.block.proofs.Laws.{same-self}
 use Rattle.lists.specs.Extents.{runs-blocks}
 use Rattle.inode.proofs.Laws.{drop-take}
 use Rattle.runs.specs.declared.Tree.{Tree}
-use Rattle.runs.specs.Runs.{listed, nodesIn, levelsIn, Bounded}
+use Rattle.runs.specs.Runs.{listed, nodesIn, levelsIn}
 use Rattle.spec.specs.Answers.{accept}
 use Rattle.checks.specs.declared.Checked.{Checked}
 use Rattle.checks.specs.declared.Checked.the-variants.{Fine, Bad}

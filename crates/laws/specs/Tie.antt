@@ -40,7 +40,7 @@ starts-on N s d w fits size small is-sound unopened =
       fits = fits;
       blocks = size;
       whole = block-length d;
-        bytes = λ b. block-small d b small;
+      bytes = λ b. block-small d b small;
       is-sound = is-sound;
       unopened = unopened;
     }

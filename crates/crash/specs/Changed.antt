@@ -24,7 +24,7 @@ use Rattle.spec.specs.Plain.{changedFiles}
 use Rattle.spec.specs.Sentences.{fileAt, callStages, stagedBy}
 use Rattle.spec.specs.Refusals.{wrongName, overLimit, ofRecord, overstaged, Test, test, firstFailed}
 use Rattle.spec.specs.CutRule.{Both, Changes}
-use Rattle.transaction.proofs.Laws.{staged-with, view-shown, Valid}
+use Rattle.transaction.proofs.Laws.{staged-with, view-shown, Listed}
 use Rattle.log.specs.Stores.{Long, applied, targetsOf}
 use Rattle.log.specs.Targets.{Targets, targets-of, truth}
 use Rattle.log.specs.View.{view-is}
@@ -60,7 +60,7 @@ module _ (s : State) where
   created-planned true none f = refl
   created-planned true (some i) f = refl
 
-  change-planned : (c : Change) → lentOk s ≡ accept true → isReady (s .session .phase) ≡ true → wrongName (Do c) ≡ false → overLimit (Do c) ≡ false
+  pub change-planned : (c : Change) → lentOk s ≡ accept true → isReady (s .session .phase) ≡ true → wrongName (Do c) ≡ false → overLimit (Do c) ≡ false
       → changeStep s c ≡ settle (outcome s) (planned (view s) c >>= staging s)
   unfolding planned create remove rename write setSize
   change-planned (Create name) l r n z =
@@ -111,7 +111,7 @@ pub record Changed {N : ℕ} (F : FilesOn N) (b : Both) (c : Change) : Type 0 wh
   pub good : F .Good (view (withStaging (b .store) (stageAll (b .store) stores)))
   pub files : (name : List ℕ) → filesOf (view (withStaging (b .store) (stageAll (b .store) stores))) name ≡ changedFiles (filesOf (view (b .store))) c name
 
-module _ {N : ℕ} (F : FilesOn N) (b : Both) (c : Change) (q : Passed N b (Do c)) (valid : Valid N (b .store .session)) where
+module _ {N : ℕ} (F : FilesOn N) (b : Both) (c : Change) (q : Passed N b (Do c)) (listed : Listed N (stagedIn (b .store .session))) where
   abbrev s : State
   s = b .store
 
@@ -138,7 +138,7 @@ module _ {N : ℕ} (F : FilesOn N) (b : Both) (c : Change) (q : Passed N b (Do c
     -- 18. "More than 32 blocks would be staged."
     overstaged-is : overstaged N s (m .inode) c ≡ ltb logLength (length (t .blocks))
     overstaged-is =
-        ap (ltb logLength) (sym (ap length blocks-are ∙ count-staged N old (callStages N v (m .inode) c) (targets-of N old (valid .listed .targets) (valid .listed .differ))))
+        ap (ltb logLength) (sym (ap length blocks-are ∙ count-staged N old (callStages N v (m .inode) c) (targets-of N old (listed .targets) (listed .differ))))
 
     view-now : view (withStaging s t) ≡ applied (ascending ws) v
     unfolding stageAll

@@ -6,5 +6,6 @@ pub mod Machine
 pub mod Invariant
 pub mod Steps
 pub mod Moments
+pub mod Exact
 pub mod Recovery
 pub mod Theorem

@@ -52,10 +52,10 @@ refusal-is ListShort = (19, [], refl)
 refused-is : (r : Refusal) → isRefused (refusalOf r) ≡ true
 refused-is r = ap isRefused (refusal-is r .2)
 
-refusal-in : (r : Refusal) → refusalIn (refusalOf r) ≡ some (refusalOf r)
+pub refusal-in : (r : Refusal) → refusalIn (refusalOf r) ≡ some (refusalOf r)
 refusal-in r = let e = refusal-is r .2 in ap refusalIn e ∙ ap some (sym e)
 
-accepted-is : (a : Answer) → isRefused a ≡ false → refusalIn a ≡ none
+pub accepted-is : (a : Answer) → isRefused a ≡ false → refusalIn a ≡ none
 accepted-is (refused n vs) h = absurd (true≢false h)
 accepted-is done h = refl
 accepted-is (started n) h = refl

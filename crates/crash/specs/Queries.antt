@@ -172,9 +172,13 @@ pub record Still (s : State) (o : Outcome) : Type 0 where
   pub after : o .after ≡ s
   pub answer : isRefused (o .answer) ≡ false
 
-run-answer : (o : Option Extent) → isRefused (found o noRun run) ≡ false
-run-answer none = refl
-run-answer (some e) = refl
+pub run-told : (o : Option Extent) → isRefused (found o noRun run) ≡ false
+run-told none = refl
+run-told (some e) = refl
+
+pub file-told : (t : Bool) (name : List ℕ) (size : ℕ) → isRefused (cond t noFile (file name size)) ≡ false
+file-told true name size = refl
+file-told false name size = refl
 
 still-by : (s : State) (o x : Outcome) → o ≡ x → x .after ≡ s → isRefused (x .answer) ≡ false → Still s o
 still-by s o x e a n = record { after = ap (λ (y : Outcome). y .after) e ∙ a; answer = ap (λ (y : Outcome). isRefused (y .answer)) e ∙ n }
@@ -186,4 +190,4 @@ says-still N b Free o e = still-by (b .store) o _ e refl refl
 says-still N b (Record i) o (inl (h, e)) = still-by (b .store) o _ e refl refl
 says-still N b (Record i) o (inr (content, m, f, e)) = still-by (b .store) o _ e refl refl
 says-still N b (RunList name from n list) o (i, f, e) = still-by (b .store) o _ e refl refl
-says-still N b (NthExtent name from n k) o (i, f, e) = still-by (b .store) o _ e refl (run-answer (getElem? (runs (take n (drop from (fileAt (view (b .store)) i .blocks)))) k))
+says-still N b (NthExtent name from n k) o (i, f, e) = still-by (b .store) o _ e refl (run-told (getElem? (runs (take n (drop from (fileAt (view (b .store)) i .blocks)))) k))

@@ -424,7 +424,7 @@ module _ {N : ℕ} (F : FilesOn N) where
     ready-goes Abort = abort-goes
     ready-goes (Do x) =
         fronted N Ready bs v w c m Mode.Ready k d false refl (Do x) refl
-        (λ q. change-goes x (change-answered F (both s p) x q valid (F .plans p s whole good working x (q .names) (q .sizes))))
+        (λ q. change-goes x (change-answered F (both s p) x q (valid .listed) (F .plans p s whole good working x (q .names) (q .sizes))))
     ready-goes (Ask x) =
         fronted N Ready bs v w c m Mode.Ready k d false refl (Ask x) refl (λ q. query-goes x (query-answered F (both s p) whole good working x q))
 

@@ -1,5 +1,5 @@
 -- Demand 3, the cut rule, of the store that `step` is, over what it asks of files.
-use Prim.Native.Nat.{ℕ, _/_, _%_, _≤_}
+use Prim.Native.Nat.{ℕ, _*_, _/_, _%_, _≤_}
 use mathlib.Core.Path.{_≡_, refl, sym, ap, ap₂, _∙_, subst}
 use mathlib.Core.Bool.{true, false, _&&_}
 use mathlib.Core.Logic.{_⊎_, inl, inr}
@@ -56,18 +56,18 @@ module _ {N : ℕ} (F : FilesOn N) where
 
 -- ---- a start
 
-module _ (N : ℕ) (s : State) (h : Starts N s) where
-  fits : (eqb (s .device .size % blockSize) 0 && leb fewestBlocks (s .device .size / blockSize) && leb (s .device .size / blockSize) mostBlocks) ≡ true
-  unfolding isAllowed
-  fits = holds (isAllowed (s .device .size)) (h .fits)
+pub bounds : (N size : ℕ) → isAllowed size ≡ true → size ≡ blockSize * N → (fewestBlocks ≤ N) × (N ≤ mostBlocks)
+unfolding isAllowed
+bounds N size fits blocks =
+    let a = both-true (eqb (size % blockSize) 0 && leb fewestBlocks (size / blockSize)) (leb (size / blockSize) mostBlocks) fits in
+    let b = both-true (eqb (size % blockSize) 0) (leb fewestBlocks (size / blockSize)) (a .0) in
+    let lo = leb-true fewestBlocks (size / blockSize) (b .1) in
+    let hi = leb-true (size / blockSize) mostBlocks (a .1) in
+    (omega (arith, blocks, lo), omega (arith, blocks, hi))
 
+module _ (N : ℕ) (s : State) (h : Starts N s) where
   fewest-most : (fewestBlocks ≤ N) × (N ≤ mostBlocks)
-  fewest-most =
-      let a = both-true (eqb (s .device .size % blockSize) 0 && leb fewestBlocks (s .device .size / blockSize)) (leb (s .device .size / blockSize) mostBlocks) fits in
-      let b = both-true (eqb (s .device .size % blockSize) 0) (leb fewestBlocks (s .device .size / blockSize)) (a .0) in
-      let lo = leb-true fewestBlocks (s .device .size / blockSize) (b .1) in
-      let hi = leb-true (s .device .size / blockSize) mostBlocks (a .1) in
-      (omega (arith, h .blocks, lo), omega (arith, h .blocks, hi))
+  fewest-most = bounds N (s .device .size) (holds (isAllowed (s .device .size)) (h .fits)) (h .blocks)
 
   starts : (F : FilesOn N) → Inv F s (startOf s .plain)
   starts F = go (h .unopened)

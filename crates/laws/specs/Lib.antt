@@ -46,6 +46,7 @@ pub mod Extended
 pub mod RewriteStages
 pub mod Write
 pub mod Files
+pub mod Exact
 pub mod Tie
 pub mod Tampered
 pub mod OneStore

@@ -1,8 +1,7 @@
 -- On any state, tampered or not: a refusal changes nothing, and only format and advance may store. Assumes nothing.
 use Prim.Native.Nat.{ℕ, zero, suc, _+_, _/_}
 use mathlib.Core.Path.{_≡_, refl, sym, ap, _∙_}
-use mathlib.Core.Bool.{Bool, true, false, cond, not, _&&_, _||_}
-use mathlib.Core.Option.{Option, none, some}
+use mathlib.Core.Bool.{Bool, true, false, not, _&&_, _||_}
 use mathlib.Core.List.{List, []}
 use lib.ListN.{length, getElem?}
 use lib.Dec.{leb}
@@ -13,12 +12,11 @@ use Rattle.spec.specs.Inode.{isName, inodeAt, nameAt, isEmpty}
 use Rattle.spec.specs.Session.{stagedIn}
 use Rattle.spec.specs.declared.Refusal.{Refusal}
 use Rattle.spec.specs.declared.Refusal.the-variants.{DeviceSize, BadName, NotReady, Taken, TooManyStaged, ListShort}
-use Rattle.spec.specs.Answers.{Answer, done, file, noFile, run, noRun, refusalOf, isRefused, Result, refuse, accept, require, _>>=_, _>>_}
+use Rattle.spec.specs.Answers.{Answer, done, refusalOf, isRefused, Result, refuse, accept, require, _>>=_, _>>_}
 use Rattle.spec.specs.Transaction.{State, view, BlockStore, stageAll, withStaging}
-use Rattle.spec.specs.declared.Extent.{Extent}
-use Rattle.spec.specs.Bytes.{found}
 use Rattle.spec.specs.Plan.{treeFor}
 use Rattle.spec.specs.CutRule.{bufferOf, listOf}
+use Rattle.crash.specs.Queries.{run-told, file-told}
 use Rattle.spec.specs.Calls.{Outcome, outcome, withBuffer, withList, settle, isReady, known, isTaken, emptyInode, lentOk, readyOk, nameOk, fileOk, sizedOk, headerOk, volumeOk, startCommit, staging, rewrite, runsOf, create, remove, rename, write, setSize, read, sizeOf, freeCount, recordAt, nthExtent, runList, openStore, commit, abort, Change, Create, Remove, Rename, Write, SetSize, Query, Read, Size, Free, Record, RunList, NthExtent, Call, Format, Open, Advance, Commit, Abort, Do, Ask, changeStep, queryStep, step}
 
 -- what an accepted call answers and leaves: no refusal, and the device as it was
@@ -83,14 +81,6 @@ module _ (s : State) where
   change-settled (Write name x bytes) =
       settled (outcome s) _ (λ a. refl) (λ a. refl) (keeps-bind (sizedOk s name (x + length bytes)) _ (λ i. rewrite-keeps i _ x bytes))
   change-settled (SetSize name size) = settled (outcome s) _ (λ a. refl) (λ a. refl) (keeps-bind (sizedOk s name size) _ (λ i. rewrite-keeps i size 0 []))
-
-  file-told : (t : Bool) (name : List ℕ) (n : ℕ) → isRefused (cond t noFile (file name n)) ≡ false
-  file-told true name n = refl
-  file-told false name n = refl
-
-  run-told : (e : Option Extent) → isRefused (found e noRun run) ≡ false
-  run-told none = refl
-  run-told (some e) = refl
 
   query-settled : (q : Query) → Settled s (λ a. record { answer = a; after = s; buffer = bufferOf (Ask q); list = listOf (Ask q) }) (queryStep s q)
   unfolding read sizeOf freeCount recordAt nthExtent runList

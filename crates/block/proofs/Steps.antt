@@ -69,7 +69,7 @@ placed-all k n to from e a b h = sym (take-all k to (omega arith)) ∙ e ∙ tak
 -- ---- blocks read
 
 -- a byte stored behind those copied so far
-set-exactly : (n : ℕ) (xs : List ℕ) (a : ℕ) → set (exactly n xs) (length xs) a ≡ exactly n (xs ++ (a ∷ []))
+pub set-exactly : (n : ℕ) (xs : List ℕ) (a : ℕ) → set (exactly n xs) (length xs) a ≡ exactly n (xs ++ (a ∷ []))
 set-exactly zero xs a = refl
 set-exactly (suc n) [] a = refl
 set-exactly (suc n) (x ∷ xs) a = ap (λ (l : List ℕ). x ∷ l) (set-exactly n xs a)

@@ -23,7 +23,7 @@ use Rattle.transaction.proofs.Laws.{staged-with, staged-is, view-stage, withSta
 use Rattle.agenda.specs.declared.Agenda.{Agenda}
 use Rattle.agenda.specs.Agenda.{storesBy, Rising, Lists, freshIn}
 use Rattle.agenda.proofs.Laws.{ascending-rising, fits-is}
-use Rattle.log.specs.Targets.{both-true}
+use Rattle.lists.specs.Tests.{both-true}
 use Rattle.change.specs.declared.Change.{Change}
 use Rattle.change.specs.Contents.{contentOf, contentIn}
 

@@ -10,6 +10,7 @@ use borrow.Author.Tests.{eqb-true, le-leb, lt-leb, lt-ltb, le-ltb}
 use lib.Dec.{eqb, leb, ltb}
 use lib.ListN.{length, take, drop, getD, set, length-set, length-append, drop-of-length-le}
 use lib.Seq.{paste, paste-zero, paste-suc, take-suc-set, take-all, drop-cons, append-snoc}
+use Rattle.block.proofs.Steps.{set-exactly}
 use Rattle.spec.specs.Bytes.{exactly, zeros}
 use Rattle.spec.specs.declared.Extent.{Extent}
 use Rattle.spec.specs.Inode.{extent, bytesOfSlots}
@@ -42,11 +43,6 @@ laid-all i at k q new old ea ek e =
 
 unfoldable pub filled : List ℕ → List ℕ
 filled xs = exactly 512 xs
-
-set-exactly : (n : ℕ) (xs : List ℕ) (a : ℕ) → set (exactly n xs) (length xs) a ≡ exactly n (xs ++ (a ∷ []))
-set-exactly zero xs a = refl
-set-exactly (suc n) [] a = refl
-set-exactly (suc n) (x ∷ xs) a = ap (λ (l : List ℕ). x ∷ l) (set-exactly n xs a)
 
 set-filled : (n : ℕ) (xs : List ℕ) (a : ℕ) → n ≡ length xs → set (filled xs) n a ≡ filled (xs ++ (a ∷ []))
 unfolding filled

@@ -20,7 +20,8 @@ use Rattle.spec.specs.Transaction.{State, withSession}
 use Rattle.spec.specs.Calls.{outcome, Open, step}
 use Rattle.spec.specs.Plain.{plain, plainStart}
 use Rattle.spec.specs.CutRule.{Event, Both, after, Survives, Starts, startOf, CutRule}
-use Rattle.log.specs.Targets.{both-true, holds, truth}
+use Rattle.lists.specs.Tests.{both-true}
+use Rattle.log.specs.Targets.{holds, truth}
 use Rattle.log.specs.Header.{clear-block}
 use Rattle.crash.specs.Interface.{FilesOn, FileLayer}
 use Rattle.crash.specs.Tests.{refuses}

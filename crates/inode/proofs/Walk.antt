@@ -1,13 +1,14 @@
 -- Laws of the walk over a file's tree. Assumes nothing.
 use Prim.Native.Nat.{ℕ, zero, suc, _+_, _*_, _-_, _<_, _≤_, min}
 use mathlib.Core.Path.{_≡_, refl, sym, ap, ap₂, _∙_}
-use mathlib.Core.Bool.{Bool, true, false, not, _&&_, true≢false}
+use mathlib.Core.Bool.{Bool, true, false, not, true≢false}
 use mathlib.Core.List.{List, [], _∷_, append-nil}
 use native.Mathlib.Omega.{arith}
 use lib.ListN.{length, take, drop, getD, List·getD-eq-default}
 use lib.Seq.{getD-drop, drop-drop}
 use lib.Dec.{eqb, ltb}
 use borrow.Author.Tests.{eqb-true, eqb-false, ltb-true, eq-eqb, ne-eqb, lt-ltb, not-true}
+use Rattle.lists.specs.Tests.{both-true}
 use Rattle.spec.specs.declared.Extent.{Extent}
 use Rattle.spec.specs.Bytes.{exactly, number2}
 use Rattle.spec.specs.Disk.{Disk, blocksOf}
@@ -41,18 +42,14 @@ slot-past X at l h =
       inside = λ k. absurd (omega arith);
     }
 
-and-true : (a b : Bool) → a && b ≡ true → (a ≡ true) × (b ≡ true)
-and-true true b h = (refl, h)
-and-true false b h = absurd (true≢false (sym h))
-
 -- a slot that is live is there, lies in the block and has a count
 pub live-left : (n : ℕ) (e : Extent) (r : Bool) → r ≡ live n e → r ≡ true → 0 < n
 unfolding live
-live-left n e r l h = ltb-true 0 n (and-true (ltb 0 n) (not (eqb (e .count) 0)) (sym l ∙ h) .0)
+live-left n e r l h = ltb-true 0 n (both-true (ltb 0 n) (not (eqb (e .count) 0)) (sym l ∙ h) .0)
 
 live-count : (n : ℕ) (e : Extent) → live n e ≡ true → 0 < e .count
 unfolding live
-live-count n e h = omega (arith, eqb-false (e .count) 0 (not-true (eqb (e .count) 0) (and-true (ltb 0 n) (not (eqb (e .count) 0)) h .1)))
+live-count n e h = omega (arith, eqb-false (e .count) 0 (not-true (eqb (e .count) 0) (both-true (ltb 0 n) (not (eqb (e .count) 0)) h .1)))
 
 pub live-inside : (X : List ℕ) (at n : ℕ) (e : Extent) (r : Bool) → Slot X at e → r ≡ live n e → r ≡ true → at < 512
 live-inside X at n e r s l h = s .inside (live-count n e (sym l ∙ h))

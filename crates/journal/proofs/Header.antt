@@ -1,15 +1,15 @@
 -- The header, built record by record. Assumes nothing.
 use Prim.Native.Nat.{ℕ, zero, suc, _+_, _*_, _<_, _≤_}
 use mathlib.Core.Path.{_≡_, refl, sym, ap, _∙_}
-use mathlib.Core.List.{List, [], _∷_, _++_, map, append-assoc, append-nil}
+use mathlib.Core.List.{List, [], _∷_, _++_, append-assoc, append-nil}
 use native.Mathlib.Nat.{suc-add, zero-add}
 use native.Mathlib.Numerals.{add-one}
 use native.Mathlib.Omega.{arith}
 use lib.ListN.{length, take, drop, getD, length-append}
 use lib.Seq.{take-suc, length-take-le}
-use Rattle.spec.specs.Bytes.{exactly, zeros, patch, bytes2, concat}
+use Rattle.spec.specs.Bytes.{exactly, zeros, patch, bytes2}
 use Rattle.spec.specs.Journal.{headerOf}
-use Rattle.block.proofs.Laws.{length-exactly, exactly-nil}
+use Rattle.log.specs.Header.{recordOf, records, records-are, length-record}
 
 -- ---- bytes laid behind others
 
@@ -32,32 +32,9 @@ exactly-zeros (suc n) m (x ∷ xs) = ap (λ (l : List ℕ). x ∷ l) (exactly-ze
 
 -- ---- the records of a header
 
-unfoldable recordOf : ℕ → List ℕ
-recordOf t = bytes2 t ++ zeros 14
-
-length-record : (t : ℕ) → length (recordOf t) ≡ 16
-unfolding recordOf zeros
-length-record t = refl
-
-unfoldable records : List ℕ → List ℕ
-records [] = []
-records (t ∷ ts) = recordOf t ++ records ts
-
-records-are : (ts : List ℕ) → concat (map (λ t. bytes2 t ++ zeros 14) ts) ≡ records ts
-unfolding records recordOf
-records-are [] = refl
-records-are (t ∷ ts) = ap (λ (l : List ℕ). recordOf t ++ l) (records-are ts)
-
 header-records : (ts : List ℕ) → headerOf ts ≡ exactly 512 (records ts)
 unfolding headerOf
 header-records ts = ap (exactly 512) (records-are ts)
-
-pub length-header : (ts : List ℕ) → length (headerOf ts) ≡ 512
-length-header ts = ap length (header-records ts) ∙ length-exactly 512 (records ts)
-
-pub header-none : zeros 512 ≡ headerOf []
-unfolding records
-header-none = sym (header-records [] ∙ exactly-nil 512)
 
 length-records : (ts : List ℕ) → length (records ts) ≡ 16 * length ts
 unfolding records

@@ -31,7 +31,8 @@ use Rattle.journal.specs.declared.Entry.{Entry}
 use Rattle.journal.specs.declared.Targets.{Targets}
 use Rattle.journal.proofs.Order.{sorted-length, sorted-at}
 use Rattle.journal.proofs.Listed.{targets-listed, targets-some, listed-at}
-use Rattle.journal.proofs.Header.{length-header, header-none, header-more}
+use Rattle.log.specs.Header.{length-header, clear-header}
+use Rattle.journal.proofs.Header.{header-more}
 use Rattle.journal.proofs.Laws.{at-end, commit-none, commit-length, commit-image, commit-list, commit-target, commit-clearing, recovery-none, recovery-stores, recovery-length, redo, redo-target, redo-clearing}
 
 -- ---- the header, with the r lowest of the first n cells listed
@@ -41,7 +42,7 @@ listing l n r = headerOf (take r (sorted (take n l)))
 
 pub listing-none : (l : List ℕ) (n : ℕ) → replicate 512 0 ≡ listing l n 0
 unfolding listing zeros
-listing-none l n = header-none
+listing-none l n = clear-header
 
 pub listing-length : (l q : List ℕ) (n r : ℕ) → q ≡ listing l n r → length q ≡ 512
 unfolding listing

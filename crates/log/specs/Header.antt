@@ -15,25 +15,10 @@ use Rattle.spec.specs.Layout.{blockSize, logLength}
 use Rattle.spec.specs.Bytes.{exactly, zeros, part, bytes2, allZero, all, leading, concat, upFrom, lowest}
 use Rattle.spec.specs.Disk.{isTarget}
 use Rattle.spec.specs.Journal.{headerOf, targetAt, targetsBefore, targetsIn, isRecordWrong, headerFault}
+use Rattle.block.proofs.Laws.{length-exactly, getD-exactly, exactly-nil}
 use Rattle.log.specs.Targets.{Targets, fresh-at, range-target}
 
 -- ---- lists
-
-length-exactly : (n : ℕ) (xs : List ℕ) → length (exactly n xs) ≡ n
-length-exactly zero xs = refl
-length-exactly (suc n) [] = ap suc (length-exactly n [])
-length-exactly (suc n) (x ∷ xs) = ap suc (length-exactly n xs)
-
-getD-exactly : (n : ℕ) (xs : List ℕ) (i : ℕ) → i < n → getD (exactly n xs) i 0 ≡ getD xs i 0
-getD-exactly zero xs i h = absurd (not-suc-le-zero h)
-getD-exactly (suc n) [] zero h = refl
-getD-exactly (suc n) [] (suc i) h = getD-exactly n [] i (le-of-suc-le-suc h)
-getD-exactly (suc n) (x ∷ xs) zero h = refl
-getD-exactly (suc n) (x ∷ xs) (suc i) h = getD-exactly n xs i (le-of-suc-le-suc h)
-
-exactly-nil : (n : ℕ) → exactly n [] ≡ replicate n 0
-exactly-nil zero = refl
-exactly-nil (suc n) = ap {B = List ℕ} (λ xs. 0 ∷ xs) (exactly-nil n)
 
 module _ {A : Type 0} where
   -- numbers counted from a + 1
@@ -62,19 +47,19 @@ lowest-none a (suc n) f h = rw (h a (omega arith)) (lowest-none (suc a) n f (λ 
 
 -- ---- the records of the header, before it is filled up
 
-unfoldable recordOf : ℕ → List ℕ
+unfoldable pub recordOf : ℕ → List ℕ
 recordOf t = bytes2 t ++ zeros 14
 
-unfoldable records : List ℕ → List ℕ
+unfoldable pub records : List ℕ → List ℕ
 records [] = []
 records (t ∷ ts) = recordOf t ++ records ts
 
-records-are : (ts : List ℕ) → concat (map (λ t. bytes2 t ++ zeros 14) ts) ≡ records ts
+pub records-are : (ts : List ℕ) → concat (map (λ t. bytes2 t ++ zeros 14) ts) ≡ records ts
 unfolding records recordOf
 records-are [] = refl
 records-are (t ∷ ts) = ap {B = List ℕ} (λ xs. recordOf t ++ xs) (records-are ts)
 
-length-record : (t : ℕ) → length (recordOf t) ≡ 16
+pub length-record : (t : ℕ) → length (recordOf t) ≡ 16
 unfolding recordOf zeros
 length-record t = refl
 

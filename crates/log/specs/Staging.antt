@@ -15,6 +15,7 @@ use Rattle.spec.specs.Transaction.{BlockStore, Staged, stage, stageEach}
 use Rattle.lists.specs.Places.{place-lt, place-value, no-place, all-append}
 use Rattle.transaction.proofs.Laws.{shown, shown-stage, stage-new, stage-again}
 use Rattle.log.specs.Stores.{upd, applied, targetsOf}
+use Rattle.lists.specs.Members.{member-cons}
 use Rattle.log.specs.Targets.{Fresh, Targets}
 
 -- ---- members
@@ -33,13 +34,6 @@ member-snoc x b bs h =
     rw (ne-eqb b x h) (and-true (all (λ y. not (eqb y x)) bs))
     in
     ap not (all-append (λ y. not (eqb y x)) bs (b ∷ []) ∙ q)
-
-member-cons : (b x : ℕ) (xs : List ℕ) → member b (x ∷ xs) ≡ (eqb x b || member b xs)
-member-cons b x xs = go (eqb x b) (all (λ y. not (eqb y b)) xs)
-  where
-    go : (t u : Bool) → not (not t && u) ≡ (t || not u)
-    go true u = refl
-    go false u = refl
 
 fresh-member : (b : ℕ) (xs : List ℕ) → Fresh b xs → member b xs ≡ false
 fresh-member b [] g = refl

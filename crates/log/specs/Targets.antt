@@ -12,6 +12,7 @@ use Rattle.spec.specs.Bytes.{all, member, distinct}
 use Rattle.spec.specs.Disk.{areaOf, isTargetArea, isTarget}
 use Rattle.spec.specs.declared.Area.the-variants.{Header, Log, Bitmap, Inodes, Data}
 use Rattle.spec.specs.Journal.{areTargets}
+use Rattle.lists.specs.Tests.{both-true}
 use Rattle.transaction.proofs.Laws.{Listed}
 
 -- ---- tests
@@ -23,10 +24,6 @@ holds false h = absurd h
 pub truth : (b : Bool) → b ≡ true → T b
 truth true h = tt
 truth false h = absurd (false≢true h)
-
-pub both-true : (a b : Bool) → (a && b) ≡ true → (a ≡ true) × (b ≡ true)
-both-true true b h = (refl, h)
-both-true false b h = absurd (false≢true h)
 
 -- ---- one target
 

@@ -16,6 +16,7 @@ use inode::Step;
 use inode::next;
 use inode::start;
 use inode::table_block;
+use runs::End;
 use runs::Runs;
 use runs::Tree;
 use runs::no_runs;
@@ -100,20 +101,27 @@ fn keep<'a>(device: &'a [u8], work: &'a [u8], s: Session, i: usize, wanted: usiz
 {
     let tb = table_block(i);
     let mut scan = stretch(device, work, s, i, 0, wanted);
-    let mut runs = no_runs();
-    let mut count: usize = 0;
+    let mut first = [0u32; 512];
+    let mut count = [0u32; 512];
+    let mut end = End { len: 0, next: 0 };
+    let mut n: usize = 0;
     loop {
         match next_piece(device, work, s, tb, scan) {
             Piece::Blocks(e, then) => {
-                let more = push(runs, e.first, e.count);
-                runs = more;
-                count += e.count as usize;
+                let more = push(&mut first, &mut count, end, e.first, e.count);
+                end = more;
+                n += e.count as usize;
                 scan = then;
             }
             Piece::End => {
                 return Kept {
-                    runs: runs,
-                    count: count,
+                    runs: Runs {
+                        first: first,
+                        count: count,
+                        len: end.len,
+                        next: end.next,
+                    },
+                    count: n,
                 };
             }
         }
@@ -154,17 +162,28 @@ fn take_data(t: &mut [u8; 512], kept: Kept, n: usize) -> Runs
     requires { ⌜ Small (kept .runs) (kept .count) × (kept .count ≤ 2048) × (n ≤ freeBits (bitsOf (now t))) × (n ≤ 4096) ⌝ }
     ensures { λ q. ⌜ TookData (now (t .entry)) (now (t .exit)) kept n q ⌝ }
 {
-    let mut runs = kept.runs;
+    let r = kept.runs;
+    let mut first = r.first;
+    let mut count = r.count;
+    let mut end = End {
+        len: r.len,
+        next: r.next,
+    };
     let mut from: usize = 0;
     let mut k: usize = 0;
     while k < n {
         let b = pick(t, from);
-        let more = push(runs, b, 1);
-        runs = more;
+        let more = push(&mut first, &mut count, end, b, 1);
+        end = more;
         from = (b / 64) as usize;
         k += 1;
     }
-    runs
+    Runs {
+        first: first,
+        count: count,
+        len: end.len,
+        next: end.next,
+    }
 }
 
 // The nodes of record i. A cursor with no leaf slots left steps from node to node.

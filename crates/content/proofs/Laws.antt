@@ -2,16 +2,18 @@
 use Prim.Native.Nat.{ℕ, zero, suc, _+_, _*_, _-_, _/_, _%_, _<_, _≤_, min}
 use mathlib.Core.Path.{_≡_, refl, sym, ap, _∙_}
 use mathlib.Core.Bool.{Bool, true, false, cond, _&&_, true≢false}
+use mathlib.Core.Logic.{_⊎_, inl, inr}
 use mathlib.Core.List.{List, [], _∷_, _++_, append-assoc, append-nil}
 use native.Mathlib.Omega.{arith}
 use native.Mathlib.Nat.{add-zero, sub-zero}
 use native.Mathlib.Numerals.{add-one}
 use borrow.Author.Tests.{eqb-true, le-leb, lt-leb, lt-ltb, le-ltb}
 use lib.Dec.{eqb, leb, ltb}
-use lib.ListN.{length, take, drop, getD, set, length-set, length-append, drop-of-length-le}
-use lib.Seq.{paste, paste-zero, paste-suc, take-suc-set, take-all, drop-cons, append-snoc}
+use lib.ListN.{length, take, drop, getD, set, length-set, length-append, take-append-drop, drop-of-length-le}
+use lib.Seq.{paste, paste-zero, paste-suc, take-suc-set, drop-set-lt, take-all, drop-cons, append-snoc}
 use Rattle.block.proofs.Steps.{set-exactly}
 use Rattle.spec.specs.Bytes.{exactly, zeros}
+use Rattle.block.proofs.Laws.{lt-or-le}
 use Rattle.spec.specs.declared.Extent.{Extent}
 use Rattle.spec.specs.Inode.{extent, bytesOfSlots}
 use Rattle.spec.specs.Plan.{overlay, isLastKept}
@@ -128,45 +130,53 @@ slots-all r j k out ek e =
 
 -- ---- a data block
 
-pub over-before : (x at n : ℕ) (b o : ℕ) → at < x → o ≡ cond (leb x at && ltb at (x + n)) b o
-over-before x at n b o h = rw (lt-leb x at h)
+-- the data does not reach the first k bytes
+over-skip : (x : ℕ) (bytes : List ℕ) (k at : ℕ) (old : List ℕ) → k ≤ x - at → overlay x bytes at old ≡ take k old ++ overlay x bytes (at + k) (drop k old)
+over-skip x bytes zero at old h = rw (add-zero at)
+over-skip x bytes (suc k) at [] h = refl
+over-skip x bytes (suc k) at (o ∷ old) h =
+    let e : at + suc k ≡ suc at + k = omega arith in
+    rw (lt-leb x at (omega arith), e) (ap (λ (l : List ℕ). o ∷ l) (over-skip x bytes k (suc at) old (omega arith)))
 
-pub over-behind : (x at n : ℕ) (b o : ℕ) → x ≤ at → x + n ≤ at → o ≡ cond (leb x at && ltb at (x + n)) b o
-over-behind x at n b o h l = rw (le-leb x at h, le-ltb at (x + n) l)
+-- nor any behind its end
+over-past : (x : ℕ) (bytes : List ℕ) (at : ℕ) (old : List ℕ) → x + length bytes ≤ at → overlay x bytes at old ≡ old
+over-past x bytes at [] h = refl
+over-past x bytes at (o ∷ old) h =
+    rw (le-leb x at (omega arith), le-ltb at (x + length bytes) h) (ap (λ (l : List ℕ). o ∷ l) (over-past x bytes (suc at) old (omega arith)))
 
-pub over-in : (x at n : ℕ) (b o : ℕ) → x ≤ at → at < x + n → b ≡ cond (leb x at && ltb at (x + n)) b o
-over-in x at n b o h l = rw (le-leb x at h, lt-ltb at (x + n) l)
-
--- the first k bytes are done
+-- the first k bytes are done, the others as they were
 pub record OverTo (x : ℕ) (bytes : List ℕ) (p : ℕ) (old q : List ℕ) (k : ℕ) : Type 0 where
   pub long : length q ≡ 512
   pub whole : length old ≡ 512
+  pub rest : drop k q ≡ drop k old
   pub is : laidOver x bytes p old ≡ take k q ++ overlay x bytes (512 * p + k) (drop k old)
 
 module _ (x : ℕ) (bytes : List ℕ) (p : ℕ) (old : List ℕ) where
-  pub over-start : length old ≡ 512 → OverTo x bytes p old old 0
+  pub over-start : length old ≡ 512 → (k : ℕ) → k ≡ min 512 (x - 512 * p) → OverTo x bytes p old old k
   unfolding laidOver
-  over-start l = record { long = l; whole = l; is = rw (add-zero (512 * p)) }
+  over-start l k h = record { long = l; whole = l; rest = refl; is = over-skip x bytes k (512 * p) old (omega arith) }
 
   module _ (q : List ℕ) (k : ℕ) (h : OverTo x bytes p old q k) where
-    pub over-more : (b : ℕ) → k < 512
-        → b ≡ cond (leb x (512 * p + k) && ltb (512 * p + k) (x + length bytes)) (getD bytes (512 * p + k - x) 0) (getD old k 0)
-        → OverTo x bytes p old (set q k b) (k + 1)
-    over-more b l e =
+    pub over-more : k < 512 → x ≤ 512 * p + k → 512 * p + k < x + length bytes → OverTo x bytes p old (set q k (getD bytes (512 * p + k - x) 0)) (k + 1)
+    over-more l a e =
+        let b = getD bytes (512 * p + k - x) 0 in
         let z : 512 * p + (k + 1) ≡ suc (512 * p + k) = omega arith in
         let d : drop k old ≡ getD old k 0 ∷ drop (suc k) old = drop-cons old k 0 (omega (arith, h .whole)) in
         let t : take (suc k) (set q k b) ≡ take k q ++ (b ∷ []) = take-suc-set q k b (omega (arith, h .long)) in
+        let f : drop k q ≡ getD q k 0 ∷ drop (suc k) q = drop-cons q k 0 (omega (arith, h .long)) in
         record {
           long = simp length-set (h .long);
           whole = h .whole;
-          is = h .is ∙ rw (z, add-one k, t, d, ← e) (sym (append-snoc (take k q) b (overlay x bytes (suc (512 * p + k)) (drop (suc k) old))));
+          rest = rw (add-one k, drop-set-lt (suc k) q k b (omega arith)) (ap (drop 1) (sym f ∙ h .rest ∙ d));
+          is = h .is ∙ rw (z, add-one k, t, d, le-leb x (512 * p + k) a, lt-ltb (512 * p + k) (x + length bytes) e) (sym (append-snoc (take k q) b (overlay x bytes (suc (512 * p + k)) (drop (suc k) old))));
         }
 
-    pub over-end : 512 ≤ k → q ≡ laidOver x bytes p old
-    over-end l =
-        let d : drop k old ≡ [] = drop-of-length-le old {i = k} (omega (arith, h .whole)) in
-        let t : take k q ≡ q = take-all k q (omega (arith, h .long)) in
-        sym (h .is ∙ rw (d, t) (append-nil q))
+    pub over-end : min 512 (x + length bytes - 512 * p) ≤ k → q ≡ laidOver x bytes p old
+    over-end l = sym (h .is ∙ ap (λ (r : List ℕ). take k q ++ r) (behind (lt-or-le k 512) ∙ sym (h .rest)) ∙ take-append-drop k q)
+      where
+        behind : (k < 512) ⊎ (512 ≤ k) → overlay x bytes (512 * p + k) (drop k old) ≡ drop k old
+        behind (inl m) = over-past x bytes (512 * p + k) (drop k old) (omega arith)
+        behind (inr m) = rw (drop-of-length-le old {i = k} (omega (arith, h .whole)))
 
 pub cut-is : (n : ℕ) (old q : List ℕ) → q ≡ exactly 512 (take (n - 0) old) → q ≡ cutTo n old
 unfolding cutTo

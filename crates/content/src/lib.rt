@@ -5,11 +5,9 @@ use runs::Tree;
 use spec::Extent;
 use spec::Limits;
 ghost use mathlib.Core.Path.{_≡_};
-ghost use mathlib.Core.Bool.{cond, _&&_};
 ghost use mathlib.Core.List.{[], _∷_, _++_};
 ghost use Prim.Native.Nat.{_+_, _*_, _-_, _<_, _≤_, min};
 ghost use lib.ListN.{length, getD};
-ghost use lib.Dec.{leb, ltb};
 ghost use Rattle.spec.specs.Bytes.{bytes2, bytes4};
 ghost use Rattle.spec.specs.Inode.{extent, counts, bytesOfInode, inodeWith};
 ghost use Rattle.spec.specs.Plan.{isLastKept, holdsData, isStaged};
@@ -210,18 +208,17 @@ pub fn record_bytes(name: [u8; 8], size: usize, t: Tree) -> [u8; 32]
     joined(name, z, d, a, b, c, e)
 }
 
-// The byte at a place of the file: the data's where the data has one there, else the old one.
-fn byte_over(x: usize, bytes: &[u8], at: usize, old: u8) -> u8
-    requires { ⌜ x + length (now bytes) ≤ 1048576 ⌝ }
-    ensures { λ r. ⌜ r ≡ cond (leb x at && ltb at (x + length (now (bytes .entry)))) (getD (now (bytes .entry)) (at - x) 0) old ⌝ }
+// Where a place of the file lies in the block that begins at `start`: at most at its end.
+fn within(start: usize, at: usize) -> usize
+    ensures { λ r. ⌜ r ≡ min 512 (at - start) ⌝ }
 {
-    if at < x {
-        return old;
+    if at <= start {
+        return 0;
     }
-    if x + bytes.len() <= at {
-        return old;
+    if Limits::BLOCK_SIZE < at - start {
+        return Limits::BLOCK_SIZE;
     }
-    bytes[at - x]
+    at - start
 }
 
 // The data from place x of the file on, laid over the file's block p.
@@ -230,10 +227,12 @@ fn lay_over(old: [u8; 512], x: usize, bytes: &[u8], p: usize) -> [u8; 512]
     ensures { λ q. ⌜ q ≡ laidOver x (now (bytes .entry)) p old ⌝ }
 {
     let start = Limits::BLOCK_SIZE * p;
+    let from = within(start, x);
+    let end = within(start, x + bytes.len());
     let mut q = old;
-    let mut k: usize = 0;
-    while k < Limits::BLOCK_SIZE {
-        q[k] = byte_over(x, bytes, start + k, old[k]);
+    let mut k = from;
+    while k < end {
+        q[k] = bytes[start + k - x];
         k += 1;
     }
     q

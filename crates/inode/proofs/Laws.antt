@@ -9,7 +9,7 @@ use native.Mathlib.Numerals.{add-one}
 use native.Mathlib.Omega.{arith}
 use lib.Dec.{eqb}
 use lib.ListN.{length, take, drop, getD, replicate, length-take, length-drop, length-replicate}
-use lib.Seq.{getD-take, getD-drop, take-take, take-nil, drop-drop}
+use lib.Seq.{ext-getD, getD-take, getD-drop, take-take, take-nil, drop-drop}
 use Rattle.spec.specs.Bytes.{exactly, part, number2, number4, same, allZero, found, place, lowest}
 use Rattle.spec.specs.Disk.{Disk, blocksOf}
 use Rattle.spec.specs.declared.Session.{Session}
@@ -155,6 +155,19 @@ compared-in t bytes at k x y r fits h l e f =
     let a : x ≡ getD (bytesIn t at (length bytes)) k 0 = e ∙ sym (field-byte t at (length bytes) fits k l) in
     let m : k < length (bytesIn t at (length bytes)) = rw (field-length t at (length bytes) fits) l in
     rw (a, f) (compared-more k (bytesIn t at (length bytes)) bytes r h m l)
+
+-- where the block reaches so far they are a part of it
+pub same-part : (t bytes : List ℕ) (at end : ℕ) (r : Bool) → end ≡ at + length bytes → end ≤ 512 → end ≤ length t → r ≡ same (take (end - at) (drop at t)) bytes
+    → r ≡ same (bytesIn t at (length bytes)) bytes
+same-part t bytes at end r e fits long h =
+    let w = length bytes in
+    let n : end - at ≡ w = omega arith in
+    let l : length (take w (drop at t)) ≡ w = simp (length-take, length-drop) (omega arith) in
+    let q : take w (drop at t) ≡ bytesIn t at w =
+    ext-getD 0 (take w (drop at t)) (bytesIn t at w) (l ∙ sym (field-length t at w (omega arith)))
+    (λ i k. let m : i < w = rw l at k in getD-take w (drop at t) i 0 m ∙ getD-drop at t i 0 ∙ sym (field-byte t at w (omega arith) i m))
+    in
+    h ∙ rw n (ap (λ (x : List ℕ). same x bytes) q)
 
 pub same-zeros : (xs : List ℕ) → same xs (replicate (length xs) 0) ≡ allZero xs
 same-zeros [] = refl

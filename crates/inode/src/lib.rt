@@ -66,8 +66,22 @@ pub fn depth_of(table: &[u8], i: usize) -> u32
     load(table, place_in_block(i) + 12)
 }
 
-// Whether these bytes stand at a place of a block.
-fn same_at(table: &[u8], at: usize, bytes: &[u8]) -> bool
+// Whether two slices of one length are equal.
+fn same_bytes(a: &[u8], b: &[u8]) -> bool
+    requires { ⌜ length (now a) ≡ length (now b) ⌝ }
+    ensures { λ r. ⌜ r ≡ same (now (a .entry)) (now (b .entry)) ⌝ }
+{
+    let mut equal = true;
+    let mut k: usize = 0;
+    while k < b.len() {
+        equal = equal & (a[k] == b[k]);
+        k += 1;
+    }
+    equal
+}
+
+// Whether these bytes stand at a place of a block that may be cut short.
+fn same_loaded(table: &[u8], at: usize, bytes: &[u8]) -> bool
     requires { ⌜ at + length (now bytes) ≤ 512 ⌝ }
     ensures { λ r. ⌜ r ≡ same (bytesIn (now (table .entry)) at (length (now (bytes .entry)))) (now (bytes .entry)) ⌝ }
 {
@@ -78,6 +92,18 @@ fn same_at(table: &[u8], at: usize, bytes: &[u8]) -> bool
         k += 1;
     }
     equal
+}
+
+// Whether these bytes stand at a place of a block.
+fn same_at(table: &[u8], at: usize, bytes: &[u8]) -> bool
+    requires { ⌜ at + length (now bytes) ≤ 512 ⌝ }
+    ensures { λ r. ⌜ r ≡ same (bytesIn (now (table .entry)) at (length (now (bytes .entry)))) (now (bytes .entry)) ⌝ }
+{
+    let end = at + bytes.len();
+    if end <= table.len() {
+        return same_bytes(&table[at..end], bytes);
+    }
+    same_loaded(table, at, bytes)
 }
 
 // Whether record i has this name.

@@ -8,6 +8,11 @@ use lib.Dec.{eqb}
 use Rattle.spec.specs.declared.Extent.{Extent}
 use Rattle.spec.specs.Inode.{extent}
 use Rattle.runs.specs.declared.Runs.{Runs}
+use Rattle.runs.specs.declared.End.{End}
+
+-- two columns and where they end, as one value
+abbrev pub columns : List ℕ → List ℕ → End → Runs
+columns first count end = record { first = first; count = count; len = end .len; next = end .next }
 
 -- the columns of a list of extents
 unfoldable pub firsts : List Extent → List ℕ

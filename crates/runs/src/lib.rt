@@ -1,8 +1,10 @@
 // A file's extents by value, and the tree of a file after a change.
 use spec::Limits;
+ghost use mathlib.Core.Path.{_≡_};
 ghost use mathlib.Core.List.{[]};
 ghost use Prim.Native.Nat.{_+_, _<_};
-ghost use Rattle.runs.specs.Push.{Holds, Small, Pushed, lastCount};
+ghost use lib.ListN.{length};
+ghost use Rattle.runs.specs.Push.{columns, Holds, Small, Pushed, lastCount};
 
 // The first 512 extents of a list, the number of all of them, and the block after the last one.
 pub struct Runs {
@@ -34,30 +36,41 @@ pub fn no_runs() -> Runs
     }
 }
 
+// How many extents two columns have, and the block after the last one.
+pub struct End {
+    pub len: usize,
+    pub next: usize,
+}
+
 // c blocks from b on, behind the others: joined to the last extent where that ends at b.
-pub fn push(r: Runs, b: u32, c: u32) -> Runs
-    requires { ⌜ (lastCount r + c < 4294967296) × (r .len < 1000000) × (r .next < 1000000000000) ⌝ }
-    ensures { λ q. ⌜ Pushed r b c q ⌝ }
+pub fn push(first: &mut [u32; 512], count: &mut [u32; 512], end: End, b: u32, c: u32) -> End
+    requires { ⌜ (lastCount (columns (now first) (now count) end) + c < 4294967296) × (end .len < 1000000) × (end .next < 1000000000000)
+        × (length (now first) ≡ 512) × (length (now count) ≡ 512) ⌝ }
+    ensures { λ q. ⌜ Pushed (columns (now (first .entry)) (now (count .entry)) end) b c (columns (now (first .exit)) (now (count .exit)) q) ⌝ }
 {
-    let at = r.len;
-    let end = r.next;
-    let mut q = r;
-    if 0 < at && end == (b as usize) {
-        q.next = end + (c as usize);
+    let at = end.len;
+    let next = end.next;
+    if 0 < at && next == (b as usize) {
+        let then = End {
+            len: at,
+            next: next + (c as usize),
+        };
         if at <= 512 {
             let k = at - 1;
-            let n = q.count[k];
-            q.count[k] = n + c;
-            return q;
+            let n = count[k];
+            count[k] = n + c;
+            return then;
         }
-        return q;
+        return then;
     }
-    q.len = at + 1;
-    q.next = (b as usize) + (c as usize);
+    let then = End {
+        len: at + 1,
+        next: (b as usize) + (c as usize),
+    };
     if at < 512 {
-        q.first[at] = b;
-        q.count[at] = c;
-        return q;
+        first[at] = b;
+        count[at] = c;
+        return then;
     }
-    q
+    then
 }

@@ -1,8 +1,11 @@
 use borrow.Author.Needs.{needs}
 use Prim.Native.Nat.{_-_}
+use mathlib.Core.Path.{refl}
 use native.Mathlib.Omega.{arith}
 use lib.ListN.{length, take}
 use Rattle.spec.specs.Transaction.{view, stateOf}
+use Rattle.runs.specs.Push.{columns}
+use Rattle.runs.proofs.Laws.{holds-none, small-none}
 use Rattle.alloc.specs.Parts.{dataAt}
 use Rattle.extents.specs.Stretches.{pending}
 use Rattle.extents.proofs.Laws.{on-piece, on-last, piece-less}
@@ -11,10 +14,11 @@ use Rattle.alloc.proofs.keep.Statement.{statement}
 use Rattle.alloc.proofs.keep.Tie as tie
 
 abbrev Inv-loop : tie.InvT-loop
-Inv-loop device work s i wanted tb scan₀ runs₀ count₀ scan runs count = Keeping (view (stateOf s device work)) tb (take wanted (dataAt (view (stateOf s device work)) i)) scan runs count
+Inv-loop device work s i wanted tb scan₀ first₀ count₀ end₀ n₀ scan first count end n =
+    Keeping (view (stateOf s device work)) tb (take wanted (dataAt (view (stateOf s device work)) i)) scan (columns first count end) n
 
 abbrev μ-loop : tie.MeasureT-loop
-μ-loop device work s i wanted tb scan₀ runs₀ count₀ scan runs count = length (pending (view (stateOf s device work)) tb scan)
+μ-loop device work s i wanted tb scan₀ first₀ count₀ end₀ n₀ scan first count end n = length (pending (view (stateOf s device work)) tb scan)
 
 table-block-requires : tie.Need-table-block-requires Inv-loop μ-loop
 table-block-requires c κs = search needs
@@ -22,11 +26,8 @@ table-block-requires c κs = search needs
 stretch-requires : tie.Need-stretch-requires Inv-loop μ-loop
 stretch-requires c κs = search needs
 
-no-runs-requires : tie.Need-no-runs-requires Inv-loop μ-loop
-no-runs-requires c κs = search needs
-
 loop-holds : tie.Need-loop-holds Inv-loop μ-loop
-loop-holds c = keep-start _ _ _ _ _ _ (c .before .before .table-block .ensures) (c .before .stretch .ensures) (c .no-runs .ensures .0) (c .no-runs .ensures .1)
+loop-holds c = keep-start _ _ _ _ _ _ (c .before .table-block .ensures) (c .stretch .ensures) (holds-none _ _) (small-none _ _ refl refl)
 
 next-piece-requires : tie.Need-next-piece-requires Inv-loop μ-loop
 next-piece-requires c κs = search needs
@@ -36,22 +37,23 @@ enum-known-e c = search needs
 
 push-requires : tie.Need-push-requires Inv-loop μ-loop
 push-requires c κs =
-    let k = c .before .before .before .before .loop .inv in
-    let s = on-piece _ _ _ _ _ _ (c .before .before .before .next-piece .ensures) (c .before .e .given .1) in
-    (omega (arith, k .small .count (c .before .before .before .before .loop .runs .len - 1), k .passed .room, s .room), omega (arith, k .small .len, k .passed .room), omega (arith, k .small .next, k .passed .room))
+    let l = c .before .before .before .before .before .before .loop in
+    let k = l .inv in
+    let s = on-piece _ _ _ _ _ _ (c .before .before .before .before .before .next-piece .ensures) (c .before .before .before .e .given .1) in
+    (omega (arith, k .small .count (l .end .len - 1), k .passed .room, s .room), omega (arith, k .small .len, k .passed .room), omega (arith, k .small .next, k .passed .room), k .small .firsts, k .small .counts)
 
-cast-count : tie.Need-cast-count Inv-loop μ-loop
-cast-count c = search needs
+cast-n : tie.Need-cast-n Inv-loop μ-loop
+cast-n c = search needs
 
-add-count : tie.Need-add-count Inv-loop μ-loop
-add-count c =
-    omega (arith, c .before .before .before .before .before .before .loop .inv .passed .room, on-piece _ _ _ _ _ _ (c .before .before .before .before .before .next-piece .ensures) (c .before .before .before .e .given .1) .room)
+add-n : tie.Need-add-n Inv-loop μ-loop
+add-n c =
+    omega (arith, c .before .before .before .before .before .before .before .before .loop .inv .passed .room, on-piece _ _ _ _ _ _ (c .before .before .before .before .before .before .before .next-piece .ensures) (c .before .before .before .before .before .e .given .1) .room)
 
 loop-less : tie.Need-loop-less Inv-loop μ-loop
-loop-less c = piece-less _ _ _ _ _ (on-piece _ _ _ _ _ _ (c .before .before .before .before .before .next-piece .ensures) (c .before .before .before .e .given .1))
+loop-less c = piece-less _ _ _ _ _ (on-piece _ _ _ _ _ _ (c .before .before .before .before .before .before .before .next-piece .ensures) (c .before .before .before .before .before .e .given .1))
 
 loop-again : tie.Need-loop-again Inv-loop μ-loop
-loop-again c = keep-more _ _ _ _ _ _ (c .before .before .before .before .before .before .loop .inv) _ _ (on-piece _ _ _ _ _ _ (c .before .before .before .before .before .next-piece .ensures) (c .before .before .before .e .given .1)) _ (c .before .push .ensures)
+loop-again c = keep-more _ _ _ _ _ _ (c .before .before .before .before .before .before .before .before .loop .inv) _ _ (on-piece _ _ _ _ _ _ (c .before .before .before .before .before .before .before .next-piece .ensures) (c .before .before .before .before .before .e .given .1)) _ (c .before .push .ensures)
 
 enum-told : tie.Need-enum-told Inv-loop μ-loop
 enum-told c = search needs
@@ -70,13 +72,12 @@ keep-spec =
     μ-loop
     table-block-requires
     stretch-requires
-    no-runs-requires
     loop-holds
     next-piece-requires
     enum-known-e
     push-requires
-    cast-count
-    add-count
+    cast-n
+    add-n
     loop-less
     loop-again
     enum-told

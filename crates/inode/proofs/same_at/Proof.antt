@@ -1,60 +1,38 @@
-use Prim.Native.Nat.{_+_, _-_, _≤_}
-use mathlib.Core.Path.{_≡_, refl}
-use mathlib.Core.Bool.{_&&_}
+use mathlib.Core.Path.{refl}
+use Prim.Native.Nat.{_+_}
 use native.Mathlib.Omega.{arith}
-use lib.ListN.{length, drop}
-use Rattle.spec.specs.Bytes.{same}
-use Rattle.block.proofs.Steps.{compared-all}
-use Rattle.inode.specs.Records.{bytesIn}
-use Rattle.inode.proofs.Laws.{field-length, compared-in}
+use lib.ListN.{length}
+use Rattle.inode.proofs.Laws.{same-part}
 use borrow.Author.Needs.{needs}
 use Rattle.inode.proofs.same_at.Statement.{statement}
 use Rattle.inode.proofs.same_at.Tie as tie
 
-abbrev Inv-loop : tie.InvT-loop
-Inv-loop table at bytes equal₀ k₀ equal k =
-    (k ≤ length bytes) × (at + length bytes ≤ 512) × (same (bytesIn table at (length bytes)) bytes ≡ equal && same (drop k (bytesIn table at (length bytes))) (drop k bytes))
+add-end : tie.Need-add-end
+add-end c = search needs
 
-abbrev μ-loop : tie.MeasureT-loop
-μ-loop table at bytes equal₀ k₀ equal k = length bytes - k
+sub-same-bytes : tie.Need-sub-same-bytes
+sub-same-bytes c = search needs
 
-loop-holds : tie.Need-loop-holds Inv-loop μ-loop
-loop-holds c = (omega arith, c .before .before .pre, refl)
+part-same-bytes-start : tie.Need-part-same-bytes-start
+part-same-bytes-start c = search needs
 
-add-load : tie.Need-add-load Inv-loop μ-loop
-add-load c = search needs
+part-same-bytes-end : tie.Need-part-same-bytes-end
+part-same-bytes-end c = search needs
 
-load-requires : tie.Need-load-requires Inv-loop μ-loop
-load-requires c κs = search needs
+same-bytes-requires : tie.Need-same-bytes-requires
+same-bytes-requires c κs = search needs
 
-load-requires-2 : tie.Need-load-requires-2 Inv-loop μ-loop
-load-requires-2 c κs = search needs
+returns : tie.Need-returns
+returns c =
+    let a = c .before .before .before .before .before .args in
+    same-part (a .table .now) (a .bytes .now) (a .at) (a .at + length (a .bytes .now)) _ refl (omega arith) (omega arith) (c .same-bytes .ensures)
 
-add-k : tie.Need-add-k Inv-loop μ-loop
-add-k c = search needs
+same-loaded-requires : tie.Need-same-loaded-requires
+same-loaded-requires c κs = search needs
 
-loop-less : tie.Need-loop-less Inv-loop μ-loop
-loop-less c = search needs
-
-loop-again : tie.Need-loop-again Inv-loop μ-loop
-loop-again c = let a = c .before .before .before .before .before .before .args in let l = c .before .before .before .loop in
-    (omega arith, l .inv .1, compared-in (a .table .now) (a .bytes .now) (a .at) (l .k) _ _ (l .equal) (l .inv .1) (l .inv .2) (omega arith) (c .before .load .ensures .0) (c .load2 .ensures .0))
-
-returns : tie.Need-returns Inv-loop μ-loop
-returns c = let a = c .before .before .before .before .args in let l = c .before .loop in
-    compared-all (length (a .bytes .now)) (l .k) (bytesIn (a .table .now) (a .at) (length (a .bytes .now))) (a .bytes .now) (l .equal) (l .inv .2) (field-length (a .table .now) (a .at) (length (a .bytes .now)) (l .inv .1)) refl (omega arith)
+returns-2 : tie.Need-returns-2
+returns-2 c = c .same-loaded .ensures
 
 pub same-at-spec : {M : Type 1} → statement M
 same-at-spec =
-    tie.close
-    (tie.spec
-    Inv-loop
-    μ-loop
-    loop-holds
-    add-load
-    load-requires
-    load-requires-2
-    add-k
-    loop-less
-    loop-again
-    returns)
+    tie.close (tie.spec add-end sub-same-bytes part-same-bytes-start part-same-bytes-end same-bytes-requires returns same-loaded-requires returns-2)

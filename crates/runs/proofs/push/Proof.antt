@@ -4,13 +4,18 @@ use mathlib.Core.Logic.{⊎-elim}
 use native.Mathlib.Omega.{arith}
 use borrow.Author.Tests.{eqb-true, eqb-false}
 use borrow.Author.Needs.{needs}
-use lib.ListN.{length}
+use Rattle.runs.specs.declared.Runs.{Runs}
+use Rattle.runs.specs.Push.{columns}
 use Rattle.runs.proofs.Laws.{push-joined, push-joined-over, push-another, push-another-over, small-joined, small-over, small-another, small-another-over}
 use Rattle.runs.proofs.push.Statement.{statement}
 use Rattle.runs.proofs.push.Tie as tie
 
-add-q : tie.Need-add-q
-add-q c = search needs
+-- the extents before
+abbrev before : tie.Start → Runs
+before c = columns (c .args .first .now) (c .args .count .now) (c .args .end)
+
+add-t16 : tie.Need-add-t16
+add-t16 c = search needs
 
 sub-k : tie.Need-sub-k
 sub-k c = search needs
@@ -21,93 +26,93 @@ mul-n c = search needs
 element-copy-out-n : tie.Need-element-copy-out-n
 element-copy-out-n c = search needs
 
-add-q-2 : tie.Need-add-q-2
-add-q-2 c = search needs
+add-count : tie.Need-add-count
+add-count c = search needs
 
-mul-q : tie.Need-mul-q
-mul-q c = search needs
+mul-count : tie.Need-mul-count
+mul-count c = search needs
 
-element-write-q : tie.Need-element-write-q
-element-write-q c = search needs
+element-write-count : tie.Need-element-write-count
+element-write-count c = search needs
 
 returns : tie.Need-returns
 returns c =
-    let a = c .before .before .before .before .args in
-    let m : length (a .r .count) ≡ 512 = search needs in
+    let z = c .before .before .before .before in
+    let m = z .pre .4 in
     record {
-      holds = λ es h. push-joined (a .r) es (a .b) (a .c) h (c .before .before .before .if1 .taken) (eqb-true _ _ (c .before .before .if2 .taken)) (omega arith);
-      small = λ n s l k. small-joined (a .r) (a .b) (a .c) n s;
+      holds = λ es h. push-joined (before z) es (z .args .b) (z .args .c) h (c .before .before .before .if1 .taken) (eqb-true _ _ (c .before .before .if2 .taken)) (omega arith);
+      small = λ n s l k. small-joined (before z) (z .args .b) (z .args .c) n s;
     }
 
 returns-2 : tie.Need-returns-2
 returns-2 c =
-    let a = c .before .before .before .args in
-    let m : length (a .r .count) ≡ 512 = search needs in
+    let z = c .before .before .before in
+    let m = z .pre .4 in
     record {
-      holds = λ es h. push-joined-over (a .r) es (a .b) (a .c) h (c .before .before .if1 .taken) (eqb-true _ _ (c .before .if2 .taken)) (omega arith);
-      small = λ n s l k. small-over (a .r) (a .b) (a .c) n s;
+      holds = λ es h. push-joined-over (before z) es (z .args .b) (z .args .c) h (c .before .before .if1 .taken) (eqb-true _ _ (c .before .if2 .taken)) (omega arith);
+      small = λ n s l k. small-over (before z) (z .args .b) (z .args .c) n s;
     }
 
-add-q-3 : tie.Need-add-q-3
-add-q-3 c = search needs
+add-t24 : tie.Need-add-t24
+add-t24 c = search needs
 
-add-q-4 : tie.Need-add-q-4
-add-q-4 c = search needs
+add-t27 : tie.Need-add-t27
+add-t27 c = search needs
 
-mul-q-2 : tie.Need-mul-q-2
-mul-q-2 c = search needs
+mul-first : tie.Need-mul-first
+mul-first c = search needs
 
-element-write-q-2 : tie.Need-element-write-q-2
-element-write-q-2 c = search needs
+element-write-first : tie.Need-element-write-first
+element-write-first c = search needs
 
-mul-q-3 : tie.Need-mul-q-3
-mul-q-3 c = search needs
+mul-count-2 : tie.Need-mul-count-2
+mul-count-2 c = search needs
 
-element-write-q-3 : tie.Need-element-write-q-3
-element-write-q-3 c = search needs
+element-write-count-2 : tie.Need-element-write-count-2
+element-write-count-2 c = search needs
 
 -- the test failed
-apart : (c : tie.Joined1) → 0 < c .before .args .r .len → c .before .args .r .next ≡ c .before .args .b → ⊥
+apart : (c : tie.Joined1) → 0 < c .before .args .end .len → c .before .args .end .next ≡ c .before .args .b → ⊥
 apart c l e = ⊎-elim (λ w. eqb-false _ _ (w .1 .left) e) (λ w. omega arith) (c .if1 .came)
 
 returns-3 : tie.Need-returns-3
 returns-3 c =
-    let a = c .before .before .args in
-    let l : length (a .r .first) ≡ 512 = search needs in
-    let m : length (a .r .count) ≡ 512 = search needs in
+    let z = c .before .before in
+    let l = z .pre .3 in
+    let m = z .pre .4 in
     record {
-      holds = λ es h. push-another (a .r) es (a .b) (a .c) h (apart (c .before)) (omega arith) (omega arith);
-      small = λ n s l k. small-another (a .r) (a .b) (a .c) n s l k;
+      holds = λ es h. push-another (before z) es (z .args .b) (z .args .c) h (apart (c .before)) (omega arith) (omega arith);
+      small = λ n s l k. small-another (before z) (z .args .b) (z .args .c) n s l k;
     }
 
 returns-4 : tie.Need-returns-4
 returns-4 c =
-    let a = c .before .before .args in
-    let l : length (a .r .first) ≡ 512 = search needs in
-    let m : length (a .r .count) ≡ 512 = search needs in
+    let z = c .before .before in
+    let l = z .pre .3 in
+    let m = z .pre .4 in
     record {
-      holds = λ es h. push-another-over (a .r) es (a .b) (a .c) h (apart (c .before)) (omega arith) (omega arith);
-      small = λ n s l k. small-another-over (a .r) (a .b) (a .c) n s l k;
+      holds = λ es h. push-another-over (before z) es (z .args .b) (z .args .c) h (apart (c .before)) (omega arith) (omega arith);
+      small = λ n s l k. small-another-over (before z) (z .args .b) (z .args .c) n s l k;
     }
 
 pub push-spec : {M : Type 1} → statement M
 push-spec =
     tie.close
     (tie.spec
-    add-q
+    add-t16
     sub-k
     mul-n
     element-copy-out-n
-    add-q-2
-    mul-q
-    element-write-q
+    add-count
+    mul-count
+    element-write-count
     returns
     returns-2
-    add-q-3
-    add-q-4
-    mul-q-2
-    element-write-q-2
-    mul-q-3
-    element-write-q-3
+    add-t24
+    add-t27
+    mul-first
+    element-write-first
+    mul-count-2
+    element-write-count-2
     returns-3
     returns-4)

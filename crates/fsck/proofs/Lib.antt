@@ -1,4 +1,5 @@
 pub mod Runs
 pub mod Slots
 pub mod Walks
+pub mod Names
 pub mod Shape

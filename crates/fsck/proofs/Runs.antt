@@ -1,23 +1,20 @@
 -- Running results over extents and nodes, and what they say of the whole list. Assumes nothing.
-use Prim.Native.Nat.{ℕ, zero, suc, _+_, _*_, _-_, _/_, _%_, _<_, _≤_}
+use Prim.Native.Nat.{ℕ, zero, suc, _+_, _-_, _<_, _≤_}
 use mathlib.Core.Path.{_≡_, refl, sym, ap, _∙_}
-use mathlib.Core.Bool.{Bool, true, false, cond, not, _&&_, true≢false}
-use mathlib.Core.List.{List, [], _∷_, _++_, map, append-nil}
+use mathlib.Core.Bool.{Bool, true, false, not, _&&_, true≢false}
+use mathlib.Core.List.{List, [], _∷_, _++_, map}
 use native.Mathlib.Omega.{arith}
 use borrow.Author.Tests.{leb-true, ltb-true, ltb-false, lt-ltb, le-leb, lt-leb}
 use lib.Dec.{eqb, leb, ltb}
-use lib.ListN.{length, take, drop, getD}
+use lib.ListN.{length, take, getD}
 use Rattle.spec.specs.declared.Extent.{Extent}
 use Rattle.spec.specs.Bytes.{all, upFrom}
 use Rattle.spec.specs.Disk.{Disk, inData}
-use Rattle.spec.specs.Inode.{slotsIn, slotsAt, used, below, blocksIn, counts}
+use Rattle.spec.specs.Inode.{slotsAt, used, below, blocksIn, counts}
 use Rattle.spec.specs.Sound.{slotsPacked, extentInside, apart, levelPacked}
-use Rattle.inode.specs.declared.Cursor.{Cursor}
-use Rattle.inode.specs.Walk.{leaf, rest, weight, Onward, Inward, Ended}
-use Rattle.inode.proofs.Walk.{walk-leaf, walk-node, walk-end}
 use Rattle.fsck.specs.declared.Run.{Run}
 use Rattle.fsck.specs.declared.Nodes.{Nodes}
-use Rattle.fsck.specs.Runs.{tailAt, withExtent, overExtents, noRun, regionOf, withNode, overNodes, noNodes}
+use Rattle.fsck.specs.Runs.{tailAt, withExtent, overExtents, noRun, withNode, overNodes, noNodes}
 
 and-true : (a b : Bool) → a && b ≡ true → (a ≡ true) × (b ≡ true)
 and-true true b h = (refl, h)
@@ -30,20 +27,6 @@ and-assoc false b c = refl
 pub and-right : (a : Bool) → a && true ≡ a
 and-right true = refl
 and-right false = refl
-
--- ---- a region of slots
-
-leaf-none : (v : Disk) (b at : ℕ) → leaf v b at 0 ≡ []
-unfolding leaf slotsIn
-leaf-none v b at = refl
-
-pub region-rest : (v : Disk) (tb b at n : ℕ) (c : Cursor) → c ≡ regionOf b at n → rest v tb c ≡ leaf v b at n
-unfolding regionOf rest
-region-rest v tb b at n c e = rw (e, leaf-none v tb 0, append-nil)
-
-pub region-weight : (b at n : ℕ) (c : Cursor) → c ≡ regionOf b at n → weight c ≡ n
-unfolding regionOf
-region-weight b at n c e = rw e (omega arith)
 
 -- ---- over extents
 
@@ -153,10 +136,6 @@ module _ (N k : ℕ) where
 
 -- ---- over nodes
 
-pub leaf-node : (v : Disk) (b : ℕ) → leaf v b 0 128 ≡ used (slotsAt v b)
-unfolding leaf slotsAt
-leaf-node v b = refl
-
 -- every node but the last is full, and so is the one before
 abbrev fullNode : Disk → ℕ → Bool
 fullNode v b = eqb (length (used (slotsAt v b))) 128
@@ -199,3 +178,18 @@ module _ (N k : ℕ) (v : Disk) where
 
   pub all-filled : (ts : List Extent) → overNodes N k v noNodes ts .filled ≡ levelPacked v (firsts ts)
   all-filled ts = nodes-filled noNodes ts ∙ full-is v ts
+
+  pub nodes-append : (f : Nodes) (ss ts : List Extent) → overNodes N k v f (ss ++ ts) ≡ overNodes N k v (overNodes N k v f ss) ts
+  unfolding overNodes
+  nodes-append f [] ts = refl
+  nodes-append f (s ∷ ss) ts = nodes-append (withNode N k v f s) ss ts
+
+  pub nodes-tops : (f : Nodes) (ts : List Extent) → overNodes N k v f ts .tops ≡ f .tops + length ts
+  unfolding overNodes withNode
+  nodes-tops f [] = omega arith
+  nodes-tops f (t ∷ ts) = nodes-tops (withNode N k v f t) ts ∙ omega arith
+
+  pub nodes-counts : (f : Nodes) (ts : List Extent) → overNodes N k v f ts .counts ≡ f .counts + counts ts
+  unfolding overNodes withNode
+  nodes-counts f [] = omega arith
+  nodes-counts f (t ∷ ts) = nodes-counts (withNode N k v f t) ts ∙ omega arith

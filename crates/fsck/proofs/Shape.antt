@@ -1,28 +1,22 @@
 -- The tests of one record, by the running results. Assumes nothing.
-use Prim.Native.Nat.{ℕ, zero, suc, _+_, _*_, _-_, _/_, _%_, _<_, _≤_, min}
+use Prim.Native.Nat.{ℕ, zero, _+_, _-_, _/_, _%_, _<_, _≤_, min}
 use mathlib.Core.Path.{_≡_, refl, sym, ap, _∙_}
-use mathlib.Core.Bool.{Bool, true, false, cond, not, _&&_, Bool·beq, true≢false}
-use mathlib.Core.List.{List, [], _∷_, _++_, map, append-nil}
+use mathlib.Core.Bool.{Bool, true, false, not, _&&_, Bool·beq, true≢false}
+use mathlib.Core.List.{List, [], _∷_, map, append-nil}
 use mathlib.Core.Option.{Option, none, some}
 use native.Mathlib.Omega.{arith}
-use borrow.Author.Tests.{eqb-true, eqb-false, eq-eqb, ne-eqb, leb-true, le-leb, lt-leb, le-ltb}
+use borrow.Author.Tests.{eqb-false, eq-eqb, ne-eqb, leb-true, le-leb, lt-leb, le-ltb}
 use lib.Dec.{eqb, leb, ltb}
-use lib.ListN.{length, take, drop, getD, length-drop, length-map}
+use lib.ListN.{length, take, drop, getD, length-drop, length-map, take-append-drop}
 use lib.Seq.{take-all, take-take, drop-drop, getD-take}
-use Rattle.spec.specs.declared.Extent.{Extent}
-use Rattle.spec.specs.declared.Session.{Session}
-use Rattle.spec.specs.Session.{neverOpened, stagedIn}
-use Rattle.spec.specs.Transaction.{view, stateOf}
-use Rattle.spec.specs.Bytes.{exactly, part, all, allZero, concat, found, lowest, isSome}
-use Rattle.spec.specs.Disk.{Disk, blocksOf, inData}
+use Rattle.spec.specs.Bytes.{exactly, part, all, allZero, concat, isSome}
+use Rattle.spec.specs.Disk.{Disk, inData}
 use Rattle.spec.specs.Inode.{
   Inode,
   inodeOf,
   inodeBytes,
   inodeAt,
-  nameAt,
   isEmpty,
-  find,
   blockOfInode,
   placeOfInode,
   slotsIn,
@@ -36,43 +30,30 @@ use Rattle.spec.specs.Inode.{
   levelsOf,
   nodesOf,
   dataOf,
+  reachedFrom,
   blocksFor,
   nodesFor,
   levelsFor,
 }
 use Rattle.spec.specs.Sound.{firstOfName, limitsHold, slotsPacked, extentInside, countsAgree, apart, levelPacked, tailZero, fileSound, inodeSound, inodeFault, blockFault, volumeSound}
+use Rattle.lists.specs.Places.{all-append}
 use Rattle.block.proofs.Laws.{length-exactly}
 use Rattle.inode.specs.declared.Found.{Found}
 use Rattle.inode.specs.declared.Found.the-variants.{At, Nothing}
 use Rattle.inode.specs.Records.{bytesIn, recordIn, foundOf, lowestTo}
-use Rattle.inode.specs.Walk.{leaf}
-use Rattle.inode.proofs.Laws.{drop-take, field-slots, record-at, inode-at}
+use Rattle.inode.proofs.Laws.{drop-take, field-slots, record-at, inode-at, found-at, found-nothing}
+use Rattle.marks.specs.Marks.{Kept}
+use Rattle.marks.proofs.Laws.{kept-start, kept-end}
+use Rattle.fsck.specs.declared.Damage.{Damage}
+use Rattle.fsck.specs.declared.Damage.the-variants.{Inode as InodeAt, Block as BlockAt, Nothing as Whole}
+use Rattle.fsck.specs.Damage.{damageOf}
+use Rattle.fsck.specs.Reached.{blocksFrom, treeFrom, fileBlocks, Marked}
 use Rattle.fsck.specs.declared.Run.{Run}
 use Rattle.fsck.specs.declared.Nodes.{Nodes}
 use Rattle.fsck.specs.Runs.{overExtents, noRun, overNodes, noNodes, lastClear, treeSound}
-use Rattle.fsck.proofs.Runs.{and-right, over-inside, over-extents, over-blocks, run-apart, run-tail, nodes-run, nodes-sound, nodes-agree, all-filled}
-use Rattle.fsck.proofs.Slots.{packed-by}
+use Rattle.fsck.proofs.Runs.{and-right, over-inside, over-extents, over-blocks, run-apart, run-tail, nodes-run, nodes-sound, nodes-agree, nodes-tops, nodes-counts, all-filled}
 
--- ---- names and limits
-
-name-found : (o : Option ℕ) (i j : ℕ) → At j ≡ foundOf o → eqb j i ≡ found o false (λ k. eqb k i)
-name-found none i j e = cc
-name-found (some k) i j e = let q : j ≡ k = cc in rw q
-
-name-lost : (o : Option ℕ) (i : ℕ) → Nothing ≡ foundOf o → false ≡ found o false (λ k. eqb k i)
-name-lost none i e = refl
-name-lost (some k) i e = cc
-
--- the record that has the name of record i, as the code reads and finds it
-module _ (v : Disk) (t name : List ℕ) (i : ℕ) (r : Found) (e : exactly 512 t ≡ v (blockOfInode i)) (q : name ≡ take 8 (recordIn t i)) (h : r ≡ foundOf (find v name)) where
-  is-found : r ≡ foundOf (find v (nameAt v i))
-  is-found = h ∙ ap (λ (x : List ℕ). foundOf (find v x)) (q ∙ ap (take 8) (record-at v t i e))
-
-  pub first-at : (j : ℕ) → r ≡ At j → eqb j i ≡ firstOfName v i
-  first-at j p = name-found (find v (nameAt v i)) i j (sym p ∙ is-found)
-
-  pub first-none : r ≡ Nothing → false ≡ firstOfName v i
-  first-none p = name-lost (find v (nameAt v i)) i (sym p ∙ is-found)
+-- ---- limits
 
 part-part : (xs : List ℕ) (a n o m : ℕ) → o + m ≤ n → part o m (part a n xs) ≡ part (a + o) m xs
 part-part xs a n o m h =
@@ -126,24 +107,11 @@ pub nodes-many : (n : ℕ) → 4 < n → (n - 1) / 128 + 1 ≡ nodesFor n
 unfolding levelsFor
 nodes-many n h = rw (lt-leb n 4 h) (omega arith)
 
--- ---- the slots of record i
+-- ---- the slots of record i, in its block of the table
 
-module _ (v : Disk) (i : ℕ) where
-  slots-at : inodeAt v i .slots ≡ slotsIn 4 (drop (placeOfInode i + 16) (v (blockOfInode i)))
-  unfolding inodeOf inodeBytes
-  slots-at = field-slots (v (blockOfInode i)) (placeOfInode i) 32 16 4 (omega arith)
-
-  leaf-at : (tb : ℕ) → tb ≡ blockOfInode i → leaf v tb (placeOfInode i + 16) 4 ≡ used (inodeAt v i .slots)
-  unfolding leaf
-  leaf-at tb e = rw (e, slots-at)
-
-  slots-packed : (t : List ℕ) (u : ℕ) (p : Bool) → exactly 512 t ≡ v (blockOfInode i) → u ≡ length (used (inodeAt v i .slots))
-      → p ≡ allZero (bytesIn t (placeOfInode i + 16 + 4 * u) (16 - 4 * u)) → p ≡ slotsPacked (inodeAt v i .slots)
-  unfolding bytesIn
-  slots-packed t u p e h q =
-      let l : length (v (blockOfInode i)) ≡ 512 = sym (ap length e) ∙ length-exactly 512 t in
-      let w : u ≡ length (used (slotsIn 4 (drop (placeOfInode i + 16) (v (blockOfInode i))))) = h ∙ ap (λ (s : List Extent). length (used s)) slots-at in
-      q ∙ rw (e, slots-at) (sym (packed-by (v (blockOfInode i)) (placeOfInode i + 16) 4 u (16 - 4 * u) (omega arith) w (omega arith)))
+slots-at : (v : Disk) (i : ℕ) (X : List ℕ) → X ≡ v (blockOfInode i) → slotsIn 4 (drop (placeOfInode i + 16) X) ≡ inodeAt v i .slots
+unfolding inodeOf inodeBytes
+slots-at v i X e = rw e (sym (field-slots (v (blockOfInode i)) (placeOfInode i) 32 16 4 (omega arith)))
 
 -- ---- S4 to S6 and S8
 
@@ -159,9 +127,14 @@ beq-true : (x : Bool) → Bool·beq true x ≡ x
 beq-true true = refl
 beq-true false = refl
 
--- what the code reads and computes of record i
-module _ (N : ℕ) (v : Disk) (i size tb : ℕ) (lent : List ℕ) (lend : exactly 512 lent ≡ v (blockOfInode i))
-    (eb : tb ≡ blockOfInode i) (most : size ≤ 1048576) (es : size ≡ inodeAt v i .size) where
+-- what the code finds in the slots of record i
+module _ (N : ℕ) (v : Disk) (i size : ℕ) (X : List ℕ) (lend : X ≡ v (blockOfInode i)) (most : size ≤ 1048576) (es : size ≡ inodeAt v i .size) where
+  used-at : used (slotsIn 4 (drop (placeOfInode i + 16) X)) ≡ used (inodeAt v i .slots)
+  used-at = ap used (slots-at v i X lend)
+
+  packed-at : (p : Bool) → p ≡ slotsPacked (slotsIn 4 (drop (placeOfInode i + 16) X)) → p ≡ slotsPacked (inodeAt v i .slots)
+  packed-at p e = e ∙ ap slotsPacked (slots-at v i X lend)
+
   module _ (depth : inodeAt v i .depth ≡ 0) where
     flat : treeDepth (inodeAt v i) ≡ 0
     flat = ap (λ (d : ℕ). min d 1) depth
@@ -174,19 +147,20 @@ module _ (N : ℕ) (v : Disk) (i size tb : ℕ) (lent : List ℕ) (lend : exactl
     unfolding levelsOf
     flat-levels = rw flat
 
-    pub flat-by : (z r : Run) (w : ℕ) (p c : Bool) → z ≡ noRun → r ≡ overExtents N (size / 512) z (leaf v tb (placeOfInode i + 16) 4) → r .extents ≤ z .extents + 4
-        → p ≡ allZero (bytesIn lent (placeOfInode i + 16 + 4 * r .extents) (16 - 4 * r .extents)) → c ≡ lastClear v size (r .tail) → w ≡ blocksFor size
+    flat-blocks : blocksFrom 0 (used (inodeAt v i .slots)) ≡ fileBlocks v i
+    unfolding fileBlocks dataOf blocksFrom
+    flat-blocks = rw (flat-extents, flat-levels, append-nil)
+
+    flat-by : (r : Run) (w : ℕ) (p c : Bool) → r ≡ overExtents N (size / 512) noRun (used (inodeAt v i .slots)) → r .extents ≤ 4
+        → p ≡ slotsPacked (inodeAt v i .slots) → c ≡ lastClear v size (r .tail) → w ≡ blocksFor size
         → p && r .inside && eqb (r .blocks) w && r .apart && c ≡ treeSound N v (inodeAt v i)
     unfolding treeSound
-    flat-by z r w p c ez er few ep ec ew =
+    flat-by r w p c h few pP ec ew =
         let n = inodeAt v i in
         let k = size / 512 in
         let T = used (n .slots) in
-        let h : r ≡ overExtents N k noRun T = er ∙ rw (ez, leaf-at v i tb eb) in
-        let y : z .extents ≡ 0 = ap (λ (q : Run). q .extents) ez in
         let x : r .extents ≡ length T = ap (λ (q : Run). q .extents) h ∙ over-extents N k noRun T ∙ omega arith in
         let len : length (extentsOf v n) ≤ 4 = rw flat-extents (omega arith) in
-        let pP : p ≡ slotsPacked (n .slots) = slots-packed v i lent (r .extents) p lend x ep in
         let pI : r .inside ≡ all (extentInside N) (extentsOf v n) = ap (λ (q : Run). q .inside) h ∙ over-inside N k noRun T ∙ ap (all (extentInside N)) (sym flat-extents) in
         let pB : r .blocks ≡ counts T = ap (λ (q : Run). q .blocks) h ∙ over-blocks N k noRun T ∙ omega arith in
         let pW : w ≡ blocksFor (n .size) = ew ∙ ap blocksFor es in
@@ -199,6 +173,18 @@ module _ (N : ℕ) (v : Disk) (i size tb : ℕ) (lent : List ℕ) (lend : exactl
         (countsAgree v (treeDepth n) T) (eqb (counts T) (blocksFor (n .size))) (apart (extentsOf v n))
         (Bool·beq (eqb (n .depth) 1) (ltb 4 (length (extentsOf v n)))) (eqb (length (nodesOf v n)) (nodesFor (length (extentsOf v n)))) (all (levelPacked v) (levelsOf v n)) (tailZero v n)
         (rw flat-levels) (rw flat) (deep-or (n .depth) 0 (ltb 4 (length (extentsOf v n))) false depth (le-ltb 4 (length (extentsOf v n)) len)) (rw (flat-levels, ← nodes-few (length (extentsOf v n)) len)) (rw flat-levels))
+
+    pub flat-marked : (z r : Run) (w : ℕ) (p c : Bool) (o t o₀ t₀ : List ℕ) → z ≡ noRun → r ≡ overExtents N (size / 512) z (used (slotsIn 4 (drop (placeOfInode i + 16) X)))
+        → p ≡ slotsPacked (slotsIn 4 (drop (placeOfInode i + 16) X)) → r .extents ≤ z .extents + 4
+        → Kept N o t [] o₀ t₀ (blocksFrom (z .blocks) (used (slotsIn 4 (drop (placeOfInode i + 16) X)))) → c ≡ lastClear v size (r .tail) → w ≡ blocksFor size
+        → Marked N (p && r .inside && eqb (r .blocks) w && r .apart && c) (treeSound N v (inodeAt v i)) o t o₀ t₀ (fileBlocks v i)
+    flat-marked z r w p c o t o₀ t₀ ez er ep few m ec ew =
+        let y : z .extents ≡ 0 = ap (λ (q : Run). q .extents) ez in
+        let h : r ≡ overExtents N (size / 512) noRun (used (inodeAt v i .slots)) = er ∙ rw (ez, used-at) in
+        record {
+          answer = flat-by r w p c h (omega arith) (packed-at p ep) ec ew;
+          marks = λ _. kept-end N o t [] o₀ t₀ _ m _ refl (rw (ez, used-at) flat-blocks);
+        }
 
   module _ (depth : inodeAt v i .depth ≡ 1) where
     deep : treeDepth (inodeAt v i) ≡ 1
@@ -215,42 +201,56 @@ module _ (N : ℕ) (v : Disk) (i size tb : ℕ) (lent : List ℕ) (lend : exactl
     deep-nodes : nodesOf v (inodeAt v i) ≡ map (λ e. e .first) (used (inodeAt v i .slots))
     deep-nodes = ap concat deep-levels ∙ append-nil _
 
-    pub deep-by : (z tops : Run) (f : Nodes) (w m : ℕ) (p c : Bool) → z ≡ noRun → tops ≡ overExtents N 0 z (leaf v tb (placeOfInode i + 16) 4)
-        → f ≡ overNodes N (size / 512) v noNodes (leaf v tb (placeOfInode i + 16) 4)
-        → p ≡ allZero (bytesIn lent (placeOfInode i + 16 + 4 * tops .extents) (16 - 4 * tops .extents)) → c ≡ lastClear v size (f .run .tail)
-        → w ≡ blocksFor size → m ≡ nodesFor (f .run .extents)
-        → p && f .sound && f .run .inside && f .agree && eqb (tops .blocks) w && f .run .apart && ltb 4 (f .run .extents) && eqb (tops .extents) m && f .filled && c
+    deep-blocks : treeFrom v 0 (used (inodeAt v i .slots)) ≡ fileBlocks v i
+    unfolding fileBlocks dataOf treeFrom blocksFrom
+    deep-blocks = rw (deep-extents, deep-nodes)
+
+    deep-by : (f : Nodes) (w m : ℕ) (p c : Bool) → f ≡ overNodes N (size / 512) v noNodes (used (inodeAt v i .slots)) → p ≡ slotsPacked (inodeAt v i .slots)
+        → c ≡ lastClear v size (f .run .tail) → w ≡ blocksFor size → m ≡ nodesFor (f .run .extents)
+        → p && f .sound && f .run .inside && f .agree && eqb (f .counts) w && f .run .apart && ltb 4 (f .run .extents) && eqb (f .tops) m && f .filled && c
         ≡ treeSound N v (inodeAt v i)
     unfolding treeSound
-    deep-by z tops f w m p c ez et ef ep ec ew em =
+    deep-by f w m p c g pP ec ew em =
         let n = inodeAt v i in
         let k = size / 512 in
         let T = used (n .slots) in
-        let h : tops ≡ overExtents N 0 noRun T = et ∙ rw (ez, leaf-at v i tb eb) in
-        let g : f ≡ overNodes N k v noNodes T = ef ∙ ap (overNodes N k v noNodes) (leaf-at v i tb eb) in
         let r : f .run ≡ overExtents N k noRun (extentsOf v n) =
         ap (λ (q : Nodes). q .run) g ∙ nodes-run N k v noNodes T ∙ ap (overExtents N k noRun) (sym deep-extents) in
-        let x : tops .extents ≡ length T = ap (λ (q : Run). q .extents) h ∙ over-extents N 0 noRun T ∙ omega arith in
-        let pP : p ≡ slotsPacked (n .slots) = slots-packed v i lent (tops .extents) p lend x ep in
         let pA : f .sound ≡ all (λ b. inData N b && slotsPacked (slotsAt v b)) (nodesOf v n) =
         ap (λ (q : Nodes). q .sound) g ∙ nodes-sound N k v noNodes T ∙ ap (all (λ b. inData N b && slotsPacked (slotsAt v b))) (sym deep-nodes) in
         let pI : f .run .inside ≡ all (extentInside N) (extentsOf v n) = ap (λ (q : Run). q .inside) r ∙ over-inside N k noRun (extentsOf v n) in
         let pC : f .agree ≡ countsAgree v (treeDepth n) T = ap (λ (q : Nodes). q .agree) g ∙ nodes-agree N k v noNodes T ∙ rw deep (sym (and-right _)) in
-        let pB : tops .blocks ≡ counts T = ap (λ (q : Run). q .blocks) h ∙ over-blocks N 0 noRun T ∙ omega arith in
+        let pB : f .counts ≡ counts T = ap (λ (q : Nodes). q .counts) g ∙ nodes-counts N k v noNodes T ∙ omega arith in
         let pW : w ≡ blocksFor (n .size) = ew ∙ ap blocksFor es in
         let pS : f .run .apart ≡ apart (extentsOf v n) = ap (λ (q : Run). q .apart) r ∙ run-apart N k (extentsOf v n) in
         let y : f .run .extents ≡ length (extentsOf v n) = ap (λ (q : Run). q .extents) r ∙ over-extents N k noRun (extentsOf v n) ∙ omega arith in
         let pD : ltb 4 (f .run .extents) ≡ Bool·beq (eqb (n .depth) 1) (ltb 4 (length (extentsOf v n))) =
         sym (deep-or (n .depth) 1 (ltb 4 (length (extentsOf v n))) (ltb 4 (f .run .extents)) depth (ap (ltb 4) (sym y)) ∙ beq-true (ltb 4 (f .run .extents))) in
         let pM : m ≡ nodesFor (length (extentsOf v n)) = em ∙ ap nodesFor y in
-        let pN : tops .extents ≡ length (nodesOf v n) = x ∙ sym (ap length deep-nodes ∙ length-map T (λ e. e .first)) in
+        let x : f .tops ≡ length T = ap (λ (q : Nodes). q .tops) g ∙ nodes-tops N k v noNodes T ∙ omega arith in
+        let pN : f .tops ≡ length (nodesOf v n) = x ∙ sym (ap length deep-nodes ∙ length-map T (λ e. e .first)) in
         let pL : f .filled ≡ all (levelPacked v) (levelsOf v n) = ap (λ (q : Nodes). q .filled) g ∙ all-filled N k v T ∙ sym (ap (all (levelPacked v)) deep-levels ∙ and-right _) in
         let pT : c ≡ tailZero v n =
         ec ∙ ap (λ (z : ℕ). lastClear v z (f .run .tail)) es
         ∙ tail-is v n (f .run .tail) (rw (← es) most) (ap (λ (q : Run). q .tail) r ∙ run-tail N k (extentsOf v n) ∙ ap (λ (z : ℕ). getD (blocksIn (extentsOf v n)) (z / 512) 0) es) in
         rw (pP, pA, pI, pC, pB, pW, pS, pD, pN, pM, pL, pT)
 
+    pub deep-marked : (f : Nodes) (w m : ℕ) (p c : Bool) (o t o₀ t₀ : List ℕ) → f ≡ overNodes N (size / 512) v noNodes (used (slotsIn 4 (drop (placeOfInode i + 16) X)))
+        → p ≡ slotsPacked (slotsIn 4 (drop (placeOfInode i + 16) X)) → Kept N o t [] o₀ t₀ (treeFrom v 0 (used (slotsIn 4 (drop (placeOfInode i + 16) X))))
+        → c ≡ lastClear v size (f .run .tail) → w ≡ blocksFor size → m ≡ nodesFor (f .run .extents)
+        → Marked N (p && f .sound && f .run .inside && f .agree && eqb (f .counts) w && f .run .apart && ltb 4 (f .run .extents) && eqb (f .tops) m && f .filled && c)
+        (treeSound N v (inodeAt v i)) o t o₀ t₀ (fileBlocks v i)
+    deep-marked f w m p c o t o₀ t₀ ef ep k ec ew em =
+        record {
+          answer = deep-by f w m p c (ef ∙ ap (overNodes N (size / 512) v noNodes) used-at) (packed-at p ep) ec ew em;
+          marks = λ _. kept-end N o t [] o₀ t₀ _ k _ refl (rw used-at deep-blocks);
+        }
+
 -- ---- S2 to S6 and S8
+
+-- a test that does not pass has marked what it likes
+not-marked : (N : ℕ) (d : Bool) (o t o₀ t₀ bs : List ℕ) → false ≡ d → Marked N false d o t o₀ t₀ bs
+not-marked N d o t o₀ t₀ bs e = record { answer = e; marks = λ h. absurd (true≢false (sym h)) }
 
 file-tests : (L P A I C Q S D M F T : Bool) → L && (P && A && I && C && Q && S && D && M && F && T) ≡ L && P && A && I && C && Q && S && D && M && F && T
 file-tests true P A I C Q S D M F T = refl
@@ -282,34 +282,55 @@ module _ (N : ℕ) (v : Disk) (t : List ℕ) (i : ℕ) (e : exactly 512 t ≡ v 
   pub depth-deep : (x : ℕ) → x ≡ inodeOf (recordIn t i) .depth → l ≡ true → (x ≡ 0 → ⊥) → inodeAt v i .depth ≡ 1
   depth-deep x q h z = let d = depth-at x q in omega (arith, limits-in h .1, z)
 
-  pub file-off : l ≡ false → false ≡ fileSound N v (inodeBytes v i)
-  file-off h = sym (sym (file-is N v (inodeBytes v i)) ∙ rw (limits-at, h))
+  pub file-off : (o t bs : List ℕ) → l ≡ false → Marked N false (fileSound N v (inodeBytes v i)) o t o t bs
+  file-off o t bs h = not-marked N (fileSound N v (inodeBytes v i)) o t o t bs (sym (sym (file-is N v (inodeBytes v i)) ∙ rw (limits-at, h)))
 
-  pub file-on : (r : Bool) → l ≡ true → r ≡ treeSound N v (inodeAt v i) → r ≡ fileSound N v (inodeBytes v i)
-  file-on r h q = q ∙ sym (sym (file-is N v (inodeBytes v i)) ∙ rw (limits-at, h))
+  pub file-on : (r : Bool) (o t o₀ t₀ bs : List ℕ) → l ≡ true → Marked N r (treeSound N v (inodeAt v i)) o t o₀ t₀ bs → Marked N r (fileSound N v (inodeBytes v i)) o t o₀ t₀ bs
+  file-on r o t o₀ t₀ bs h m = record { answer = m .answer ∙ sym (sym (file-is N v (inodeBytes v i)) ∙ rw (limits-at, h)); marks = m .marks }
 
+-- record i, which is empty or not
 module _ (N : ℕ) (v : Disk) (i : ℕ) (r : Bool) (e : r ≡ isEmpty v i) where
-  pub inode-empty : (s : Bool) → r ≡ true → s ≡ allZero (inodeBytes v i) → s ≡ inodeSound N v i
-  unfolding inodeSound
-  inode-empty s h q = let z : isEmpty v i ≡ true = sym e ∙ h in rw z q
+  -- an empty record reaches no block
+  pub inode-empty : (s : Bool) (o t : List ℕ) → r ≡ true → s ≡ allZero (inodeBytes v i) → Marked N s (inodeSound N v i) o t o t (reachedFrom v i)
+  unfolding inodeSound reachedFrom
+  inode-empty s o t h q =
+      let z : isEmpty v i ≡ true = sym e ∙ h in
+      record { answer = rw z q; marks = λ _. kept-start N o t [] (reachedFrom v i) (rw z) }
 
-  module _ (f : Bool) (h : r ≡ false) (ef : f ≡ firstOfName v i) where
-    inode-file : inodeSound N v i ≡ f && fileSound N v (inodeBytes v i)
+  module _ (h : r ≡ false) where
+    inode-file : (f : Bool) → firstOfName v i ≡ f → inodeSound N v i ≡ f && fileSound N v (inodeBytes v i)
     unfolding inodeSound
-    inode-file = let z : isEmpty v i ≡ false = sym e ∙ h in rw (z, ef)
+    inode-file f ef = let z : isEmpty v i ≡ false = sym e ∙ h in rw (z, ef)
 
-    pub inode-off : f ≡ false → false ≡ inodeSound N v i
-    inode-off q = sym (inode-file ∙ rw q)
+    file-reaches : fileBlocks v i ≡ reachedFrom v i
+    unfolding reachedFrom fileBlocks
+    file-reaches = let z : isEmpty v i ≡ false = sym e ∙ h in rw z
 
-    pub inode-on : (s : Bool) → f ≡ true → s ≡ fileSound N v (inodeBytes v i) → s ≡ inodeSound N v i
-    inode-on s q p = p ∙ sym (inode-file ∙ rw q)
+    pub inode-off : (o t bs : List ℕ) → firstOfName v i ≡ false → Marked N false (inodeSound N v i) o t o t bs
+    inode-off o t bs q = not-marked N (inodeSound N v i) o t o t bs (sym (inode-file false q))
+
+    pub inode-on : (s : Bool) (o t o₀ t₀ : List ℕ) → firstOfName v i ≡ true → Marked N s (fileSound N v (inodeBytes v i)) o t o₀ t₀ (fileBlocks v i)
+        → Marked N s (inodeSound N v i) o t o₀ t₀ (reachedFrom v i)
+    inode-on s o t o₀ t₀ q m = record {
+      answer = m .answer ∙ sym (inode-file true q);
+      marks = λ p. kept-end N o t [] o₀ t₀ _ (m .marks p) _ refl file-reaches;
+    }
+
+-- an empty record, its name read: the other 24 bytes are zero too
+pub rest-zero : (v : Disk) (t : List ℕ) (i : ℕ) (s : Bool) → exactly 512 t ≡ v (blockOfInode i) → isEmpty v i ≡ true
+    → s ≡ allZero (bytesIn t (placeOfInode i + 8) (placeOfInode i + 32 - (placeOfInode i + 8))) → s ≡ allZero (inodeBytes v i)
+unfolding bytesIn
+rest-zero v t i s e z q =
+    let w : placeOfInode i + 32 - (placeOfInode i + 8) ≡ 24 = omega arith in
+    let R = recordIn t i in
+    let d : drop 8 R ≡ part (placeOfInode i + 8) 24 (exactly 512 t) = drop-take 32 8 (drop (placeOfInode i) (exactly 512 t)) ∙ ap (take 24) (drop-drop 8 (placeOfInode i) (exactly 512 t)) in
+    let n : allZero (take 8 R) ≡ true = ap (λ (x : List ℕ). allZero (take 8 x)) (record-at v t i e) ∙ z in
+    let a : s ≡ allZero (drop 8 R) = q ∙ ap (λ (m : ℕ). allZero (part (placeOfInode i + 8) m (exactly 512 t))) w ∙ sym (ap allZero d) in
+    let b : allZero R ≡ allZero (drop 8 R) =
+    ap allZero (sym (take-append-drop 8 R)) ∙ all-append (λ x. eqb x 0) (take 8 R) (drop 8 R) ∙ ap (λ (y : Bool). y && allZero (drop 8 R)) n in
+    a ∙ sym b ∙ ap allZero (record-at v t i e)
 
 -- ---- the whole
-
--- nothing is staged in a session never opened
-pub view-is : (s : Session) (device work : List ℕ) → s ≡ neverOpened → view (stateOf s device work) ≡ blocksOf device
-unfolding view stagedIn
-view-is s device work e = rw e
 
 -- record i is not sound
 unfoldable pub unsound : ℕ → Disk → ℕ → Bool
@@ -323,34 +344,48 @@ pub unsound-by : (N : ℕ) (v : Disk) (i : ℕ) (r t : Bool) → r ≡ inodeSoun
 unfolding unsound
 unsound-by N v i r t e h = ap not (sym e) ∙ h
 
+-- a record was found, so not nothing
+pub found-some : {P : Type 0} (i : ℕ) → At i ≡ foundOf none → P
+found-some i h = let z : _≡_ {A = ℕ} 0 1 = cc in absurd (omega arith)
+
+-- what is damaged, by the two searches
 module _ (N : ℕ) (v : Disk) (r : Found) (e : r ≡ foundOf (inodeFault N v)) where
-  pub sound-off : (i : ℕ) → r ≡ At i → false ≡ volumeSound N v
-  unfolding volumeSound
-  sound-off i h = go (inodeFault N v) (sym h ∙ e)
-    where
-      go : (o : Option ℕ) → At i ≡ foundOf o → false ≡ not (isSome o) && not (isSome (blockFault N v))
-      go none q = cc
-      go (some k) q = refl
+  pub inode-damaged : (i : ℕ) → r ≡ At i → InodeAt i ≡ damageOf (inodeFault N v) (blockFault N v)
+  inode-damaged i h = rw (found-at (inodeFault N v) i (sym e ∙ h))
 
   module _ (s : Found) (h : r ≡ Nothing) (f : s ≡ foundOf (blockFault N v)) where
-    blocks-left : volumeSound N v ≡ not (isSome (blockFault N v))
-    unfolding volumeSound
-    blocks-left = go (inodeFault N v) (sym h ∙ e)
-      where
-        go : (o : Option ℕ) → Nothing ≡ foundOf o → not (isSome o) && not (isSome (blockFault N v)) ≡ not (isSome (blockFault N v))
-        go none q = refl
-        go (some k) q = cc
+    pub block-damaged : (b : ℕ) → s ≡ At b → BlockAt b ≡ damageOf (inodeFault N v) (blockFault N v)
+    block-damaged b q = rw (found-nothing (inodeFault N v) (sym e ∙ h), found-at (blockFault N v) b (sym f ∙ q))
 
-    pub sound-not : (b : ℕ) → s ≡ At b → false ≡ volumeSound N v
-    sound-not b q = sym (blocks-left ∙ go (blockFault N v) (sym q ∙ f))
-      where
-        go : (o : Option ℕ) → At b ≡ foundOf o → not (isSome o) ≡ false
-        go none p = cc
-        go (some k) p = refl
+    pub nothing-damaged : s ≡ Nothing → Whole ≡ damageOf (inodeFault N v) (blockFault N v)
+    nothing-damaged q = rw (found-nothing (inodeFault N v) (sym e ∙ h), found-nothing (blockFault N v) (sym f ∙ q))
 
-    pub sound-on : s ≡ Nothing → true ≡ volumeSound N v
-    sound-on q = sym (blocks-left ∙ go (blockFault N v) (sym q ∙ f))
-      where
-        go : (o : Option ℕ) → Nothing ≡ foundOf o → not (isSome o) ≡ true
-        go none p = refl
-        go (some k) p = cc
+-- sound, if nothing is damaged
+module _ (N : ℕ) (v : Disk) (r : Damage) (e : r ≡ damageOf (inodeFault N v) (blockFault N v)) where
+  pub sound-by : (a : Bool) → ((o p : Option ℕ) → r ≡ damageOf o p → a ≡ not (isSome o) && not (isSome p)) → a ≡ volumeSound N v
+  unfolding volumeSound
+  sound-by a h = h (inodeFault N v) (blockFault N v) e
+
+  pub inode-unsound : (i : ℕ) → r ≡ InodeAt i → false ≡ volumeSound N v
+  inode-unsound i h = sound-by false (go h)
+    where
+      go : r ≡ InodeAt i → (o p : Option ℕ) → r ≡ damageOf o p → false ≡ not (isSome o) && not (isSome p)
+      go q (some j) p w = refl
+      go q none (some b) w = refl
+      go q none none w = cc
+
+  pub block-unsound : (b : ℕ) → r ≡ BlockAt b → false ≡ volumeSound N v
+  block-unsound b h = sound-by false (go h)
+    where
+      go : r ≡ BlockAt b → (o p : Option ℕ) → r ≡ damageOf o p → false ≡ not (isSome o) && not (isSome p)
+      go q (some j) p w = refl
+      go q none (some c) w = refl
+      go q none none w = cc
+
+  pub all-sound : r ≡ Whole → true ≡ volumeSound N v
+  all-sound h = sound-by true (go h)
+    where
+      go : r ≡ Whole → (o p : Option ℕ) → r ≡ damageOf o p → true ≡ not (isSome o) && not (isSome p)
+      go q (some j) p w = cc
+      go q none (some c) w = cc
+      go q none none w = refl

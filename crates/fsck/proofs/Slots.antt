@@ -1,21 +1,22 @@
--- Slots behind the used ones, and bytes that are zero. Assumes nothing.
-use Prim.Native.Nat.{ℕ, zero, suc, _+_, _*_, _-_, _/_, _%_, _<_, _≤_}
-use mathlib.Core.Path.{_≡_, refl, sym, ap, _∙_}
-use mathlib.Core.Bool.{Bool, true, false, cond, not, _&&_}
+-- Slots one by one, and bytes that are zero. Assumes nothing.
+use Prim.Native.Nat.{ℕ, zero, suc, _+_, _-_, _<_, _≤_}
+use mathlib.Core.Path.{_≡_, refl, sym, ap₂, _∙_}
+use mathlib.Core.Bool.{Bool, true, false, cond, not, _&&_, _||_, true≢false}
 use mathlib.Core.List.{List, [], _∷_, _++_}
 use native.Mathlib.Omega.{arith}
 use native.Mathlib.Numerals.{add-one}
-use borrow.Author.Tests.{eqb-true, eqb-false, eq-eqb, ne-eqb}
+use borrow.Author.Tests.{eqb-false}
 use lib.Dec.{eqb}
-use lib.ListN.{length, take, drop, getD, length-take, length-drop}
-use lib.Seq.{drop-drop, drop-cons, take-all, take-take}
+use lib.ListN.{length, drop, getD}
+use lib.Seq.{drop-drop, drop-cons, getD-drop}
 use Rattle.spec.specs.declared.Extent.{Extent}
-use Rattle.spec.specs.Bytes.{exactly, part, all, allZero}
-use Rattle.spec.specs.Disk.{Disk}
-use Rattle.spec.specs.Inode.{slotsIn, slotsAt, used}
+use Rattle.spec.specs.Bytes.{exactly, number2, all, allZero}
+use Rattle.spec.specs.Inode.{extent, slotsIn, used, counts}
 use Rattle.spec.specs.Sound.{slotsPacked}
-use Rattle.block.proofs.Laws.{length-exactly, getD-exactly}
+use Rattle.block.proofs.Laws.{length-exactly, getD-exactly, number2-exactly}
 use Rattle.inode.specs.Records.{bytesIn}
+use Rattle.inode.specs.Walk.{slotIn}
+use Rattle.fsck.specs.Reached.{usedFrom}
 use Rattle.fsck.proofs.Runs.{and-assoc, and-right}
 
 -- ---- bytes tested one by one
@@ -35,63 +36,78 @@ module _ (t : List ℕ) (k end : ℕ) (r a : Bool) (h : a ≡ r && allZero (byte
 
 -- ---- slots
 
-slots-length : (n : ℕ) (xs : List ℕ) → length (slotsIn n xs) ≡ n
+-- a slot as the code reads it
+pub slot-read : (t : List ℕ) (at x y : ℕ) → at + 4 ≤ 512 → x ≡ number2 at t → y ≡ number2 (at + 2) t → extent x y ≡ slotIn at (exactly 512 t)
+slot-read t at x y h p q =
+    ap₂ extent (p ∙ sym (number2-exactly 512 t at (omega arith))) (q ∙ sym (number2-exactly 512 t (at + 2) (omega arith)))
+
+slots-first : (m at : ℕ) (xs : List ℕ) → slotsIn (suc m) (drop at xs) ≡ slotIn at xs ∷ slotsIn m (drop (at + 4) xs)
 unfolding slotsIn
-slots-length zero xs = refl
-slots-length (suc n) xs = ap suc (slots-length n (drop 4 xs))
+slots-first m at xs =
+    let z : at + 0 ≡ at = omega arith in
+    let y : at + (2 + 1) ≡ at + 2 + 1 = omega arith in
+    rw (getD-drop at xs 0 0, getD-drop at xs 1 0, getD-drop at xs 2 0, getD-drop at xs (2 + 1) 0, drop-drop 4 at xs, z, y)
 
-used-le : (es : List Extent) → length (used es) ≤ length es
-used-le [] = omega arith
-used-le (e ∷ es) = go (eqb (e .count) 0) refl (used-le es)
-  where
-    go : (t : Bool) → eqb (e .count) 0 ≡ t → length (used es) ≤ length es → length (used (e ∷ es)) ≤ length (e ∷ es)
-    go true q h = rw q (omega arith)
-    go false q h = rw q (omega arith)
+-- the first of the slots that are left
+pub slots-next : (X : List ℕ) (p left : ℕ) (e : Extent) → 0 < left → e ≡ slotIn p X → slotsIn left (drop p X) ≡ e ∷ slotsIn (left - 1) (drop (p + 4) X)
+slots-next X p zero e h q = absurd (omega arith)
+slots-next X p (suc m) e h q = let z : suc m - 1 ≡ m = omega arith in rw (z, q) (slots-first m p X)
 
-drop-slots : (u m : ℕ) (xs : List ℕ) → drop u (slotsIn (u + m) xs) ≡ slotsIn m (drop (4 * u) xs)
-unfolding slotsIn
-drop-slots zero m xs = let z : 0 + m ≡ m = omega arith in rw z
-drop-slots (suc u) m xs =
-    let z : suc u + m ≡ suc (u + m) = omega arith in
-    let y : 4 + 4 * u ≡ 4 * suc u = omega arith in
-    rw z (drop-slots u m (drop 4 xs) ∙ ap (slotsIn m) (drop-drop (4 * u) 4 xs ∙ ap (λ (k : ℕ). drop k xs) y))
+-- whether slots are packed, all used before them or not
+unfoldable pub packedFrom : Bool → List Extent → Bool
+packedFrom more slots = cond more (slotsPacked slots) (all (λ e. eqb (e .first) 0 && eqb (e .count) 0) slots)
 
-pair-zero : (a b : ℕ) → eqb (a + 256 * b) 0 ≡ (eqb a 0 && eqb b 0)
-pair-zero a b = go (eqb a 0) refl (eqb b 0) refl
-  where
-    go : (p : Bool) → eqb a 0 ≡ p → (q : Bool) → eqb b 0 ≡ q → eqb (a + 256 * b) 0 ≡ (eqb a 0 && eqb b 0)
-    go true e true f =
-        let x : a ≡ 0 = eqb-true a 0 e in let y : b ≡ 0 = eqb-true b 0 f in
-        eq-eqb (a + 256 * b) 0 (omega arith) ∙ sym (rw (e, f))
-    go true e false f =
-        let y : b ≡ 0 → ⊥ = eqb-false b 0 f in
-        ne-eqb (a + 256 * b) 0 (λ z. omega arith) ∙ sym (rw (e, f))
-    go false e q f =
-        let x : a ≡ 0 → ⊥ = eqb-false a 0 e in
-        ne-eqb (a + 256 * b) 0 (λ z. omega arith) ∙ sym (rw e)
+module _ (e : Extent) where
+  -- one slot that is not used, and one that is
+  pub not-used : (more : Bool) → (not more || eqb (e .count) 0) ≡ true → usedFrom more (e ∷ []) ≡ []
+  unfolding usedFrom
+  not-used true h = rw h
+  not-used false h = refl
 
-zero-slots : (m : ℕ) (xs : List ℕ) → 4 * m ≤ length xs → all (λ e. eqb (e .first) 0 && eqb (e .count) 0) (slotsIn m xs) ≡ allZero (take (4 * m) xs)
-unfolding slotsIn
-zero-slots zero xs h = refl
-zero-slots (suc m) [] h = absurd (omega arith)
-zero-slots (suc m) (a ∷ []) h = absurd (omega arith)
-zero-slots (suc m) (a ∷ b ∷ []) h = absurd (omega arith)
-zero-slots (suc m) (a ∷ b ∷ c ∷ []) h = absurd (omega arith)
-zero-slots (suc m) (a ∷ b ∷ c ∷ d ∷ xs) h =
-    let z : 4 * suc m ≡ suc (suc (suc (suc (4 * m)))) = omega arith in
-    let ih = zero-slots m xs (omega arith) in
-    rw (z, pair-zero a b, pair-zero c d, ih) (simp and-assoc)
+  pub is-used : (more : Bool) → (not more || eqb (e .count) 0) ≡ false → usedFrom more (e ∷ []) ≡ e ∷ []
+  unfolding usedFrom
+  is-used true h = rw h
+  is-used false h = absurd (true≢false h)
 
--- n slots from a byte of a block on, of which the first u are used
-pub packed-by : (X : List ℕ) (at n u w : ℕ) → at + 4 * n ≤ length X → u ≡ length (used (slotsIn n (drop at X))) → w ≡ 4 * n - 4 * u
-    → slotsPacked (slotsIn n (drop at X)) ≡ allZero (part (at + 4 * u) w X)
-packed-by X at n u w h e f =
-    let l : u ≤ n = omega (arith, used-le (slotsIn n (drop at X)), slots-length n (drop at X)) in
-    rw (← e) (go (n - u) (omega arith) (omega arith))
-  where
-    go : (m : ℕ) → n ≡ u + m → w ≡ 4 * m → all (λ e. eqb (e .first) 0 && eqb (e .count) 0) (drop u (slotsIn n (drop at X))) ≡ allZero (part (at + 4 * u) w X)
-    go m p q =
-        let s : drop u (slotsIn n (drop at X)) ≡ slotsIn m (drop (at + 4 * u) X) =
-        rw p (drop-slots u m (drop at X) ∙ ap (slotsIn m) (drop-drop (4 * u) at X)) in
-        ap (all (λ e. eqb (e .first) 0 && eqb (e .count) 0)) s
-        ∙ rw q (zero-slots m (drop (at + 4 * u) X) (omega (arith, length-drop (at + 4 * u) X)))
+  pub has-count : (more : Bool) → (not more || eqb (e .count) 0) ≡ false → 0 < e .count
+  has-count true h = omega (arith, eqb-false (e .count) 0 h)
+  has-count false h = absurd (true≢false h)
+
+  pub used-length : (more : Bool) → length (usedFrom more (e ∷ [])) ≤ 1
+  unfolding usedFrom
+  used-length false = omega arith
+  used-length true = go (eqb (e .count) 0)
+    where
+      go : (t : Bool) → length (cond (not t) (e ∷ []) []) ≤ 1
+      go true = omega arith
+      go false = omega arith
+
+  pub used-counts : (more : Bool) → counts (usedFrom more (e ∷ [])) ≤ e .count
+  unfolding usedFrom
+  used-counts false = omega arith
+  used-counts true = go (eqb (e .count) 0)
+    where
+      go : (t : Bool) → counts (cond (not t) (e ∷ []) []) ≤ e .count
+      go true = omega arith
+      go false = omega arith
+
+  -- the first of some slots taken off
+  pub used-step : (es : List Extent) (more : Bool) → usedFrom more (e ∷ es) ≡ usedFrom more (e ∷ []) ++ usedFrom (more && not (eqb (e .count) 0)) es
+  unfolding usedFrom
+  used-step es false = refl
+  used-step es true = go (eqb (e .count) 0)
+    where
+      go : (t : Bool) → cond (not t) (e ∷ used es) [] ≡ cond (not t) (e ∷ []) [] ++ cond (not t) (used es) []
+      go true = refl
+      go false = refl
+
+  pub packed-step : (es : List Extent) (more : Bool)
+      → packedFrom more (e ∷ es) ≡ ((more && not (eqb (e .count) 0)) || (eqb (e .first) 0 && eqb (e .count) 0)) && packedFrom (more && not (eqb (e .count) 0)) es
+  unfolding packedFrom
+  packed-step es false = refl
+  packed-step es true = go (eqb (e .count) 0) refl
+    where
+      go : (t : Bool) → eqb (e .count) 0 ≡ t
+          → slotsPacked (e ∷ es) ≡ (not (eqb (e .count) 0) || (eqb (e .first) 0 && eqb (e .count) 0)) && packedFrom (not (eqb (e .count) 0)) es
+      go true q = rw q (rw q)
+      go false q = rw q

@@ -1,5 +1,5 @@
 -- The tests of a file's tree as running results over its extents and nodes.
-use Prim.Native.Nat.{ℕ, _+_, _-_, _/_, _%_}
+use Prim.Native.Nat.{ℕ, _+_, _-_, _%_}
 use mathlib.Core.Bool.{Bool, true, cond, not, _&&_, Bool·beq}
 use mathlib.Core.List.{List, [], _∷_}
 use lib.ListN.{length, drop}
@@ -9,7 +9,6 @@ use Rattle.spec.specs.Bytes.{all, allZero}
 use Rattle.spec.specs.Disk.{Disk, inData}
 use Rattle.spec.specs.Inode.{Inode, slotsAt, used, counts, treeDepth, extentsOf, levelsOf, nodesOf, blocksFor, nodesFor}
 use Rattle.spec.specs.Sound.{slotsPacked, extentInside, countsAgree, apart, levelPacked, tailZero}
-use Rattle.inode.specs.declared.Cursor.{Cursor}
 use Rattle.fsck.specs.declared.Run.{Run}
 use Rattle.fsck.specs.declared.Nodes.{Nodes}
 
@@ -36,10 +35,6 @@ overExtents N k r (e ∷ es) = overExtents N k (withExtent N k r e) es
 abbrev pub noRun : Run
 noRun = record { inside = true; apart = true; end = 0; extents = 0; blocks = 0; tail = 0 }
 
--- n slots from a byte of a block on
-unfoldable pub regionOf : ℕ → ℕ → ℕ → Cursor
-regionOf b at n = record { block = b; at = at; left = n; top = 0; tops = 0 }
-
 -- one more node, named by a slot, and some more
 unfoldable pub withNode : ℕ → ℕ → Disk → Nodes → Extent → Nodes
 withNode N k v f e =
@@ -49,6 +44,8 @@ withNode N k v f e =
       agree = f .agree && eqb (e .count) (counts (used (slotsAt v (e .first))));
       filled = f .filled && f .full;
       full = eqb (length (used (slotsAt v (e .first)))) 128;
+      tops = f .tops + 1;
+      counts = f .counts + e .count;
     }
 
 unfoldable pub overNodes : ℕ → ℕ → Disk → Nodes → List Extent → Nodes
@@ -56,7 +53,7 @@ overNodes N k v f [] = f
 overNodes N k v f (e ∷ es) = overNodes N k v (withNode N k v f e) es
 
 abbrev pub noNodes : Nodes
-noNodes = record { run = noRun; sound = true; agree = true; filled = true; full = true }
+noNodes = record { run = noRun; sound = true; agree = true; filled = true; full = true; tops = 0; counts = 0 }
 
 -- the bytes after a size in block b
 unfoldable pub lastClear : Disk → ℕ → ℕ → Bool

@@ -1,37 +1,53 @@
-// Decides S1 to S8 on any bytes, and tells the lowest record and the lowest block that are not sound.
+// Decides S1 to S8 on any bytes: one pass over the records, in which each tree is walked once, tested and marked, then one over the bits. Each byte that the
+// tests need is read once.
 use block::DiskBlock;
+use block::block_in;
+use block::copy_of;
 use block::in_data;
 use block::load;
-use inode::Cursor;
+use block::load2;
+use block::load4;
 use inode::Found;
-use inode::Step;
 use inode::depth_of;
-use inode::find;
-use inode::inode_block;
-use inode::is_empty;
-use inode::is_zero;
-use inode::name_of;
-use inode::next;
 use inode::size_of;
 use inode::table_block;
+use marks::lowest_wrong;
+use marks::mark;
+use marks::mark_run;
 use spec::Extent;
 use spec::Limits;
-use spec::Session;
-use transaction::view_block;
 ghost use mathlib.Core.Path.{_≡_};
-ghost use Prim.Native.Nat.{_+_, _*_, _-_, _≤_, _<_};
-ghost use Rattle.spec.specs.Bytes.{allZero};
+ghost use mathlib.Core.List.{[], _∷_};
+ghost use mathlib.Core.Option.{none};
+ghost use Prim.Native.Nat.{_+_, _*_, _-_, _≤_, _<_, min};
+ghost use lib.ListN.{take, drop};
+ghost use Rattle.spec.specs.Bytes.{exactly, allZero};
 ghost use Rattle.spec.specs.Disk.{blocksOf};
-ghost use Rattle.spec.specs.Inode.{inodeAt, inodeBytes, placeOfInode, blocksFor, nodesFor};
-ghost use Rattle.spec.specs.Sound.{limitsHold, extentInside, firstOfName, fileSound, inodeSound, inodeFault, blockFault, volumeSound};
-ghost use Rattle.spec.specs.Transaction.{view, stateOf};
-ghost use Rattle.inode.specs.Records.{bytesIn, recordIn, foundOf};
-ghost use Rattle.inode.specs.Walk.{leaf};
-ghost use Rattle.fsck.specs.Runs.{tailAt, withExtent, overExtents, regionOf, withNode, overNodes, noRun, noNodes, lastClear, treeSound};
+ghost use Rattle.spec.specs.Inode.{inodeAt, inodeBytes, inodeOf, slotsIn, used, blocksFor, nodesFor, reachedFrom, reached};
+ghost use Rattle.spec.specs.Sound.{slotsPacked, limitsHold, extentInside, fileSound, inodeSound, inodeFault, blockFault, volumeSound};
+ghost use Rattle.bitmap.specs.Words.{Below, wordOf};
+ghost use Rattle.inode.specs.Records.{bytesIn, recordIn, foundOf, lowestTo};
+ghost use Rattle.inode.specs.Walk.{slotIn};
+ghost use Rattle.marks.specs.Marks.{Kept};
+ghost use Rattle.fsck.specs.Runs.{tailAt, withExtent, overExtents, overNodes, noRun, noNodes, lastClear, treeSound};
+ghost use Rattle.fsck.specs.Reached.{usedFrom, blocksFrom, treeFrom, fileBlocks, Marked};
+ghost use Rattle.fsck.specs.Names.{Names, sameNumber};
+ghost use Rattle.fsck.specs.Damage.{damageOf};
 
 const SLOTS_PER_INODE: usize = 4;
 
 const SLOTS_PER_NODE: usize = 128;
+
+const SLOT_SIZE: usize = 4;
+
+const MAX_FILE_BLOCKS: usize = 2048;
+
+// What is damaged: the lowest record that is not sound; if all are, the lowest block.
+pub enum Damage {
+    Inode(usize),
+    Block(usize),
+    Nothing,
+}
 
 // What a walk over the extents of a file has found so far: whether they all lie within 42 to N-1, and apart; where the last one ends;
 // how many there are, and blocks in them; and the file's last block, where its size ends within it.
@@ -44,13 +60,34 @@ pub struct Run {
     pub tail: u32,
 }
 
-// And over its nodes: whether they all lie within 42 to N-1 and are packed, count as the slots above tell, and are full but for the last.
+// And over its nodes: whether they all lie within 42 to N-1 and are packed, count as the slots above tell, and are full but for the last;
+// how many slots there are above, and blocks that they count.
 pub struct Nodes {
     pub run: Run,
     pub sound: bool,
     pub agree: bool,
     pub filled: bool,
     pub full: bool,
+    pub tops: usize,
+    pub counts: usize,
+}
+
+// What the slots of a block tell, and whether those behind the used ones are zero.
+pub struct Extents {
+    pub run: Run,
+    pub packed: bool,
+}
+
+pub struct Tops {
+    pub nodes: Nodes,
+    pub packed: bool,
+}
+
+// Block b of a device.
+fn block_at(device: &[u8], b: u32) -> &[u8]
+    ensures { λ r. ⌜ exactly 512 (now r) ≡ blocksOf (now (device .entry)) b ⌝ }
+{
+    block_in(device, DiskBlock(b))
 }
 
 // Whether the bytes of a block from one place to another are all zero.
@@ -119,84 +156,122 @@ fn no_run() -> Run
     }
 }
 
-// The cursor over n slots from a byte of a block on.
-fn region(b: u32, at: usize, n: usize) -> Cursor
-    ensures { λ r. ⌜ r ≡ regionOf b at n ⌝ }
+// The slot at a byte of a block.
+fn slot_in(block: &[u8], at: usize) -> Extent
+    requires { ⌜ at + 4 ≤ 512 ⌝ }
+    ensures { λ e. ⌜ (e ≡ slotIn at (exactly 512 (now (block .entry)))) × (e .first < 65536) × (e .count < 65536) ⌝ }
 {
-    Cursor {
-        block: b,
-        at: at,
-        left: n,
-        top: 0,
-        tops: 0,
+    Extent {
+        first: load2(block, at),
+        count: load2(block, at + 2),
     }
 }
 
-// The used ones of n slots as further extents.
-fn run_over<'a>(
-    device: &'a [u8],
-    work: &'a [u8],
-    s: Session,
+// How many blocks of an extent to mark, so many before it: no file has more than 2,048.
+fn to_mark(count: u32, before: usize) -> u32
+    ensures { λ r. ⌜ r ≡ min count (2048 - before) ⌝ }
+{
+    if MAX_FILE_BLOCKS <= before {
+        return 0;
+    }
+    let room = (MAX_FILE_BLOCKS - before) as u32;
+    if count < room { count } else { room }
+}
+
+// One more slot, an extent if it is used: `more` tells whether all before it are.
+fn with_slot(
+    once: &mut [u8; 512],
+    twice: &mut [u8; 512],
     blocks: usize,
     k: usize,
-    b: u32,
+    r: Run,
+    more: bool,
+    e: Extent,
+) -> Run
+    requires { ⌜ (blocks ≤ 4096) × (e .first < 65536) × (e .count < 65536) × (r .blocks < 4294967296) × (r .extents < 65536) ⌝ }
+    ensures { λ q. ⌜ (q ≡ overExtents blocks k r (usedFrom more (e ∷ [])))
+        × Kept blocks (now (once .exit)) (now (twice .exit)) [] (now (once .entry)) (now (twice .entry)) (blocksFrom (r .blocks) (usedFrom more (e ∷ []))) ⌝ }
+{
+    if !more | (e.count == 0) {
+        return r;
+    }
+    mark_run(once, twice, blocks, e.first, to_mark(e.count, r.blocks));
+    with_extent(r, blocks, k, e)
+}
+
+// The used ones of n slots as further extents, their blocks marked.
+fn extents_over(
+    once: &mut [u8; 512],
+    twice: &mut [u8; 512],
+    block: &[u8],
+    blocks: usize,
+    k: usize,
     at: usize,
     n: usize,
     r: Run,
-) -> Run
-    requires { ⌜ (n ≤ 128) × (r .extents ≤ 512) × (r .blocks ≤ 33554432) ⌝ }
-    ensures { λ q. ⌜ (q ≡ overExtents blocks k r (leaf (view (stateOf s (now (device .entry)) (now (work .entry)))) b at n))
-        × (q .extents ≤ r .extents + n) × (q .blocks ≤ r .blocks + 65536 * n) ⌝ }
+) -> Extents
+    requires { ⌜ (blocks ≤ 4096) × (at + 4 * n ≤ 512) × (r .extents ≤ 512) × (r .blocks ≤ 33554432) ⌝ }
+    ensures { λ q. ⌜ (q .run ≡ overExtents blocks k r (used (slotsIn n (drop at (exactly 512 (now (block .entry)))))))
+        × (q .packed ≡ slotsPacked (slotsIn n (drop at (exactly 512 (now (block .entry))))))
+        × (q .run .extents ≤ r .extents + n) × (q .run .blocks ≤ r .blocks + 65536 * n)
+        × Kept blocks (now (once .exit)) (now (twice .exit)) [] (now (once .entry)) (now (twice .entry))
+        (blocksFrom (r .blocks) (used (slotsIn n (drop at (exactly 512 (now (block .entry))))))) ⌝ }
 {
-    let mut cur = region(b, at, n);
     let mut q = r;
-    loop {
-        match next(device, work, s, 0, cur) {
-            Step::Leaf(e, then) => {
-                let u = with_extent(q, blocks, k, e);
-                q = u;
-                cur = then;
-            }
-            Step::Node(_, then) => {
-                cur = then;
-            }
-            Step::End => {
-                return q;
-            }
-        }
+    let mut more = true;
+    let mut packed = true;
+    let mut p = at;
+    let mut left = n;
+    while 0 < left {
+        let e = slot_in(block, p);
+        let u = with_slot(once, twice, blocks, k, q, more, e);
+        q = u;
+        more = more & (e.count != 0);
+        packed = packed & (more | ((e.first == 0) & (e.count == 0)));
+        p += SLOT_SIZE;
+        left -= 1;
+    }
+    Extents {
+        run: q,
+        packed: packed,
     }
 }
 
-// One more node, which slot e names.
-fn with_node<'a>(
-    device: &'a [u8],
-    work: &'a [u8],
-    s: Session,
+// One more slot of a record, which names a node if it is used.
+fn with_node(
+    once: &mut [u8; 512],
+    twice: &mut [u8; 512],
+    device: &[u8],
     blocks: usize,
     k: usize,
     f: Nodes,
+    more: bool,
     e: Extent,
 ) -> Nodes
-    requires { ⌜ (f .run .extents ≤ 384) × (f .run .blocks ≤ 25165824) ⌝ }
-    ensures { λ q. ⌜ (q ≡ withNode blocks k (view (stateOf s (now (device .entry)) (now (work .entry)))) f e)
-        × (q .run .extents ≤ f .run .extents + 128) × (q .run .blocks ≤ f .run .blocks + 8388608) ⌝ }
+    requires { ⌜ (blocks ≤ 4096) × (e .count < 65536) × (f .run .extents ≤ 384) × (f .run .blocks ≤ 25165824) × (f .tops ≤ 3) × (f .counts ≤ 196608) ⌝ }
+    ensures { λ q. ⌜ (q ≡ overNodes blocks k (blocksOf (now (device .entry))) f (usedFrom more (e ∷ [])))
+        × (q .run .extents ≤ f .run .extents + 128) × (q .run .blocks ≤ f .run .blocks + 8388608)
+        × Kept blocks (now (once .exit)) (now (twice .exit)) [] (now (once .entry)) (now (twice .entry))
+        (treeFrom (blocksOf (now (device .entry))) (f .run .blocks) (usedFrom more (e ∷ []))) ⌝ }
 {
+    if !more | (e.count == 0) {
+        return f;
+    }
     let old = f.run;
-    let r = run_over(device, work, s, blocks, k, e.first, 0, SLOTS_PER_NODE, old);
-    let used = r.extents - old.extents;
-    let packed = clear_in(
-        view_block(device, work, s, DiskBlock(e.first)),
-        4 * used,
-        Limits::BLOCK_SIZE,
-    );
+    mark(once, twice, blocks, e.first);
+    let node = block_at(device, e.first);
+    let w = extents_over(once, twice, node, blocks, k, 0, SLOTS_PER_NODE, old);
+    let r = w.run;
     let inside = in_data(blocks, DiskBlock(e.first));
     let count = r.blocks - old.blocks;
     Nodes {
         run: r,
-        sound: f.sound & (inside & packed),
+        sound: f.sound & (inside & w.packed),
         agree: f.agree & (e.count as usize == count),
         filled: f.filled & f.full,
-        full: used == SLOTS_PER_NODE,
+        full: r.extents - old.extents == SLOTS_PER_NODE,
+        tops: f.tops + 1,
+        counts: f.counts + e.count as usize,
     }
 }
 
@@ -210,64 +285,65 @@ fn no_nodes() -> Nodes
         agree: true,
         filled: true,
         full: true,
+        tops: 0,
+        counts: 0,
     }
 }
 
-// The nodes that the used ones of a record's four slots name.
-fn nodes_over<'a>(
-    device: &'a [u8],
-    work: &'a [u8],
-    s: Session,
+// The nodes that the used ones of a record's four slots name, they and the blocks below them marked.
+fn nodes_over(
+    once: &mut [u8; 512],
+    twice: &mut [u8; 512],
+    device: &[u8],
+    table: &[u8],
     blocks: usize,
     k: usize,
-    b: u32,
     at: usize,
-) -> Nodes
-    ensures { λ q. ⌜ q ≡ overNodes blocks k (view (stateOf s (now (device .entry)) (now (work .entry)))) noNodes
-        (leaf (view (stateOf s (now (device .entry)) (now (work .entry)))) b at 4) ⌝ }
+) -> Tops
+    requires { ⌜ (blocks ≤ 4096) × (at + 16 ≤ 512) ⌝ }
+    ensures { λ q. ⌜ (q .nodes ≡ overNodes blocks k (blocksOf (now (device .entry))) noNodes (used (slotsIn 4 (drop at (exactly 512 (now (table .entry)))))))
+        × (q .packed ≡ slotsPacked (slotsIn 4 (drop at (exactly 512 (now (table .entry))))))
+        × Kept blocks (now (once .exit)) (now (twice .exit)) [] (now (once .entry)) (now (twice .entry))
+        (treeFrom (blocksOf (now (device .entry))) 0 (used (slotsIn 4 (drop at (exactly 512 (now (table .entry))))))) ⌝ }
 {
-    let mut cur = region(b, at, SLOTS_PER_INODE);
     let mut f = no_nodes();
-    loop {
-        match next(device, work, s, 0, cur) {
-            Step::Leaf(e, then) => {
-                let u = with_node(device, work, s, blocks, k, f, e);
-                f = u;
-                cur = then;
-            }
-            Step::Node(_, then) => {
-                cur = then;
-            }
-            Step::End => {
-                return f;
-            }
-        }
+    let mut more = true;
+    let mut packed = true;
+    let mut p = at;
+    let mut left = SLOTS_PER_INODE;
+    while 0 < left {
+        let e = slot_in(table, p);
+        let u = with_node(once, twice, device, blocks, k, f, more, e);
+        f = u;
+        more = more & (e.count != 0);
+        packed = packed & (more | ((e.first == 0) & (e.count == 0)));
+        p += SLOT_SIZE;
+        left -= 1;
+    }
+    Tops {
+        nodes: f,
+        packed: packed,
     }
 }
 
 // "Size and depth are within their limits, bytes 13 to 15 zero."
-fn limits_hold(table: &[u8], i: usize) -> bool
+fn limits_hold(table: &[u8], i: usize, size: usize, depth: u32) -> bool
+    requires { ⌜ (size ≡ inodeOf (recordIn (now table) i) .size) × (depth ≡ inodeOf (recordIn (now table) i) .depth) ⌝ }
     ensures { λ r. ⌜ r ≡ limitsHold (recordIn (now (table .entry)) i) ⌝ }
 {
     let at = 32 * (i % 16);
-    let size = size_of(table, i) as usize;
-    let depth = depth_of(table, i);
     (size <= Limits::MAX_FILE_SIZE) & (depth <= 1) & clear_in(table, at + 13, at + 16)
 }
 
 // "Bytes after the size in a file's last block are zero": b is that block, where the size ends within it.
-fn last_clear<'a>(device: &'a [u8], work: &'a [u8], s: Session, size: usize, b: u32) -> bool
-    ensures { λ r. ⌜ r ≡ lastClear (view (stateOf s (now (device .entry)) (now (work .entry)))) size b ⌝ }
+fn last_clear(device: &[u8], size: usize, b: u32) -> bool
+    ensures { λ r. ⌜ r ≡ lastClear (blocksOf (now (device .entry))) size b ⌝ }
 {
     let over = size % Limits::BLOCK_SIZE;
     if over == 0 {
         return true;
     }
-    clear_in(
-        view_block(device, work, s, DiskBlock(b)),
-        over,
-        Limits::BLOCK_SIZE,
-    )
+    clear_in(block_at(device, b), over, Limits::BLOCK_SIZE)
 }
 
 // "A file of size s has s/512 blocks, rounded up."
@@ -288,134 +364,141 @@ fn nodes_for(extents: usize) -> usize
     (extents - 1) / SLOTS_PER_NODE + 1
 }
 
-// Whether the slots of record i are packed, `used` of them in use.
-fn is_packed(table: &[u8], i: usize, used: usize) -> bool
-    requires { ⌜ used ≤ 4 ⌝ }
-    ensures { λ r. ⌜ r ≡ allZero (bytesIn (now (table .entry)) (placeOfInode i + 16 + 4 * used) (16 - 4 * used)) ⌝ }
-{
-    let at = 32 * (i % 16) + 16;
-    clear_in(table, at + 4 * used, at + 16)
-}
-
 // S4 to S6 and S8 of file i, of depth 0.
-fn flat_sound<'a>(
-    device: &'a [u8],
-    work: &'a [u8],
-    s: Session,
+fn flat_sound(
+    once: &mut [u8; 512],
+    twice: &mut [u8; 512],
+    device: &[u8],
     blocks: usize,
     i: usize,
     size: usize,
 ) -> bool
-    requires { ⌜ (i < 128) × (size ≤ 1048576)
-        × (size ≡ inodeAt (view (stateOf s (now device) (now work))) i .size) × (inodeAt (view (stateOf s (now device) (now work))) i .depth ≡ 0) ⌝ }
-    ensures { λ r. ⌜ r ≡ treeSound blocks (view (stateOf s (now (device .entry)) (now (work .entry))))
-        (inodeAt (view (stateOf s (now (device .entry)) (now (work .entry)))) i) ⌝ }
+    requires { ⌜ (blocks ≤ 4096) × (i < 128) × (size ≤ 1048576)
+        × (size ≡ inodeAt (blocksOf (now device)) i .size) × (inodeAt (blocksOf (now device)) i .depth ≡ 0) ⌝ }
+    ensures { λ r. ⌜ Marked blocks r (treeSound blocks (blocksOf (now (device .entry))) (inodeAt (blocksOf (now (device .entry))) i))
+        (now (once .exit)) (now (twice .exit)) (now (once .entry)) (now (twice .entry)) (fileBlocks (blocksOf (now (device .entry))) i) ⌝ }
 {
-    let r = run_over(
-        device,
-        work,
-        s,
-        blocks,
-        size / Limits::BLOCK_SIZE,
-        table_block(i),
-        32 * (i % 16) + 16,
-        SLOTS_PER_INODE,
-        no_run(),
-    );
-    let packed = is_packed(inode_block(device, work, s, i), i, r.extents);
-    let clear = last_clear(device, work, s, size, r.tail);
+    let table = block_at(device, table_block(i));
+    let at = 32 * (i % 16) + 16;
+    let k = size / Limits::BLOCK_SIZE;
+    let w = extents_over(once, twice, table, blocks, k, at, SLOTS_PER_INODE, no_run());
+    let r = w.run;
+    let clear = last_clear(device, size, r.tail);
     let want = blocks_for(size);
-    packed & r.inside & (r.blocks == want) & r.apart & clear
+    w.packed & r.inside & (r.blocks == want) & r.apart & clear
 }
 
 // S4 to S6 and S8 of file i, of depth 1.
-fn deep_sound<'a>(
-    device: &'a [u8],
-    work: &'a [u8],
-    s: Session,
+fn deep_sound(
+    once: &mut [u8; 512],
+    twice: &mut [u8; 512],
+    device: &[u8],
     blocks: usize,
     i: usize,
     size: usize,
 ) -> bool
-    requires { ⌜ (i < 128) × (size ≤ 1048576)
-        × (size ≡ inodeAt (view (stateOf s (now device) (now work))) i .size) × (inodeAt (view (stateOf s (now device) (now work))) i .depth ≡ 1) ⌝ }
-    ensures { λ r. ⌜ r ≡ treeSound blocks (view (stateOf s (now (device .entry)) (now (work .entry))))
-        (inodeAt (view (stateOf s (now (device .entry)) (now (work .entry)))) i) ⌝ }
+    requires { ⌜ (blocks ≤ 4096) × (i < 128) × (size ≤ 1048576)
+        × (size ≡ inodeAt (blocksOf (now device)) i .size) × (inodeAt (blocksOf (now device)) i .depth ≡ 1) ⌝ }
+    ensures { λ r. ⌜ Marked blocks r (treeSound blocks (blocksOf (now (device .entry))) (inodeAt (blocksOf (now (device .entry))) i))
+        (now (once .exit)) (now (twice .exit)) (now (once .entry)) (now (twice .entry)) (fileBlocks (blocksOf (now (device .entry))) i) ⌝ }
 {
-    let tb = table_block(i);
+    let table = block_at(device, table_block(i));
     let at = 32 * (i % 16) + 16;
-    let tops = run_over(
-        device,
-        work,
-        s,
-        blocks,
-        0,
-        tb,
-        at,
-        SLOTS_PER_INODE,
-        no_run(),
-    );
-    let packed = is_packed(inode_block(device, work, s, i), i, tops.extents);
-    let f = nodes_over(device, work, s, blocks, size / Limits::BLOCK_SIZE, tb, at);
+    let k = size / Limits::BLOCK_SIZE;
+    let w = nodes_over(once, twice, device, table, blocks, k, at);
+    let f = w.nodes;
     let r = f.run;
-    let clear = last_clear(device, work, s, size, r.tail);
+    let clear = last_clear(device, size, r.tail);
     let want = blocks_for(size);
     let nodes = nodes_for(r.extents);
-    let shape = packed & f.sound & r.inside & f.agree & (tops.blocks == want);
-    shape & r.apart & (SLOTS_PER_INODE < r.extents) & (tops.extents == nodes) & f.filled & clear
+    let shape = w.packed & f.sound & r.inside & f.agree & (f.counts == want);
+    shape & r.apart & (SLOTS_PER_INODE < r.extents) & (f.tops == nodes) & f.filled & clear
 }
 
 // S3 to S6 and S8 of file i.
-fn file_sound<'a>(device: &'a [u8], work: &'a [u8], s: Session, blocks: usize, i: usize) -> bool
-    requires { ⌜ i < 128 ⌝ }
-    ensures { λ r. ⌜ r ≡ fileSound blocks (view (stateOf s (now (device .entry)) (now (work .entry))))
-        (inodeBytes (view (stateOf s (now (device .entry)) (now (work .entry)))) i) ⌝ }
+fn file_sound(
+    once: &mut [u8; 512],
+    twice: &mut [u8; 512],
+    device: &[u8],
+    blocks: usize,
+    i: usize,
+) -> bool
+    requires { ⌜ (blocks ≤ 4096) × (i < 128) ⌝ }
+    ensures { λ r. ⌜ Marked blocks r (fileSound blocks (blocksOf (now (device .entry))) (inodeBytes (blocksOf (now (device .entry))) i))
+        (now (once .exit)) (now (twice .exit)) (now (once .entry)) (now (twice .entry)) (fileBlocks (blocksOf (now (device .entry))) i) ⌝ }
 {
-    let table = inode_block(device, work, s, i);
-    if !limits_hold(table, i) {
-        return false;
-    }
+    let table = block_at(device, table_block(i));
     let size = size_of(table, i) as usize;
-    if depth_of(table, i) == 0 {
-        return flat_sound(device, work, s, blocks, i, size);
-    }
-    deep_sound(device, work, s, blocks, i, size)
-}
-
-// "Names differ pairwise": whether no record before i has the name of i.
-fn first_of_name<'a>(device: &'a [u8], work: &'a [u8], s: Session, i: usize) -> bool
-    requires { ⌜ i < 128 ⌝ }
-    ensures { λ r. ⌜ r ≡ firstOfName (view (stateOf s (now (device .entry)) (now (work .entry)))) i ⌝ }
-{
-    let name = name_of(inode_block(device, work, s, i), i);
-    match find(device, work, s, &name) {
-        Found::At(j) => j == i,
-        Found::Nothing => false,
-    }
-}
-
-// S2 to S6 and S8 of record i.
-fn inode_sound<'a>(device: &'a [u8], work: &'a [u8], s: Session, blocks: usize, i: usize) -> bool
-    requires { ⌜ i < 128 ⌝ }
-    ensures { λ r. ⌜ r ≡ inodeSound blocks (view (stateOf s (now (device .entry)) (now (work .entry)))) i ⌝ }
-{
-    let table = inode_block(device, work, s, i);
-    if is_empty(table, i) {
-        return is_zero(table, i);
-    }
-    if !first_of_name(device, work, s, i) {
+    let depth = depth_of(table, i);
+    if !limits_hold(table, i, size, depth) {
         return false;
     }
-    file_sound(device, work, s, blocks, i)
+    if depth == 0 {
+        return flat_sound(once, twice, device, blocks, i, size);
+    }
+    deep_sound(once, twice, device, blocks, i, size)
 }
 
-// The lowest record that is not sound, in the working copy.
-fn record_fault<'a>(device: &'a [u8], work: &'a [u8], s: Session, blocks: usize) -> Found
-    ensures { λ r. ⌜ r ≡ foundOf (inodeFault blocks (view (stateOf s (now (device .entry)) (now (work .entry))))) ⌝ }
+// The name of record i as a number, its bytes the lowest first.
+fn number_in(table: &[u8], i: usize) -> u64
+    ensures { λ r. ⌜ (r ≡ wordOf (take 8 (recordIn (now (table .entry)) i)) 0) × Below 256 (take 8 (recordIn (now (table .entry)) i)) ⌝ }
 {
+    let at = 32 * (i % 16);
+    let low = load4(table, at) as u64;
+    let high = load4(table, at + 4) as u64;
+    low + 4294967296 * high
+}
+
+// "Names differ pairwise": the lowest record before i with the number of i.
+fn earlier(numbers: &[u64; 128], i: usize) -> Found
+    requires { ⌜ i < 128 ⌝ }
+    ensures { λ r. ⌜ r ≡ lowestTo i (sameNumber (now (numbers .entry)) i) 0 ⌝ }
+{
+    let number = numbers[i];
+    let mut j: usize = 0;
+    while j < i {
+        if numbers[j] == number {
+            return Found::At(j);
+        }
+        j += 1;
+    }
+    Found::Nothing
+}
+
+// S2 to S6 and S8 of record i; `numbers` has the names up to it.
+fn inode_sound(
+    once: &mut [u8; 512],
+    twice: &mut [u8; 512],
+    numbers: &[u64; 128],
+    device: &[u8],
+    blocks: usize,
+    i: usize,
+) -> bool
+    requires { ⌜ (blocks ≤ 4096) × (i < 128) × Names (blocksOf (now device)) (now numbers) (i + 1) ⌝ }
+    ensures { λ r. ⌜ Marked blocks r (inodeSound blocks (blocksOf (now (device .entry))) i)
+        (now (once .exit)) (now (twice .exit)) (now (once .entry)) (now (twice .entry)) (reachedFrom (blocksOf (now (device .entry))) i) ⌝ }
+{
+    if numbers[i] == 0 {
+        let at = 32 * (i % 16);
+        return clear_in(block_at(device, table_block(i)), at + 8, at + 32);
+    }
+    match earlier(numbers, i) {
+        Found::At(_) => false,
+        Found::Nothing => file_sound(once, twice, device, blocks, i),
+    }
+}
+
+// The lowest record that is not sound: S2 to S6 and S8. If all are, every block that they reach is marked.
+fn inode_fault(once: &mut [u8; 512], twice: &mut [u8; 512], device: &[u8], blocks: usize) -> Found
+    requires { ⌜ blocks ≤ 4096 ⌝ }
+    ensures { λ r. ⌜ (r ≡ foundOf (inodeFault blocks (blocksOf (now (device .entry)))))
+        × (r ≡ foundOf none → Kept blocks (now (once .exit)) (now (twice .exit)) [] (now (once .entry)) (now (twice .entry)) (reached (blocksOf (now (device .entry))))) ⌝ }
+{
+    let mut numbers = [0u64; 128];
     let mut i: usize = 0;
     while i < Limits::INODE_COUNT {
-        if !inode_sound(device, work, s, blocks, i) {
+        numbers[i] = number_in(block_at(device, table_block(i)), i);
+        if !inode_sound(once, twice, &numbers, device, blocks, i) {
             return Found::At(i);
         }
         i += 1;
@@ -423,19 +506,23 @@ fn record_fault<'a>(device: &'a [u8], work: &'a [u8], s: Session, blocks: usize)
     Found::Nothing
 }
 
-// The lowest record that is not sound: S2 to S6 and S8.
-pub fn inode_fault(device: &[u8], blocks: usize) -> Found
-    ensures { λ r. ⌜ r ≡ foundOf (inodeFault blocks (blocksOf (now (device .entry)))) ⌝ }
-{
-    record_fault(device, &device[0..0], Session::never_opened(), blocks)
-}
-
-// The lowest block that is not sound: S1 and S7.
-pub fn block_fault(device: &[u8], blocks: usize) -> Found
+// The lowest record that breaks S2 to S6 or S8; if none does, the lowest block that breaks S1 or S7.
+pub fn find_damage(device: &[u8], blocks: usize) -> Damage
     requires { ⌜ blocks ≤ 4096 ⌝ }
-    ensures { λ r. ⌜ r ≡ foundOf (blockFault blocks (blocksOf (now (device .entry)))) ⌝ }
+    ensures { λ r. ⌜ r ≡ damageOf (inodeFault blocks (blocksOf (now (device .entry)))) (blockFault blocks (blocksOf (now (device .entry)))) ⌝ }
 {
-    marks::block_fault(device, &device[0..0], Session::never_opened(), blocks)
+    let mut once = [0u8; 512];
+    let mut twice = [0u8; 512];
+    match inode_fault(&mut once, &mut twice, device, blocks) {
+        Found::At(i) => Damage::Inode(i),
+        Found::Nothing => {
+            let bitmap = copy_of(block_at(device, 33));
+            match lowest_wrong(&once, &twice, &bitmap, blocks) {
+                Found::At(b) => Damage::Block(b),
+                Found::Nothing => Damage::Nothing,
+            }
+        }
+    }
 }
 
 // S1 to S8.
@@ -443,11 +530,9 @@ pub fn is_sound(device: &[u8], blocks: usize) -> bool
     requires { ⌜ blocks ≤ 4096 ⌝ }
     ensures { λ r. ⌜ r ≡ volumeSound blocks (blocksOf (now (device .entry))) ⌝ }
 {
-    match inode_fault(device, blocks) {
-        Found::At(_) => false,
-        Found::Nothing => match block_fault(device, blocks) {
-            Found::At(_) => false,
-            Found::Nothing => true,
-        },
+    match find_damage(device, blocks) {
+        Damage::Inode(_) => false,
+        Damage::Block(_) => false,
+        Damage::Nothing => true,
     }
 }

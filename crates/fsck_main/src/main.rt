@@ -1,6 +1,8 @@
 // Runs the soundness tests on a 64-block device: an empty store, one with three files built by hand, and that one with a byte changed, so that one of S1 to S8
-// is broken. Prints the lowest record and the lowest block that are not sound.
-use inode::Found;
+// is broken. Prints the lowest record that is not sound; if all are, the lowest block.
+use fsck::Damage;
+use fsck::find_damage;
+use fsck::is_sound;
 use libc::STDOUT_FILENO;
 
 // One byte, and a number of two bytes.
@@ -71,24 +73,23 @@ fn four_extents(device: &mut [u8; 32768]) {
     set(device, 16902, 21);
 }
 
-fn found(name: &[u8], f: Found) {
-    io::write_all(STDOUT_FILENO, name);
-    match f {
-        Found::At(i) => {
-            io::print_decimal(STDOUT_FILENO, i as u64);
-        }
-        Found::Nothing => {
-            io::write_all(STDOUT_FILENO, b"none");
-        }
-    }
-}
-
 fn show(name: &[u8], store: &[u8; 32768]) {
     let device: &[u8] = store;
     io::write_all(STDOUT_FILENO, name);
-    found(b": record ", fsck::inode_fault(device, 64));
-    found(b", block ", fsck::block_fault(device, 64));
-    if fsck::is_sound(device, 64) {
+    match find_damage(device, 64) {
+        Damage::Inode(i) => {
+            io::write_all(STDOUT_FILENO, b": record ");
+            io::print_decimal(STDOUT_FILENO, i as u64);
+        }
+        Damage::Block(b) => {
+            io::write_all(STDOUT_FILENO, b": block ");
+            io::print_decimal(STDOUT_FILENO, b as u64);
+        }
+        Damage::Nothing => {
+            io::write_all(STDOUT_FILENO, b": no damage");
+        }
+    }
+    if is_sound(device, 64) {
         io::write_all(STDOUT_FILENO, b", sound");
     }
     io::write_all(STDOUT_FILENO, b"\n");

@@ -1,34 +1,29 @@
 -- Laws of marking. Assumes nothing.
-use Prim.Native.Nat.{ℕ, zero, suc, _+_, _*_, _-_, _/_, _%_, _^_, _<_, _≤_, min}
-use mathlib.Core.Path.{_≡_, refl, sym, ap, ap₂, _∙_}
+use Prim.Native.Nat.{ℕ, zero, suc, _+_, _-_, _/_, _%_, _^_, _<_, _≤_, min}
+use mathlib.Core.Path.{_≡_, refl, sym, ap, _∙_}
 use mathlib.Core.Bool.{Bool, true, false, cond, not, _&&_, _||_, Bool·beq, true≢false}
-use mathlib.Core.List.{List, [], _∷_, _++_, map}
-use mathlib.Core.Option.{Option, none, some}
+use mathlib.Core.List.{List, [], _∷_, map}
+use mathlib.Core.Option.{none, some}
 use native.Mathlib.Nat.{zero-div}
 use native.Mathlib.Numerals.{add-one}
 use native.Mathlib.Omega.{arith}
-use borrow.Author.Tests.{eqb-true, eqb-false, eq-eqb, ne-eqb, ltb-true, ltb-false, lt-ltb, le-ltb, not-true, not-false}
+use borrow.Author.Tests.{eqb-true, eqb-false, eq-eqb, ne-eqb, ltb-true, ltb-false, lt-ltb, le-ltb, not-true}
 use lib.Dec.{eqb, ltb}
-use lib.ListN.{length, take, getD, set, replicate, length-replicate, List·getD-eq-default, getD-replicate}
+use lib.ListN.{length, getD, set, replicate, length-replicate}
 use lib.Seq.{getD-set-same, getD-set-other}
-use Rattle.spec.specs.declared.Extent.{Extent}
 use Rattle.spec.specs.Bytes.{exactly, occurs, upFrom, concat, lowest}
 use Rattle.spec.specs.Bitmap.{bitsOf}
 use Rattle.spec.specs.Disk.{Disk, isDataArea, areaOf, inData}
 use Rattle.spec.specs.declared.Area.the-variants.{Header, Log, Bitmap, Inodes, Data}
-use Rattle.spec.specs.Inode.{inodeAt, isEmpty, blockOfInode, blocksIn, extentsOf, dataOf, nodesOf, reachedFrom, reached}
+use Rattle.spec.specs.Inode.{reachedFrom, reached}
 use Rattle.spec.specs.Sound.{blockSound, bitFault, blockFault}
-use Rattle.bitmap.specs.Words.{Table}
 use Rattle.bitmap.proofs.Laws.{length-bits, bit-at, bits-binary, occurs-append}
 use Rattle.block.proofs.Laws.{length-exactly}
-use Rattle.inode.specs.declared.Cursor.{Cursor}
 use Rattle.inode.specs.declared.Found.{Found}
 use Rattle.inode.specs.declared.Found.the-variants.{Nothing}
-use Rattle.inode.specs.Records.{recordIn, foundOf, lowestTo}
-use Rattle.inode.specs.Walk.{rest, restNodes, Onward, Inward, Ended, startOf}
-use Rattle.inode.proofs.Laws.{lowest-past, lowest-agree, empty-at}
-use Rattle.inode.proofs.Walk.{extents-start, nodes-start}
-use Rattle.marks.specs.Marks.{bit, counted, Kept, runLeft, treeLeft, reachLeft, fileBlocks, wrong, plain}
+use Rattle.inode.specs.Records.{foundOf, lowestTo}
+use Rattle.inode.proofs.Laws.{lowest-past, lowest-agree}
+use Rattle.marks.specs.Marks.{bit, counted, Kept, runLeft, reachLeft, wrong, plain}
 
 -- ---- within 42 to N-1
 
@@ -158,7 +153,7 @@ pub kept-start : (N : ℕ) (o t bs cs : List ℕ) → bs ≡ cs → Kept N o t b
 kept-start N o t bs cs e = record { once = λ x. rw e; twice = λ x. rw e }
 
 -- blocks L are bs and those of M
-abbrev Split : List ℕ → List ℕ → List ℕ → Type 0
+abbrev pub Split : List ℕ → List ℕ → List ℕ → Type 0
 Split L bs M = (x : ℕ) → occurs x L ≡ occurs x bs + occurs x M
 
 counted-split : (N : ℕ) (L bs M : List ℕ) → Split L bs M → (x : ℕ) → counted N x L ≡ counted N x bs + counted N x M
@@ -197,56 +192,7 @@ pub run-end : (a k m : ℕ) → m ≤ k → runLeft a k m ≡ []
 unfolding runLeft
 run-end a k m h = let z : m - k ≡ 0 = omega arith in rw z
 
--- ---- the tree of a file
-
-take-run : (left a n : ℕ) (ys : List ℕ) → take left (upFrom a n ++ ys) ≡ upFrom a (min n left) ++ take (left - min n left) ys
-take-run zero a n ys = let z : min n 0 ≡ 0 = omega arith in rw z
-take-run (suc left) a zero ys = let z : min 0 (suc left) ≡ 0 = omega arith in let y : suc left - 0 ≡ suc left = omega arith in rw (z, y)
-take-run (suc left) a (suc n) ys =
-    let z : min (suc n) (suc left) ≡ suc (min n left) = omega arith in
-    let y : suc left - suc (min n left) ≡ left - min n left = omega arith in
-    rw (z, y) (ap (λ (l : List ℕ). a ∷ l) (take-run left (suc a) n ys))
-
-module _ (v : Disk) (tb : ℕ) (c : Cursor) (left : ℕ) where
-  pub tree-run : (e : Extent) (d : Cursor) (n : ℕ) → Onward v tb c e d → n ≡ min (e .count) left
-      → Split (treeLeft v tb c left) (upFrom (e .first) n) (treeLeft v tb d (left - n))
-  unfolding treeLeft blocksIn
-  tree-run e d n s q x =
-      rw (s .extents, s .nodes, q, take-run left (e .first) (e .count) (blocksIn (rest v tb d)))
-      (let m = min (e .count) left in
-      let r = take (left - m) (blocksIn (rest v tb d)) in
-      omega (arith, occurs-append x (upFrom (e .first) m ++ r) (restNodes v tb d), occurs-append x (upFrom (e .first) m) r, occurs-append x r (restNodes v tb d)))
-
-  pub tree-node : (b : ℕ) (d : Cursor) → Inward v tb c b d → Split (treeLeft v tb c left) (b ∷ []) (treeLeft v tb d left)
-  unfolding treeLeft
-  tree-node b d s x =
-      rw (s .extents, s .nodes)
-      (let r = take left (blocksIn (rest v tb d)) in
-      omega (arith, occurs-append x r (b ∷ restNodes v tb d), occurs-append x r (restNodes v tb d)))
-
-  pub tree-end : Ended v tb c → treeLeft v tb c left ≡ []
-  unfolding treeLeft blocksIn
-  tree-end s = rw (s .extents, s .nodes) (go left)
-    where
-      go : (n : ℕ) → take {A = ℕ} n [] ++ [] ≡ []
-      go zero = refl
-      go (suc n) = refl
-
-pub tree-start : (v : Disk) (i tb : ℕ) (c : Cursor) → tb ≡ blockOfInode i → c ≡ startOf v i → treeLeft v tb c 2048 ≡ fileBlocks v i
-unfolding treeLeft fileBlocks dataOf
-tree-start v i tb c e f =
-    rw (e, f) (ap₂ (λ (es : List Extent) (ns : List ℕ). take 2048 (blocksIn es) ++ ns) (extents-start v i) (nodes-start v i))
-
 -- ---- the records
-
-module _ (v : Disk) (i : ℕ) (r : Bool) (e : r ≡ isEmpty v i) where
-  pub reach-none : r ≡ true → [] ≡ reachedFrom v i
-  unfolding reachedFrom
-  reach-none h = let z : isEmpty v i ≡ true = sym e ∙ h in rw z
-
-  pub reach-file : r ≡ false → fileBlocks v i ≡ reachedFrom v i
-  unfolding reachedFrom fileBlocks
-  reach-file h = let z : isEmpty v i ≡ false = sym e ∙ h in rw z
 
 -- the records from i on
 pub reach-start : (v : Disk) → reachLeft v 0 ≡ reached v
@@ -367,7 +313,7 @@ marks-say zero zero (suc (suc r)) zero p q s e f = absurd (omega arith)
 marks-say (suc zero) zero (suc (suc r)) (suc zero) p q s e f = absurd (omega arith)
 
 -- no bit of a table of zeros is set
-zero-byte : (n i : ℕ) → _≡_ {A = ℕ} (getD (replicate n 0) i 0) 0
+pub zero-byte : (n i : ℕ) → _≡_ {A = ℕ} (getD (replicate n 0) i 0) 0
 zero-byte zero i = refl
 zero-byte (suc n) zero = refl
 zero-byte (suc n) (suc i) = zero-byte n i

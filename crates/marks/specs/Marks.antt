@@ -2,15 +2,13 @@
 use Prim.Native.Nat.{ℕ, _+_, _-_, _/_, _%_, min}
 use mathlib.Core.Path.{_≡_}
 use mathlib.Core.Bool.{Bool, cond, not, _&&_, _||_, Bool·beq}
-use mathlib.Core.List.{List, _++_, map}
-use lib.ListN.{take, getD}
+use mathlib.Core.List.{List, map}
+use lib.ListN.{getD}
 use lib.Dec.{eqb}
 use Rattle.spec.specs.Bytes.{occurs, upFrom, concat}
 use Rattle.spec.specs.Bitmap.{bitsOf}
 use Rattle.spec.specs.Disk.{Disk, inData}
-use Rattle.spec.specs.Inode.{inodeAt, blocksIn, dataOf, nodesOf, reachedFrom}
-use Rattle.inode.specs.declared.Cursor.{Cursor}
-use Rattle.inode.specs.Walk.{rest, restNodes}
+use Rattle.spec.specs.Inode.{reachedFrom}
 
 -- bit x of a table
 unfoldable pub bit : List ℕ → ℕ → ℕ
@@ -25,19 +23,12 @@ pub record Kept (N : ℕ) (o t bs o′ t′ cs : List ℕ) : Type 0 where
   pub once : (x : ℕ) → min 1 (bit o x + counted N x bs) ≡ min 1 (bit o′ x + counted N x cs)
   pub twice : (x : ℕ) → min 2 (bit o x + bit t x + counted N x bs) ≡ min 2 (bit o′ x + bit t′ x + counted N x cs)
 
--- what is left: of m blocks from a on after the first k; of a file at a cursor, with so many data blocks to come; of the records from i on
+-- what is left: of m blocks from a on after the first k; of the records from i on
 unfoldable pub runLeft : ℕ → ℕ → ℕ → List ℕ
 runLeft a k m = upFrom (a + k) (m - k)
 
-unfoldable pub treeLeft : Disk → ℕ → Cursor → ℕ → List ℕ
-treeLeft v tb c left = take left (blocksIn (rest v tb c)) ++ restNodes v tb c
-
 unfoldable pub reachLeft : Disk → ℕ → List ℕ
 reachLeft v i = concat (map (reachedFrom v) (upFrom i (128 - i)))
-
--- the blocks of file i
-unfoldable pub fileBlocks : Disk → ℕ → List ℕ
-fileBlocks v i = dataOf v (inodeAt v i) ++ nodesOf v (inodeAt v i)
 
 -- whether the bit of block b is wrong
 unfoldable pub wrong : ℕ → List ℕ → List ℕ → List ℕ → ℕ → Bool

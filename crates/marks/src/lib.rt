@@ -2,29 +2,15 @@
 use bitmap::known;
 use bitmap::set_bit;
 use block::DiskBlock;
-use block::copy_of;
 use block::in_data;
-use inode::Cursor;
 use inode::Found;
-use inode::Step;
-use inode::inode_block;
-use inode::is_empty;
-use inode::next;
-use inode::start;
-use inode::table_block;
-use spec::Limits;
-use spec::Session;
-use transaction::view_block;
 ghost use mathlib.Core.Path.{_≡_};
 ghost use mathlib.Core.List.{[], _∷_};
-ghost use Prim.Native.Nat.{_+_, _≤_, _<_, min};
+ghost use Prim.Native.Nat.{_≤_, _<_};
 ghost use lib.Dec.{eqb};
 ghost use Rattle.spec.specs.Bytes.{upFrom};
-ghost use Rattle.spec.specs.Inode.{reachedFrom, reached};
-ghost use Rattle.spec.specs.Sound.{blockFault};
-ghost use Rattle.spec.specs.Transaction.{view, stateOf};
-ghost use Rattle.inode.specs.Records.{foundOf, lowestTo};
-ghost use Rattle.marks.specs.Marks.{bit, Kept, fileBlocks, wrong, plain};
+ghost use Rattle.inode.specs.Records.{lowestTo};
+ghost use Rattle.marks.specs.Marks.{bit, Kept, wrong, plain};
 
 // The bits of a table, one to a block; a byte holds eight.
 const BITS: u32 = 4096;
@@ -40,7 +26,7 @@ fn bit_is(t: &[u8; 512], b: u32) -> bool
 }
 
 // Block b reached: marked in `once`, or in `twice` where it was marked before. A block outside 42 to N-1 does not count.
-fn mark(once: &mut [u8; 512], twice: &mut [u8; 512], blocks: usize, b: u32)
+pub fn mark(once: &mut [u8; 512], twice: &mut [u8; 512], blocks: usize, b: u32)
     requires { ⌜ blocks ≤ 4096 ⌝ }
     ensures { λ _. ⌜ Kept blocks (now (once .exit)) (now (twice .exit)) [] (now (once .entry)) (now (twice .entry)) (b ∷ []) ⌝ }
 {
@@ -57,7 +43,7 @@ fn mark(once: &mut [u8; 512], twice: &mut [u8; 512], blocks: usize, b: u32)
 }
 
 // `count` blocks from `first` on reached.
-fn mark_run(once: &mut [u8; 512], twice: &mut [u8; 512], blocks: usize, first: u32, count: u32)
+pub fn mark_run(once: &mut [u8; 512], twice: &mut [u8; 512], blocks: usize, first: u32, count: u32)
     requires { ⌜ (blocks ≤ 4096) × (first < 65536) × (count < 65536) ⌝ }
     ensures { λ _. ⌜ Kept blocks (now (once .exit)) (now (twice .exit)) [] (now (once .entry)) (now (twice .entry)) (upFrom first count) ⌝ }
 {
@@ -65,88 +51,6 @@ fn mark_run(once: &mut [u8; 512], twice: &mut [u8; 512], blocks: usize, first: u
     while k < count {
         mark(once, twice, blocks, first + k);
         k += 1;
-    }
-}
-
-fn least(a: u32, b: u32) -> u32
-    ensures { λ r. ⌜ r ≡ min a b ⌝ }
-{
-    if a < b { a } else { b }
-}
-
-// The blocks of file i reached: its nodes, and the most data blocks that a file has.
-fn mark_file<'a>(
-    once: &mut [u8; 512],
-    twice: &mut [u8; 512],
-    device: &'a [u8],
-    work: &'a [u8],
-    s: Session,
-    blocks: usize,
-    i: usize,
-)
-    requires { ⌜ (blocks ≤ 4096) × (i < 128) ⌝ }
-    ensures { λ _. ⌜ Kept blocks (now (once .exit)) (now (twice .exit)) [] (now (once .entry)) (now (twice .entry))
-        (fileBlocks (view (stateOf s (now (device .entry)) (now (work .entry)))) i) ⌝ }
-{
-    let tb = table_block(i);
-    let mut at = start(device, work, s, i);
-    let mut left: u32 = 2048;
-    loop {
-        match next(device, work, s, tb, at) {
-            Step::Leaf(e, then) => {
-                let n = least(e.count, left);
-                mark_run(once, twice, blocks, e.first, n);
-                left -= n;
-                at = then;
-            }
-            Step::Node(b, then) => {
-                mark(once, twice, blocks, b);
-                at = then;
-            }
-            Step::End => {
-                return;
-            }
-        }
-    }
-}
-
-// The blocks of record i reached.
-fn mark_record<'a>(
-    once: &mut [u8; 512],
-    twice: &mut [u8; 512],
-    device: &'a [u8],
-    work: &'a [u8],
-    s: Session,
-    blocks: usize,
-    i: usize,
-)
-    requires { ⌜ (blocks ≤ 4096) × (i < 128) ⌝ }
-    ensures { λ _. ⌜ Kept blocks (now (once .exit)) (now (twice .exit)) [] (now (once .entry)) (now (twice .entry))
-        (reachedFrom (view (stateOf s (now (device .entry)) (now (work .entry)))) i) ⌝ }
-{
-    if is_empty(inode_block(device, work, s, i), i) {
-        return;
-    }
-    mark_file(once, twice, device, work, s, blocks, i);
-}
-
-// The blocks of all records reached.
-fn mark_all<'a>(
-    once: &mut [u8; 512],
-    twice: &mut [u8; 512],
-    device: &'a [u8],
-    work: &'a [u8],
-    s: Session,
-    blocks: usize,
-)
-    requires { ⌜ blocks ≤ 4096 ⌝ }
-    ensures { λ _. ⌜ Kept blocks (now (once .exit)) (now (twice .exit)) [] (now (once .entry)) (now (twice .entry))
-        (reached (view (stateOf s (now (device .entry)) (now (work .entry))))) ⌝ }
-{
-    let mut i: usize = 0;
-    while i < Limits::INODE_COUNT {
-        mark_record(once, twice, device, work, s, blocks, i);
-        i += 1;
     }
 }
 
@@ -173,7 +77,7 @@ fn is_plain(once: &[u8; 512], twice: &[u8; 512], bitmap: &[u8; 512], blocks: usi
 }
 
 // The lowest block whose bit is wrong.
-fn lowest_wrong(once: &[u8; 512], twice: &[u8; 512], bitmap: &[u8; 512], blocks: usize) -> Found
+pub fn lowest_wrong(once: &[u8; 512], twice: &[u8; 512], bitmap: &[u8; 512], blocks: usize) -> Found
     requires { ⌜ blocks ≤ 4096 ⌝ }
     ensures { λ r. ⌜ r ≡ lowestTo 4096 (wrong blocks (now (once .entry)) (now (twice .entry)) (now (bitmap .entry))) 0 ⌝ }
 {
@@ -192,16 +96,4 @@ fn lowest_wrong(once: &[u8; 512], twice: &[u8; 512], bitmap: &[u8; 512], blocks:
         }
     }
     Found::Nothing
-}
-
-// The lowest block that is not sound.
-pub fn block_fault<'a>(device: &'a [u8], work: &'a [u8], s: Session, blocks: usize) -> Found
-    requires { ⌜ blocks ≤ 4096 ⌝ }
-    ensures { λ r. ⌜ r ≡ foundOf (blockFault blocks (view (stateOf s (now (device .entry)) (now (work .entry))))) ⌝ }
-{
-    let mut once = [0u8; 512];
-    let mut twice = [0u8; 512];
-    mark_all(&mut once, &mut twice, device, work, s, blocks);
-    let bitmap = copy_of(view_block(device, work, s, DiskBlock(33)));
-    lowest_wrong(&once, &twice, &bitmap, blocks)
 }

@@ -1,7 +1,8 @@
-use mathlib.Core.Path.{ap}
+use mathlib.Core.Path.{ap, _∙_}
 use native.Mathlib.Omega.{arith}
+use Rattle.spec.specs.Disk.{blocksOf}
 use Rattle.fsck.specs.declared.Run.{Run}
-use Rattle.fsck.proofs.Shape.{flat-by}
+use Rattle.fsck.proofs.Shape.{flat-marked}
 use borrow.Author.Needs.{needs}
 use Rattle.fsck.proofs.flat_sound.Statement.{statement}
 use Rattle.fsck.proofs.flat_sound.Tie as tie
@@ -9,23 +10,20 @@ use Rattle.fsck.proofs.flat_sound.Tie as tie
 table-block-requires : tie.Need-table-block-requires
 table-block-requires c κs = search needs
 
-mul-run-over : tie.Need-mul-run-over
-mul-run-over c = search needs
+block-at-requires : tie.Need-block-at-requires
+block-at-requires c κs = search needs
 
-add-run-over : tie.Need-add-run-over
-add-run-over c = search needs
+mul-at : tie.Need-mul-at
+mul-at c = search needs
+
+add-at : tie.Need-add-at
+add-at c = search needs
 
 no-run-requires : tie.Need-no-run-requires
 no-run-requires c κs = search needs
 
-run-over-requires : tie.Need-run-over-requires
-run-over-requires c κs = let z = c .no-run .ensures in (omega arith, omega (arith, ap (λ (x : Run). x .extents) z), omega (arith, ap (λ (x : Run). x .blocks) z))
-
-inode-block-requires : tie.Need-inode-block-requires
-inode-block-requires c κs = search needs
-
-is-packed-requires : tie.Need-is-packed-requires
-is-packed-requires c κs = let z = c .before .before .no-run .ensures in omega (arith, c .before .run-over .ensures .1, ap (λ (x : Run). x .extents) z)
+extents-over-requires : tie.Need-extents-over-requires
+extents-over-requires c κs = let z = c .no-run .ensures in (c .before .before .before .before .before .before .pre .0, omega arith, omega (arith, ap (λ (x : Run). x .extents) z), omega (arith, ap (λ (x : Run). x .blocks) z))
 
 last-clear-requires : tie.Need-last-clear-requires
 last-clear-requires c κs = search needs
@@ -34,20 +32,19 @@ blocks-for-requires : tie.Need-blocks-for-requires
 blocks-for-requires c κs = search needs
 
 returns : tie.Need-returns
-returns c = let p = c .before .before .before .before .before .before .before .before .before .before .before .before .pre in let r = c .before .before .before .before .before .before .before .run-over .ensures in
-    flat-by _ _ _ _ _ (c .before .before .before .before .before .before .inode-block .result .now) (c .before .before .before .before .before .before .inode-block .ensures) (c .before .before .before .before .before .before .before .before .before .table-block .ensures) (p .1) (p .2) (p .3) _ _ _ _ _ (c .before .before .before .before .before .before .before .before .no-run .ensures) (r .0) (r .1) (c .before .before .before .before .before .is-packed .ensures) (c .before .before .before .before .last-clear .ensures) (c .before .before .before .blocks-for .ensures)
+returns c = let p = c .before .before .before .before .before .before .before .before .before .before .before .before .before .before .pre in let x = c .before .before .before .before .before .before .before .extents-over .ensures in
+    flat-marked _ _ _ _ _ (c .before .before .before .before .before .before .before .before .before .before .before .block-at .ensures ∙ ap (blocksOf (c .before .before .before .before .before .before .before .before .before .before .before .before .before .before .args .device .now)) (c .before .before .before .before .before .before .before .before .before .before .before .before .table-block .ensures)) (p .2) (p .3) (p .4) _ _ _ _ _ _ _ _ _ (c .before .before .before .before .before .before .before .before .no-run .ensures) (x .0) (x .1) (x .2) (x .4) (c .before .before .before .before .before .last-clear .ensures) (c .before .before .before .before .blocks-for .ensures)
 
 pub flat-sound-spec : {M : Type 1} → statement M
 flat-sound-spec =
     tie.close
     (tie.spec
     table-block-requires
-    mul-run-over
-    add-run-over
+    block-at-requires
+    mul-at
+    add-at
     no-run-requires
-    run-over-requires
-    inode-block-requires
-    is-packed-requires
+    extents-over-requires
     last-clear-requires
     blocks-for-requires
     returns)

@@ -1,46 +1,79 @@
-use mathlib.Core.Path.{ap, _∙_}
-use borrow.Author.Tests.{not-true, not-false}
-use Rattle.spec.specs.Bytes.{allZero}
-use Rattle.inode.proofs.Laws.{empty-at, record-at}
-use Rattle.fsck.proofs.Shape.{inode-empty, inode-off, inode-on}
+use mathlib.Core.Path.{ap, sym, _∙_}
+use borrow.Author.Tests.{eq-eqb, ne-eqb}
+use lib.ListN.{getD}
+use Rattle.spec.specs.Disk.{blocksOf}
+use Rattle.block.proofs.Laws.{block-length}
+use Rattle.fsck.proofs.Names.{empty-by, first-off, first-on}
+use Rattle.fsck.proofs.Shape.{rest-zero, inode-empty, inode-off, inode-on}
 use borrow.Author.Needs.{needs}
 use Rattle.fsck.proofs.inode_sound.Statement.{statement}
 use Rattle.fsck.proofs.inode_sound.Tie as tie
 
-inode-block-requires : tie.Need-inode-block-requires
-inode-block-requires c κs = search needs
+mul-if1 : tie.Need-mul-if1
+mul-if1 c = search needs
 
-is-empty-requires : tie.Need-is-empty-requires
-is-empty-requires c κs = search needs
+element-copy-out-if1 : tie.Need-element-copy-out-if1
+element-copy-out-if1 c = search needs
 
-is-zero-requires : tie.Need-is-zero-requires
-is-zero-requires c κs = search needs
+mul-at : tie.Need-mul-at
+mul-at c = search needs
+
+table-block-requires : tie.Need-table-block-requires
+table-block-requires c κs = search needs
+
+block-at-requires : tie.Need-block-at-requires
+block-at-requires c κs = search needs
+
+add-clear-in : tie.Need-add-clear-in
+add-clear-in c = search needs
+
+add-clear-in-2 : tie.Need-add-clear-in-2
+add-clear-in-2 c = search needs
+
+clear-in-requires : tie.Need-clear-in-requires
+clear-in-requires c κs = search needs
 
 returns : tie.Need-returns
-returns c = let t = c .before .before .before .inode-block .ensures in
-    inode-empty _ _ _ _ (c .before .before .is-empty .ensures ∙ empty-at _ _ _ t) _ (c .before .if1 .taken) (c .is-zero .ensures ∙ ap allZero (record-at _ _ _ t))
+returns c = let a = c .before .before .before .before .before .before .args in let p = c .before .before .before .before .before .before .pre in let v = blocksOf (a .device .now) in let x = getD (a .numbers .now) (a .i) 0 in
+    let e = empty-by v (block-length (a .device .now)) (a .numbers .now) (a .i) (p .2) (p .1) in let h = eq-eqb x 0 (c .before .before .before .if1 .taken) in
+    inode-empty _ v (a .i) _ e _ _ _ h (rest-zero v _ (a .i) _ (c .before .block-at .ensures ∙ ap v (c .before .before .table-block .ensures)) (sym e ∙ h) (c .clear-in .ensures))
 
-first-of-name-requires : tie.Need-first-of-name-requires
-first-of-name-requires c κs = search needs
+earlier-requires : tie.Need-earlier-requires
+earlier-requires c κs = search needs
 
-returns-2 : tie.Need-returns-2
-returns-2 c = inode-off _ _ _ _ (c .before .before .before .is-empty .ensures ∙ empty-at _ _ _ (c .before .before .before .before .inode-block .ensures)) _ (c .before .before .if1 .left) (c .before .first-of-name .ensures) (not-true _ (c .if2 .taken))
+enum-told : tie.Need-enum-told
+enum-told c = search needs
+
+enum-told-2 : tie.Need-enum-told-2
+enum-told-2 c = search needs
 
 file-sound-requires : tie.Need-file-sound-requires
 file-sound-requires c κs = search needs
 
+returns-2 : tie.Need-returns-2
+returns-2 c = let a = c .before .before .before .before .before .before .args in let p = c .before .before .before .before .before .before .pre in let v = blocksOf (a .device .now) in let x = getD (a .numbers .now) (a .i) 0 in let f = block-length (a .device .now) in
+    inode-off _ v (a .i) _ (empty-by v f (a .numbers .now) (a .i) (p .2) (p .1)) (ne-eqb x 0 (c .before .before .before .if1 .left)) _ _ _ (first-off v f (a .numbers .now) (a .i) (p .2) (p .1) _ (c .before .before .earlier .ensures) _ (c .enum-told .given .1))
+
 returns-3 : tie.Need-returns-3
-returns-3 c = inode-on _ _ _ _ (c .before .before .before .before .is-empty .ensures ∙ empty-at _ _ _ (c .before .before .before .before .before .inode-block .ensures)) _ (c .before .before .before .if1 .left) (c .before .before .first-of-name .ensures) _ (not-false _ (c .before .if2 .left)) (c .file-sound .ensures)
+returns-3 c = let a = c .before .before .before .before .before .before .before .before .before .args in let p = c .before .before .before .before .before .before .before .before .before .pre in let v = blocksOf (a .device .now) in let x = getD (a .numbers .now) (a .i) 0 in let f = block-length (a .device .now) in
+    inode-on _ v (a .i) _ (empty-by v f (a .numbers .now) (a .i) (p .2) (p .1)) (ne-eqb x 0 (c .before .before .before .before .before .before .if1 .left)) _ _ _ _ _ (first-on v f (a .numbers .now) (a .i) (p .2) (p .1) _ (c .before .before .before .before .before .earlier .ensures) (c .before .before .before .enum-told2 .given .1)) (c .file-sound .ensures)
 
 pub inode-sound-spec : {M : Type 1} → statement M
 inode-sound-spec =
     tie.close
     (tie.spec
-    inode-block-requires
-    is-empty-requires
-    is-zero-requires
+    mul-if1
+    element-copy-out-if1
+    mul-at
+    table-block-requires
+    block-at-requires
+    add-clear-in
+    add-clear-in-2
+    clear-in-requires
     returns
-    first-of-name-requires
-    returns-2
+    earlier-requires
+    enum-told
+    enum-told-2
     file-sound-requires
+    returns-2
     returns-3)

@@ -1,60 +1,48 @@
-use mathlib.Core.Path.{ap, _∙_}
 use native.Mathlib.Omega.{arith}
-use Rattle.spec.specs.Transaction.{view, stateOf}
-use Rattle.inode.specs.Walk.{leaf, weight}
-use Rattle.inode.proofs.Walk.{on-leaf, on-node, on-end}
-use Rattle.fsck.specs.Runs.{noNodes}
-use Rattle.fsck.specs.declared.Nodes.{Nodes}
-use Rattle.fsck.proofs.Walks.{Noding, noding-start, noding-leaf, noding-node, noding-end}
+use lib.ListN.{drop}
+use Rattle.spec.specs.Bytes.{exactly}
+use Rattle.spec.specs.Disk.{blocksOf}
+use Rattle.spec.specs.Inode.{slotsIn}
+use Rattle.fsck.proofs.Walks.{Noding, noding-start, noding-more, noding-end}
 use borrow.Author.Needs.{needs}
 use Rattle.fsck.proofs.nodes_over.Statement.{statement}
 use Rattle.fsck.proofs.nodes_over.Tie as tie
 
 abbrev Inv-loop : tie.InvT-loop
-Inv-loop device work s blocks k b at cur₀ f₀ cur f = Noding blocks k (view (stateOf s device work)) cur f noNodes (leaf (view (stateOf s device work)) b at 4)
+Inv-loop once₀ twice₀ device table blocks k at f₀ more₀ packed₀ p₀ left₀ once twice f more packed p left =
+    Noding blocks k (blocksOf device) (exactly 512 table) once twice f more packed p left once₀ twice₀ (slotsIn 4 (drop at (exactly 512 table)))
 
 abbrev μ-loop : tie.MeasureT-loop
-μ-loop device work s blocks k b at cur₀ f₀ cur f = weight cur
-
-region-requires : tie.Need-region-requires Inv-loop μ-loop
-region-requires c κs = search needs
+μ-loop once₀ twice₀ device table blocks k at f₀ more₀ packed₀ p₀ left₀ once twice f more packed p left =
+    left
 
 no-nodes-requires : tie.Need-no-nodes-requires Inv-loop μ-loop
 no-nodes-requires c κs = search needs
 
 loop-holds : tie.Need-loop-holds Inv-loop μ-loop
-loop-holds c = noding-start _ _ _ _ _ _ _ _ (c .before .region .ensures) (c .no-nodes .ensures) (ap (λ (x : Nodes). x .run .extents) (c .no-nodes .ensures)) (ap (λ (x : Nodes). x .run .blocks) (c .no-nodes .ensures))
+loop-holds c = noding-start _ _ _ _ _ _ _ _ (c .no-nodes .ensures) (c .before .before .before .pre .1)
 
-next-requires : tie.Need-next-requires Inv-loop μ-loop
-next-requires c κs = search needs
-
-enum-known-e : tie.Need-enum-known-e Inv-loop μ-loop
-enum-known-e c = search needs
+slot-in-requires : tie.Need-slot-in-requires Inv-loop μ-loop
+slot-in-requires c κs = omega (arith, c .before .loop .inv .room)
 
 with-node-requires : tie.Need-with-node-requires Inv-loop μ-loop
-with-node-requires c κs = let o = on-leaf _ _ _ _ _ _ (c .before .before .before .next .ensures) (c .before .e .given .1) in let h = c .before .before .before .before .loop .inv in (omega (arith, h .few, o .less), omega (arith, h .small, o .less))
+with-node-requires c κs = let e = c .before .before .slot-in .ensures in let g = c .before .before .before .before .loop .inv in let l = c .before .before .before .loop-test .taken in (c .before .before .before .before .before .before .before .before .pre .0, e .2, omega (arith, g .few), omega (arith, g .small), omega (arith, g .tops), omega (arith, g .counts))
+
+add-p : tie.Need-add-p Inv-loop μ-loop
+add-p c = omega (arith, c .before .before .before .before .before .before .before .before .loop .inv .room)
+
+sub-left : tie.Need-sub-left Inv-loop μ-loop
+sub-left c = omega (arith, c .before .before .before .before .before .before .before .loop-test .taken)
 
 loop-less : tie.Need-loop-less Inv-loop μ-loop
-loop-less c = on-leaf _ _ _ _ _ _ (c .before .before .before .before .next .ensures) (c .before .before .e .given .1) .less
+loop-less c = omega (arith, c .before .before .before .before .before .before .before .loop-test .taken)
 
 loop-again : tie.Need-loop-again Inv-loop μ-loop
-loop-again c = let w = c .with-node .ensures in
-    noding-leaf _ _ _ _ _ _ _ (c .before .before .before .before .before .loop .inv) _ _ _ (on-leaf _ _ _ _ _ _ (c .before .before .before .before .next .ensures) (c .before .before .e .given .1)) (w .0) (w .1) (w .2)
-
-enum-known-then : tie.Need-enum-known-then Inv-loop μ-loop
-enum-known-then c = search needs
-
-loop-less-2 : tie.Need-loop-less-2 Inv-loop μ-loop
-loop-less-2 c = on-node _ _ _ _ _ _ (c .before .before .before .next .ensures) (c .before .then .given .1) .less
-
-loop-again-2 : tie.Need-loop-again-2 Inv-loop μ-loop
-loop-again-2 c = noding-node _ _ _ _ _ _ _ (c .before .before .before .before .loop .inv) _ _ (on-node _ _ _ _ _ _ (c .before .before .before .next .ensures) (c .before .then .given .1))
-
-enum-told : tie.Need-enum-told Inv-loop μ-loop
-enum-told c = search needs
+loop-again c = let e = c .before .before .before .before .before .before .slot-in .ensures in let w = c .before .before .before .with-node .ensures in
+    noding-more _ _ _ _ _ _ _ _ _ _ _ _ _ _ (c .before .before .before .before .before .before .before .before .loop .inv) _ _ _ _ (c .before .before .before .before .before .before .before .loop-test .taken) (e .0) (e .2) (w .0) (w .1) (w .2) (w .3)
 
 returns : tie.Need-returns Inv-loop μ-loop
-returns c = noding-end _ _ _ _ _ _ _ (c .before .before .before .loop .inv) (on-end _ _ _ _ (c .before .before .next .ensures) (c .enum-told .given .1))
+returns c = noding-end _ _ _ _ _ _ _ _ _ _ _ _ _ _ (c .before .loop .inv) (omega (arith, c .loop-test .left))
 
 pub nodes-over-spec : {M : Type 1} → statement M
 nodes-over-spec =
@@ -62,16 +50,12 @@ nodes-over-spec =
     (tie.spec
     Inv-loop
     μ-loop
-    region-requires
     no-nodes-requires
     loop-holds
-    next-requires
-    enum-known-e
+    slot-in-requires
     with-node-requires
+    add-p
+    sub-left
     loop-less
     loop-again
-    enum-known-then
-    loop-less-2
-    loop-again-2
-    enum-told
     returns)

@@ -1,47 +1,60 @@
+use Rattle.spec.specs.Disk.{blocksOf}
 use native.Mathlib.Omega.{arith}
-use Rattle.fsck.proofs.Walks.{node-used, node-count, node-by}
+use Rattle.fsck.proofs.Walks.{node-off, node-used, node-count, node-on, node-marks}
 use borrow.Author.Needs.{needs}
 use Rattle.fsck.proofs.with_node.Statement.{statement}
 use Rattle.fsck.proofs.with_node.Tie as tie
 
-run-over-requires : tie.Need-run-over-requires
-run-over-requires c κs = (omega arith, omega (arith, c .before .before .before .pre), omega (arith, c .before .before .before .pre))
+returns : tie.Need-returns
+returns c = node-off _ _ _ _ _ _ _ _ (c .if1 .taken)
 
-sub-used : tie.Need-sub-used
-sub-used c = omega (arith, node-used _ _ _ (c .before .before .before .before .before .before .args .f) (c .before .before .before .before .before .before .args .e) _ (c .before .before .run-over .ensures .0))
+mark-requires : tie.Need-mark-requires
+mark-requires c κs = search needs
 
-view-block-requires : tie.Need-view-block-requires
-view-block-requires c κs = search needs
+block-at-requires : tie.Need-block-at-requires
+block-at-requires c κs = search needs
 
-mul-clear-in : tie.Need-mul-clear-in
-mul-clear-in c = search needs
-
-clear-in-requires : tie.Need-clear-in-requires
-clear-in-requires c κs = omega (arith, c .before .before .before .run-over .ensures .1)
+extents-over-requires : tie.Need-extents-over-requires
+extents-over-requires c κs = search needs
 
 in-data-requires : tie.Need-in-data-requires
 in-data-requires c κs = search needs
 
 sub-count : tie.Need-sub-count
-sub-count c = omega (arith, node-count _ _ _ (c .before .before .before .before .before .before .before .before .before .before .before .args .f) (c .before .before .before .before .before .before .before .before .before .before .before .args .e) _ (c .before .before .before .before .before .before .before .run-over .ensures .0))
+sub-count c = let a = c .before .before .before .before .before .before .before .before .before .before .before .before .before .before .before .args in omega (arith, node-count _ _ (blocksOf (a .device .now)) (a .f) (a .e) _ _ (c .before .before .before .before .before .before .before .block-at .ensures) (c .before .before .before .before .extents-over .ensures .0))
 
-cast-t16 : tie.Need-cast-t16
-cast-t16 c = search needs
+cast-t24 : tie.Need-cast-t24
+cast-t24 c = search needs
 
-returns : tie.Need-returns
-returns c = let r = c .before .before .before .before .before .before .before .before .before .before .before .run-over .ensures in
-    (node-by _ _ _ (c .before .before .before .before .before .before .before .before .before .before .before .before .before .before .before .args .f) (c .before .before .before .before .before .before .before .before .before .before .before .before .before .before .before .args .e) _ (r .0) _ _ _ (c .before .before .before .before .before .before .before .before .view-block .ensures) (c .before .before .before .before .before .before .in-data .ensures) (c .before .before .before .before .before .before .before .clear-in .ensures), r .1, r .2)
+sub-t27 : tie.Need-sub-t27
+sub-t27 c = let a = c .before .before .before .before .before .before .before .before .before .before .before .before .before .before .before .before .before .before .before .before .before .before .args in omega (arith, node-used _ _ (blocksOf (a .device .now)) (a .f) (a .e) _ _ (c .before .before .before .before .before .before .before .before .before .before .before .before .before .before .block-at .ensures) (c .before .before .before .before .before .before .before .before .before .before .before .extents-over .ensures .0))
+
+add-t29 : tie.Need-add-t29
+add-t29 c = omega (arith, c .before .before .before .before .before .before .before .before .before .before .before .before .before .before .before .before .before .before .before .before .before .before .before .pre .4)
+
+cast-t30 : tie.Need-cast-t30
+cast-t30 c = search needs
+
+add-t31 : tie.Need-add-t31
+add-t31 c = omega (arith, c .before .before .before .before .before .before .before .before .before .before .before .before .before .before .before .before .before .before .before .before .before .before .before .before .before .pre .5, c .before .before .before .before .before .before .before .before .before .before .before .before .before .before .before .before .before .before .before .before .before .before .before .before .before .pre .1)
+
+returns-2 : tie.Need-returns-2
+returns-2 c = let a = c .before .before .before .before .before .before .before .before .before .before .before .before .before .before .before .before .before .before .before .before .before .before .before .before .before .args in let w = c .before .before .before .before .before .before .before .before .before .before .before .before .before .before .extents-over .ensures in let b = c .before .before .before .before .before .before .before .before .before .before .before .before .before .before .before .before .before .block-at .ensures in let y = c .before .before .before .before .before .before .before .before .before .before .before .before .before .before .before .before .before .before .before .before .before .before .if1 .left in
+    (node-on _ _ _ (a .f) (a .e) _ _ b (w .0) _ _ _ y (w .1) (c .before .before .before .before .before .before .before .before .before .before .before .before .in-data .ensures), w .2, w .3, node-marks _ _ _ (a .f) (a .e) _ _ b (w .0) _ _ _ _ _ _ _ y (c .before .before .before .before .before .before .before .before .before .before .before .before .before .before .before .before .before .before .mark .ensures) (w .4))
 
 pub with-node-spec : {M : Type 1} → statement M
 with-node-spec =
     tie.close
     (tie.spec
-    run-over-requires
-    sub-used
-    view-block-requires
-    mul-clear-in
-    clear-in-requires
+    returns
+    mark-requires
+    block-at-requires
+    extents-over-requires
     in-data-requires
     sub-count
-    cast-t16
-    returns)
+    cast-t24
+    sub-t27
+    add-t29
+    cast-t30
+    add-t31
+    returns-2)

@@ -1,0 +1,31 @@
+-- The blocks that the walk over a file's tree marks.
+use Prim.Native.Nat.{ℕ, _-_}
+use mathlib.Core.Path.{_≡_}
+use mathlib.Core.Bool.{Bool, true, cond}
+use mathlib.Core.List.{List, [], _++_, map}
+use lib.ListN.{take}
+use Rattle.spec.specs.declared.Extent.{Extent}
+use Rattle.spec.specs.Disk.{Disk}
+use Rattle.spec.specs.Inode.{inodeAt, used, below, blocksIn, dataOf, nodesOf}
+use Rattle.marks.specs.Marks.{Kept}
+
+-- the used ones of some slots; none is used behind one that is not
+unfoldable pub usedFrom : Bool → List Extent → List Extent
+usedFrom more slots = cond more (used slots) []
+
+-- the blocks of extents that n blocks of their file come before: no file has more than 2,048
+unfoldable pub blocksFrom : ℕ → List Extent → List ℕ
+blocksFrom n es = take (2048 - n) (blocksIn es)
+
+-- those of the extents below some nodes, and these nodes
+unfoldable pub treeFrom : Disk → ℕ → List Extent → List ℕ
+treeFrom v n ts = blocksFrom n (below v ts) ++ map (λ e. e .first) ts
+
+-- the blocks of file i
+unfoldable pub fileBlocks : Disk → ℕ → List ℕ
+fileBlocks v i = dataOf v (inodeAt v i) ++ nodesOf v (inodeAt v i)
+
+-- a test answers what is defined, and if it passes it has marked these blocks
+pub record Marked (N : ℕ) (r defined : Bool) (o t o′ t′ bs : List ℕ) : Type 0 where
+  pub answer : r ≡ defined
+  pub marks : r ≡ true → Kept N o t [] o′ t′ bs

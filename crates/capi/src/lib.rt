@@ -1,0 +1,325 @@
+// The calls of the store for C: structs of numbers by value, and lent slices, each a pointer and a length. include/purse.h declares them.
+// Each promise: all that is returned and left is the call's outcome, in numbers, at the session that the numbers given stand for.
+// A refusal hands back that session in its own numbers: phase 0 where the number given was none, place 0 where the phase has none.
+use block::ByteOffset;
+use block::FileBlock;
+use mirror::CAdvanced;
+use mirror::CCommitted;
+use mirror::CCounted;
+use mirror::CFinished;
+use mirror::CRecord;
+use mirror::CRun;
+use mirror::CSession;
+use mirror::advanced;
+use mirror::committed;
+use mirror::counted;
+use mirror::decode;
+use mirror::finished;
+use mirror::recorded;
+use mirror::run;
+use runlist::count_checked;
+use runlist::how_many;
+use runlist::nth;
+use spec::Session;
+use store::abort;
+use store::advance;
+use store::commit;
+use store::create;
+use store::format;
+use store::free_count;
+use store::nth_extent;
+use store::open_store;
+use store::read;
+use store::record_at;
+use store::remove;
+use store::rename;
+use store::set_size;
+use store::size;
+use store::write;
+ghost use mathlib.Core.Path.{_≡_};
+ghost use mathlib.Core.List.{List};
+ghost use Prim.Native.Nat.{ℕ, _*_, _≤_};
+ghost use lib.ListN.{length, take};
+ghost use Rattle.spec.specs.Transaction.{stateOf};
+ghost use Rattle.spec.specs.Calls.{format, openStore, advance, commit, abort, create, remove, rename, write, setSize, read, sizeOf, freeCount, recordAt, nthExtent, runList};
+ghost use Rattle.runlist.specs.Lists.{namedRuns};
+ghost use Rattle.mirror.specs.Mirror.{decode, countedOf, recordedOf, runOf, Finishes, Commits, Advances, Reads, Lists, extentsOf, withExtents};
+
+// Makes an empty store. The work space is not lent: whatever it holds stays.
+#[no_mangle]
+pub extern "C" fn purse_format_v(device: &mut [u8], session: CSession) -> CFinished
+    ensures { λ r. ⌜ ((work : List ℕ) → Finishes r (now (device .exit)) work (format (stateOf (decode session) (now (device .entry)) work))) ⌝ }
+{
+    let before = decode(session);
+    let after = format(device, before);
+    finished(after)
+}
+
+// Opens a device: recovering where its header lists targets, else ready.
+#[no_mangle]
+pub extern "C" fn purse_open_v(device: &[u8], session: CSession) -> CFinished
+    ensures { λ r. ⌜ ((work : List ℕ) → Finishes r (now (device .entry)) work (openStore (stateOf (decode session) (now (device .entry)) work))) ⌝ }
+{
+    let before = decode(session);
+    let after = open_store(device, before);
+    finished(after)
+}
+
+// Stores the next block of a commit or a recovery under way.
+#[no_mangle]
+pub extern "C" fn purse_advance_v(device: &mut [u8], work: &[u8], session: CSession) -> CAdvanced
+    ensures { λ r. ⌜ Advances r (now (device .exit)) (now (work .entry))
+        (advance (stateOf (decode session) (now (device .entry)) (now (work .entry)))) ⌝ }
+{
+    let before = decode(session);
+    let after = advance(device, work, before);
+    advanced(after)
+}
+
+// Starts the stores of a commit and tells how many they are.
+#[no_mangle]
+pub extern "C" fn purse_commit_v(device: &[u8], work: &[u8], session: CSession) -> CCommitted
+    ensures { λ r. ⌜ Commits r (now (device .entry)) (now (work .entry))
+        (commit (stateOf (decode session) (now (device .entry)) (now (work .entry)))) ⌝ }
+{
+    let before = decode(session);
+    let after = commit(device, work, before);
+    committed(after)
+}
+
+// Empties the transaction.
+#[no_mangle]
+pub extern "C" fn purse_abort_v(device: &[u8], work: &[u8], session: CSession) -> CFinished
+    ensures { λ r. ⌜ Finishes r (now (device .entry)) (now (work .entry))
+        (abort (stateOf (decode session) (now (device .entry)) (now (work .entry)))) ⌝ }
+{
+    let before = decode(session);
+    let after = abort(device, work, before);
+    finished(after)
+}
+
+// Makes an empty file.
+#[no_mangle]
+pub extern "C" fn purse_create_v(
+    device: &[u8],
+    work: &mut [u8],
+    session: CSession,
+    name: &[u8],
+) -> CFinished
+    ensures { λ r. ⌜ Finishes r (now (device .entry)) (now (work .exit))
+        (create (stateOf (decode session) (now (device .entry)) (now (work .entry))) (now (name .entry))) ⌝ }
+{
+    let before = decode(session);
+    let after = create(device, work, before, name);
+    finished(after)
+}
+
+// Removes a file.
+#[no_mangle]
+pub extern "C" fn purse_remove_v(
+    device: &[u8],
+    work: &mut [u8],
+    session: CSession,
+    name: &[u8],
+) -> CFinished
+    ensures { λ r. ⌜ Finishes r (now (device .entry)) (now (work .exit))
+        (remove (stateOf (decode session) (now (device .entry)) (now (work .entry))) (now (name .entry))) ⌝ }
+{
+    let before = decode(session);
+    let after = remove(device, work, before, name);
+    finished(after)
+}
+
+// Names a file anew.
+#[no_mangle]
+pub extern "C" fn purse_rename_v(
+    device: &[u8],
+    work: &mut [u8],
+    session: CSession,
+    name: &[u8],
+    new: &[u8],
+) -> CFinished
+    ensures { λ r. ⌜ Finishes r (now (device .entry)) (now (work .exit))
+        (rename (stateOf (decode session) (now (device .entry)) (now (work .entry))) (now (name .entry)) (now (new .entry))) ⌝ }
+{
+    let before = decode(session);
+    let after = rename(device, work, before, name, new);
+    finished(after)
+}
+
+// Bytes laid over a file from byte x on.
+#[no_mangle]
+pub extern "C" fn purse_write_v(
+    device: &[u8],
+    work: &mut [u8],
+    session: CSession,
+    name: &[u8],
+    x: u64,
+    bytes: &[u8],
+) -> CFinished
+    ensures { λ r. ⌜ Finishes r (now (device .entry)) (now (work .exit))
+        (write (stateOf (decode session) (now (device .entry)) (now (work .entry))) (now (name .entry)) x (now (bytes .entry))) ⌝ }
+{
+    let before = decode(session);
+    let after = write(device, work, before, name, ByteOffset(x as usize), bytes);
+    finished(after)
+}
+
+// A file cut, or lengthened by zeros.
+#[no_mangle]
+pub extern "C" fn purse_set_size_v(
+    device: &[u8],
+    work: &mut [u8],
+    session: CSession,
+    name: &[u8],
+    size: u64,
+) -> CFinished
+    ensures { λ r. ⌜ Finishes r (now (device .entry)) (now (work .exit))
+        (setSize (stateOf (decode session) (now (device .entry)) (now (work .entry))) (now (name .entry)) size) ⌝ }
+{
+    let before = decode(session);
+    let after = set_size(device, work, before, name, size as usize);
+    finished(after)
+}
+
+// Bytes of a file from byte x on, as many as the buffer takes and the file has; how many.
+#[no_mangle]
+pub extern "C" fn purse_read_v<'a>(
+    device: &'a [u8],
+    work: &'a [u8],
+    session: CSession,
+    name: &[u8],
+    x: u64,
+    buffer: &mut [u8],
+) -> CCounted
+    ensures { λ r. ⌜ Reads r (now (buffer .exit))
+        (read (stateOf (decode session) (now (device .entry)) (now (work .entry))) (now (name .entry)) x (now (buffer .entry))) ⌝ }
+{
+    let s = decode(session);
+    let answer = read(device, work, s, name, ByteOffset(x as usize), buffer);
+    counted(answer)
+}
+
+// The size of a file in bytes.
+#[no_mangle]
+pub extern "C" fn purse_size_v<'a>(
+    device: &'a [u8],
+    work: &'a [u8],
+    session: CSession,
+    name: &[u8],
+) -> CCounted
+    ensures { λ r. ⌜ r ≡ countedOf (sizeOf (stateOf (decode session) (now (device .entry)) (now (work .entry))) (now (name .entry)) .answer) ⌝ }
+{
+    let s = decode(session);
+    let answer = size(device, work, s, name);
+    counted(answer)
+}
+
+// How many blocks are free.
+#[no_mangle]
+pub extern "C" fn purse_free_count_v<'a>(
+    device: &'a [u8],
+    work: &'a [u8],
+    session: CSession,
+) -> CCounted
+    ensures { λ r. ⌜ r ≡ countedOf (freeCount (stateOf (decode session) (now (device .entry)) (now (work .entry))) .answer) ⌝ }
+{
+    let s = decode(session);
+    let answer = free_count(device, work, s);
+    counted(answer)
+}
+
+// Name and size of record i, or that it is empty.
+#[no_mangle]
+pub extern "C" fn purse_record_v<'a>(
+    device: &'a [u8],
+    work: &'a [u8],
+    session: CSession,
+    i: u64,
+) -> CRecord
+    ensures { λ r. ⌜ r ≡ recordedOf (recordAt (stateOf (decode session) (now (device .entry)) (now (work .entry))) i .answer) ⌝ }
+{
+    let s = decode(session);
+    let answer = record_at(device, work, s, i as usize);
+    recorded(answer)
+}
+
+// The k-th extent of the run list of n blocks of a file from a block on, counted from 0.
+#[no_mangle]
+pub extern "C" fn purse_nth_extent_v<'a>(
+    device: &'a [u8],
+    work: &'a [u8],
+    session: CSession,
+    name: &[u8],
+    from: u64,
+    n: u64,
+    k: u64,
+) -> CRun
+    ensures { λ r. ⌜ r ≡ runOf (nthExtent (stateOf (decode session) (now (device .entry)) (now (work .entry))) (now (name .entry)) from n k .answer) ⌝ }
+{
+    let s = decode(session);
+    let answer = nth_extent(
+        device,
+        work,
+        s,
+        name,
+        FileBlock(from as usize),
+        n as usize,
+        k as usize,
+    );
+    run(answer)
+}
+
+// The first runs of a stretch, into the first pairs of cells.
+fn put_runs<'a>(
+    device: &'a [u8],
+    work: &'a [u8],
+    session: Session,
+    name: &[u8],
+    from: FileBlock,
+    n: usize,
+    count: usize,
+    list: &mut [u32],
+)
+    requires { ⌜ (count ≤ length (namedRuns (stateOf session (now device) (now work)) (now name) (from .0) n)) × (2 * count ≤ length (now list)) ⌝ }
+    ensures { λ _. ⌜ now (list .exit)
+        ≡ withExtents (now (list .entry)) (take count (namedRuns (stateOf session (now (device .entry)) (now (work .entry))) (now (name .entry)) (from .0) n)) ⌝ }
+{
+    let mut k: usize = 0;
+    while k < count {
+        let e = nth(device, work, session, name, from, n, k);
+        list[2 * k] = e.first;
+        list[2 * k + 1] = e.count;
+        k += 1;
+    }
+}
+
+// The run list itself, into pairs of cells, first block and count; a last cell without a partner is no place of the list.
+#[no_mangle]
+pub extern "C" fn purse_run_list_v<'a>(
+    device: &'a [u8],
+    work: &'a [u8],
+    session: CSession,
+    name: &[u8],
+    from: u64,
+    n: u64,
+    list: &mut [u32],
+) -> CCounted
+    ensures { λ r. ⌜ Lists r (now (list .entry)) (now (list .exit))
+        (runList (stateOf (decode session) (now (device .entry)) (now (work .entry))) (now (name .entry)) from n (extentsOf (now (list .entry)))) ⌝ }
+{
+    let s = decode(session);
+    let first = FileBlock(from as usize);
+    let answer = count_checked(device, work, s, name, first, n as usize, list.len() / 2);
+    put_runs(
+        device,
+        work,
+        s,
+        name,
+        first,
+        n as usize,
+        how_many(answer),
+        list,
+    );
+    counted(answer)
+}

@@ -1,0 +1,53 @@
+use Rattle.spec.specs.Answers.{recordedOf as fileOf}
+use mathlib.Core.Path.{sym, ap, _∙_}
+use Rattle.spec.specs.declared.Recorded.{Recorded}
+use Rattle.mirror.specs.Mirror.{recordedOf}
+use Rattle.mirror.proofs.Laws.{recorded-refused, recorded-file, recorded-none}
+use borrow.Author.Needs.{needs}
+use Rattle.mirror.proofs.recorded.Statement.{statement}
+use Rattle.mirror.proofs.recorded.Tie as tie
+
+enum-known-answer : tie.Need-enum-known-answer
+enum-known-answer c = search needs
+
+refusal-number-requires : tie.Need-refusal-number-requires
+refusal-number-requires c κs = search needs
+
+no-file-requires : tie.Need-no-file-requires
+no-file-requires c κs = search needs
+
+enum-told : tie.Need-enum-told
+enum-told c = search needs
+
+cast-t7 : tie.Need-cast-t7
+cast-t7 c = search needs
+
+enum-told-2 : tie.Need-enum-told-2
+enum-told-2 c = search needs
+
+no-file-requires-2 : tie.Need-no-file-requires-2
+no-file-requires-2 c κs = search needs
+
+returns : tie.Need-returns
+returns c = recorded-refused (c .before .before .before .answer .given .0 .0) _ (c .before .refusal-number .ensures) _ (c .no-file .ensures) ∙ ap (λ (x : Recorded). recordedOf (fileOf x (c .before .before .before .before .before .before .args .f .name) (c .before .before .before .before .before .before .args .f .size))) (sym (c .before .before .before .answer .given .1))
+
+returns-2 : tie.Need-returns-2
+returns-2 c = recorded-file _ _ ∙ ap (λ (x : Recorded). recordedOf (fileOf x (c .before .before .before .before .args .f .name) (c .before .before .before .before .args .f .size))) (sym (c .before .enum-told .given .1))
+
+returns-3 : tie.Need-returns-3
+returns-3 c = recorded-none _ (c .no-file2 .ensures) ∙ ap (λ (x : Recorded). recordedOf (fileOf x (c .before .before .before .before .args .f .name) (c .before .before .before .before .args .f .size))) (sym (c .before .enum-told2 .given .1))
+
+pub recorded-spec : {M : Type 1} → statement M
+recorded-spec =
+    tie.close
+    (tie.spec
+    enum-known-answer
+    refusal-number-requires
+    no-file-requires
+    enum-told
+    cast-t7
+    enum-told-2
+    no-file-requires-2
+    returns
+    returns-2
+    returns-3)

@@ -1,0 +1,164 @@
+-- Sessions and answers in the numbers in which they cross to C.
+use Prim.Native.Nat.{ℕ, _*_}
+use mathlib.Core.Path.{_≡_}
+use mathlib.Core.Bool.{cond}
+use mathlib.Core.List.{List, [], _∷_, _++_}
+use lib.ListN.{length, drop, replicate, getD}
+use lib.Dec.{eqb}
+use Rattle.spec.specs.declared.Phase.{Phase}
+use Rattle.spec.specs.declared.Phase.the-variants.{Closed, Ready, Committing, Recovering}
+use Rattle.spec.specs.declared.Session.{Session}
+use Rattle.spec.specs.declared.Extent.{Extent}
+use Rattle.spec.specs.Inode.{extent}
+use Rattle.spec.specs.Answers.{Answer, refused, done, started, stored, idle, counted, file, noFile, run, noRun}
+use Rattle.spec.specs.Transaction.{stateOf}
+use Rattle.spec.specs.Calls.{Outcome}
+use Rattle.mirror.specs.declared.CSession.{CSession}
+use Rattle.mirror.specs.declared.CFinished.{CFinished}
+use Rattle.mirror.specs.declared.CCommitted.{CCommitted}
+use Rattle.mirror.specs.declared.CAdvanced.{CAdvanced}
+use Rattle.mirror.specs.declared.CCounted.{CCounted}
+use Rattle.mirror.specs.declared.CRecord.{CRecord}
+use Rattle.mirror.specs.declared.CRun.{CRun}
+
+-- ---- sessions
+
+-- 0 closed, 1 ready, 2 committing, 3 recovering, with the place reached; any other number is closed
+unfoldable pub phaseOf : ℕ → ℕ → Phase
+phaseOf n d = cond (eqb n 1) Ready (cond (eqb n 2) (Committing d) (cond (eqb n 3) (Recovering d) Closed))
+
+abbrev pub phaseNumber : Phase → ℕ
+phaseNumber Closed = 0
+phaseNumber Ready = 1
+phaseNumber (Committing d) = 2
+phaseNumber (Recovering d) = 3
+
+abbrev pub placeIn : Phase → ℕ
+placeIn Closed = 0
+placeIn Ready = 0
+placeIn (Committing d) = d
+placeIn (Recovering d) = d
+
+-- the session that numbers stand for: any numbers stand for one
+abbrev pub decode : CSession → Session
+decode c = record { blocks = c .blocks; phase = phaseOf (c .phase) (c .place); staged = c .staged; count = c .count }
+
+abbrev pub encode : Session → CSession
+encode s =
+    record { blocks = s .blocks; phase = phaseNumber (s .phase); place = placeIn (s .phase); count = s .count; staged = s .staged }
+
+-- ---- answers
+
+-- the refusal's number, 0 where the call is accepted
+abbrev pub refusalNumber : Answer → ℕ
+refusalNumber (refused n vs) = n
+refusalNumber done = 0
+refusalNumber (started n) = 0
+refusalNumber (stored b l n) = 0
+refusalNumber idle = 0
+refusalNumber (counted n) = 0
+refusalNumber (file x n) = 0
+refusalNumber noFile = 0
+refusalNumber (run e) = 0
+refusalNumber noRun = 0
+
+-- refusal 10: "the lowest record that is" wrong; 0 for any other answer
+abbrev pub faultIn : Answer → ℕ
+faultIn (refused n []) = 0
+faultIn (refused n (i ∷ vs)) = i
+faultIn done = 0
+faultIn (started n) = 0
+faultIn (stored b l n) = 0
+faultIn idle = 0
+faultIn (counted n) = 0
+faultIn (file x n) = 0
+faultIn noFile = 0
+faultIn (run e) = 0
+faultIn noRun = 0
+
+-- the numbers of an accepted answer, in the paper's order; a refusal has none. A file's: that there is one, and its size
+abbrev pub valuesOf : Answer → List ℕ
+valuesOf (refused n vs) = []
+valuesOf done = []
+valuesOf (started n) = n ∷ []
+valuesOf (stored b l n) = b ∷ cond l 1 0 ∷ n ∷ []
+valuesOf idle = []
+valuesOf (counted n) = n ∷ []
+valuesOf (file x n) = 1 ∷ n ∷ []
+valuesOf noFile = []
+valuesOf (run e) = e .first ∷ e .count ∷ []
+valuesOf noRun = []
+
+-- a file's name, 8 zeros for any other answer
+abbrev pub nameIn : Answer → List ℕ
+nameIn (refused n vs) = replicate 8 0
+nameIn done = replicate 8 0
+nameIn (started n) = replicate 8 0
+nameIn (stored b l n) = replicate 8 0
+nameIn idle = replicate 8 0
+nameIn (counted n) = replicate 8 0
+nameIn (file x n) = x
+nameIn noFile = replicate 8 0
+nameIn (run e) = replicate 8 0
+nameIn noRun = replicate 8 0
+
+-- value k of an answer, 0 where it has none
+abbrev pub valueAt : ℕ → Answer → ℕ
+valueAt k a = getD (valuesOf a) k 0
+
+-- ---- results: a session and an answer in numbers
+
+unfoldable pub finishedOf : Session → Answer → CFinished
+finishedOf s a = record { session = encode s; refusal = refusalNumber a; fault = faultIn a }
+
+unfoldable pub committedOf : Session → Answer → CCommitted
+committedOf s a = record { session = encode s; refusal = refusalNumber a; stores = valueAt 0 a }
+
+unfoldable pub advancedOf : Session → Answer → CAdvanced
+advancedOf s a =
+    record { session = encode s; refusal = refusalNumber a; block = valueAt 0 a; last = valueAt 1 a; number = valueAt 2 a }
+
+unfoldable pub countedOf : Answer → CCounted
+countedOf a = record { refusal = refusalNumber a; count = valueAt 0 a }
+
+unfoldable pub recordedOf : Answer → CRecord
+recordedOf a = record { refusal = refusalNumber a; used = valueAt 0 a; size = valueAt 1 a; name = nameIn a }
+
+unfoldable pub runOf : Answer → CRun
+runOf a = record { refusal = refusalNumber a; first = valueAt 0 a; count = valueAt 1 a }
+
+-- ---- the form of a promise: what a function returns is the call's outcome in numbers, and the session returned, with the lent slices, is the
+-- state that the outcome leaves
+
+abbrev pub Finishes : CFinished → List ℕ → List ℕ → Outcome → Type 0
+Finishes r device work o = (r ≡ finishedOf (o .after .session) (o .answer)) × (stateOf (decode (r .session)) device work ≡ o .after)
+
+abbrev pub Commits : CCommitted → List ℕ → List ℕ → Outcome → Type 0
+Commits r device work o = (r ≡ committedOf (o .after .session) (o .answer)) × (stateOf (decode (r .session)) device work ≡ o .after)
+
+abbrev pub Advances : CAdvanced → List ℕ → List ℕ → Outcome → Type 0
+Advances r device work o = (r ≡ advancedOf (o .after .session) (o .answer)) × (stateOf (decode (r .session)) device work ≡ o .after)
+
+-- read: and the buffer lent
+abbrev pub Reads : CCounted → List ℕ → Outcome → Type 0
+Reads r buffer o = (r ≡ countedOf (o .answer)) × (buffer ≡ o .buffer)
+
+-- ---- a lent list of extents in cells: first block and count of each, in turn
+
+-- a last cell without a partner is no place of the list
+unfoldable pub extentsOf : List ℕ → List Extent
+extentsOf [] = []
+extentsOf (a ∷ []) = []
+extentsOf (a ∷ b ∷ cells) = extent a b ∷ extentsOf cells
+
+unfoldable pub cellsOf : List Extent → List ℕ
+cellsOf [] = []
+cellsOf (e ∷ es) = e .first ∷ e .count ∷ cellsOf es
+
+-- cells that hold these extents first, and behind them what they held
+unfoldable pub withExtents : List ℕ → List Extent → List ℕ
+withExtents cells es = cellsOf es ++ drop (2 * length es) cells
+
+-- run list: what is left in the cells lent
+abbrev pub Lists : CCounted → List ℕ → List ℕ → Outcome → Type 0
+Lists r before after o = (r ≡ countedOf (o .answer)) × (after ≡ withExtents before (o .list))

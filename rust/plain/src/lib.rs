@@ -1,0 +1,31 @@
+//! A purse store in plain Rust, written from document 01, the readings in docs/DECISIONS.md and,
+//! for damaged devices and tampered sessions, the definitions in crates/spec/specs.
+//!
+//! It shares no line with the proved store, whose code was not read for it. It serves as the second
+//! opinion in the differential tests and as the baseline when speed is measured.
+//!
+//! ```
+//! let mut device = vec![0u8; 64 * 512];
+//! let mut work = vec![0u8; plain::WORK_SIZE];
+//! let mut session = plain::Session::never_opened();
+//! plain::format(&mut device, &mut session).unwrap();
+//! plain::open(&device, &mut session).unwrap();
+//! plain::create(&device, &mut work, &mut session, b"card0001").unwrap();
+//! plain::write(&device, &mut work, &mut session, b"card0001", 0, b"12.50").unwrap();
+//! assert_eq!(plain::commit(&device, &work, &mut session), Ok(8));
+//! while plain::advance(&mut device, &work, &mut session).unwrap().is_some() {}
+//! assert_eq!(plain::size(&device, &work, &session, b"card0001"), Ok(5));
+//! ```
+
+mod bits;
+mod calls;
+mod journal;
+mod mutant;
+mod plan;
+pub mod sound;
+mod tree;
+mod types;
+mod view;
+
+pub use calls::*;
+pub use types::*;

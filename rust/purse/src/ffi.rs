@@ -1,0 +1,107 @@
+//! The C interface of the proved store, as `include/purse.h` has it: the functions that take the
+//! session by value and give it back. A slice crosses as a pointer and a length; the pointer leads to
+//! an element even where the length is 0. `refusal` is 0, or the number of the refusal.
+
+/// `purse_session`. `phase`: 0 closed, 1 ready, 2 committing, 3 recovering; `place`: the stores
+/// made so far of a commit or recovery, else 0. The first `count` cells of `staged` are in use. The
+/// store makes no other values; it reads other phases as closed, and a place where none is due as 0.
+#[repr(C)]
+#[derive(Clone, Copy, Debug, PartialEq, Eq)]
+pub struct RawSession {
+    pub blocks: u64,
+    pub phase: u64,
+    pub place: u64,
+    pub count: u64,
+    pub staged: [u32; 32],
+}
+
+/// `purse_finished`. `fault`: the wrong record for refusal 10, else 0.
+#[repr(C)]
+pub struct Finished {
+    pub session: RawSession,
+    pub refusal: u32,
+    pub fault: u64,
+}
+
+/// `purse_committed`.
+#[repr(C)]
+pub struct Committed {
+    pub session: RawSession,
+    pub refusal: u32,
+    pub stores: u64,
+}
+
+/// `purse_advanced`. `number` 0: nothing is under way.
+#[repr(C)]
+pub struct Advanced {
+    pub session: RawSession,
+    pub refusal: u32,
+    pub block: u64,
+    pub last: u64,
+    pub number: u64,
+}
+
+/// `purse_counted`.
+#[repr(C)]
+pub struct Counted {
+    pub refusal: u32,
+    pub count: u64,
+}
+
+/// `purse_recorded`.
+#[repr(C)]
+pub struct Recorded {
+    pub refusal: u32,
+    pub used: u64,
+    pub size: u64,
+    pub name: [u8; 8],
+}
+
+/// `purse_run`. `count` 0: none.
+#[repr(C)]
+pub struct Run {
+    pub refusal: u32,
+    pub first: u32,
+    pub count: u32,
+}
+
+/// A first block and how many blocks there are from it on: two cells of a lent list.
+#[repr(C)]
+#[derive(Clone, Copy, Debug, Default, PartialEq, Eq)]
+pub struct Extent {
+    pub first: u32,
+    pub count: u32,
+}
+
+type Bytes = *const u8;
+type BytesMut = *mut u8;
+type Session = RawSession;
+
+#[rustfmt::skip]
+extern "C" {
+    pub fn purse_format_v(device: BytesMut, len: usize, s: Session) -> Finished;
+    pub fn purse_open_v(device: Bytes, len: usize, s: Session) -> Finished;
+    pub fn purse_advance_v(device: BytesMut, len: usize, work: Bytes, work_len: usize, s: Session) -> Advanced;
+    pub fn purse_commit_v(device: Bytes, len: usize, work: Bytes, work_len: usize, s: Session) -> Committed;
+    pub fn purse_abort_v(device: Bytes, len: usize, work: Bytes, work_len: usize, s: Session) -> Finished;
+    pub fn purse_create_v(device: Bytes, len: usize, work: BytesMut, work_len: usize, s: Session,
+        name: Bytes, name_len: usize) -> Finished;
+    pub fn purse_remove_v(device: Bytes, len: usize, work: BytesMut, work_len: usize, s: Session,
+        name: Bytes, name_len: usize) -> Finished;
+    pub fn purse_rename_v(device: Bytes, len: usize, work: BytesMut, work_len: usize, s: Session,
+        name: Bytes, name_len: usize, new_name: Bytes, new_len: usize) -> Finished;
+    pub fn purse_write_v(device: Bytes, len: usize, work: BytesMut, work_len: usize, s: Session,
+        name: Bytes, name_len: usize, x: u64, bytes: Bytes, n: usize) -> Finished;
+    pub fn purse_set_size_v(device: Bytes, len: usize, work: BytesMut, work_len: usize, s: Session,
+        name: Bytes, name_len: usize, size: u64) -> Finished;
+    pub fn purse_read_v(device: Bytes, len: usize, work: Bytes, work_len: usize, s: Session,
+        name: Bytes, name_len: usize, x: u64, buffer: BytesMut, n: usize) -> Counted;
+    pub fn purse_size_v(device: Bytes, len: usize, work: Bytes, work_len: usize, s: Session,
+        name: Bytes, name_len: usize) -> Counted;
+    pub fn purse_free_count_v(device: Bytes, len: usize, work: Bytes, work_len: usize, s: Session) -> Counted;
+    pub fn purse_record_v(device: Bytes, len: usize, work: Bytes, work_len: usize, s: Session, i: u64) -> Recorded;
+    pub fn purse_nth_extent_v(device: Bytes, len: usize, work: Bytes, work_len: usize, s: Session,
+        name: Bytes, name_len: usize, from: u64, n: u64, k: u64) -> Run;
+    pub fn purse_run_list_v(device: Bytes, len: usize, work: Bytes, work_len: usize, s: Session,
+        name: Bytes, name_len: usize, from: u64, n: u64, list: *mut u32, cells: usize) -> Counted;
+}

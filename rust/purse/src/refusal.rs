@@ -1,0 +1,87 @@
+//! The refusals.
+
+use std::fmt;
+
+/// Why a call was refused, in the order of document 01's numbers. A refusal changes nothing.
+#[derive(Clone, Copy, Debug, PartialEq, Eq)]
+pub enum Refusal {
+    /// 1: the device is not 64 to 4,096 blocks of 512 bytes, or not the one of the session.
+    DeviceSize,
+    /// 2: the work space is not 16,384 bytes.
+    WorkSize,
+    /// 3: a name is not 8 bytes, or all zero.
+    BadName,
+    /// 4: a size over 1,048,576.
+    TooLarge,
+    /// 10: the commit block is wrong; the lowest wrong record.
+    BadHeader(u64),
+    /// 11: the device is not sound.
+    Unsound,
+    /// 12: the session is not ready.
+    NotReady,
+    /// 13: no file has this name.
+    Unknown,
+    /// 14: a file has this name already.
+    Taken,
+    /// 15: all 128 records are used.
+    NoRecord,
+    /// 16: not enough free blocks.
+    NoSpace,
+    /// 17: more than 512 extents in a file.
+    TooManyExtents,
+    /// 18: more than 32 blocks in a transaction.
+    TooManyStaged,
+    /// 19: the lent list is shorter than the run list.
+    ListShort,
+}
+
+impl Refusal {
+    /// Document 01's number.
+    pub fn number(self) -> u32 {
+        match self {
+            Refusal::DeviceSize => 1,
+            Refusal::WorkSize => 2,
+            Refusal::BadName => 3,
+            Refusal::TooLarge => 4,
+            Refusal::BadHeader(_) => 10,
+            Refusal::Unsound => 11,
+            Refusal::NotReady => 12,
+            Refusal::Unknown => 13,
+            Refusal::Taken => 14,
+            Refusal::NoRecord => 15,
+            Refusal::NoSpace => 16,
+            Refusal::TooManyExtents => 17,
+            Refusal::TooManyStaged => 18,
+            Refusal::ListShort => 19,
+        }
+    }
+
+    /// The refusal of a number, with the record that goes with 10.
+    pub(crate) fn of(number: u32, record: u64) -> Refusal {
+        match number {
+            1 => Refusal::DeviceSize,
+            2 => Refusal::WorkSize,
+            3 => Refusal::BadName,
+            4 => Refusal::TooLarge,
+            10 => Refusal::BadHeader(record),
+            11 => Refusal::Unsound,
+            12 => Refusal::NotReady,
+            13 => Refusal::Unknown,
+            14 => Refusal::Taken,
+            15 => Refusal::NoRecord,
+            16 => Refusal::NoSpace,
+            17 => Refusal::TooManyExtents,
+            18 => Refusal::TooManyStaged,
+            19 => Refusal::ListShort,
+            _ => unreachable!("the store answers the numbers of document 01 only, not {number}"),
+        }
+    }
+}
+
+impl fmt::Display for Refusal {
+    fn fmt(&self, f: &mut fmt::Formatter) -> fmt::Result {
+        write!(f, "refused {}", self.number())
+    }
+}
+
+impl std::error::Error for Refusal {}

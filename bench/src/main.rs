@@ -1,0 +1,222 @@
+//! Times each call of the proved store beside the plain Rust store, on the same bytes, in one run.
+//! `bench [ROUNDS]`. A ratio above 1 says that the proved store is the faster one.
+
+mod clock;
+mod images;
+
+use clock::{spread, Pair, Table};
+use images::{name, Image};
+use purse::{Extent, RawSession, Store};
+use std::hint::black_box;
+
+/// The two stores at the same image: `work` is lent to both in turn.
+struct Bench {
+    device: Vec<u8>,
+    work: Vec<u8>,
+    raw: RawSession,
+    plain: plain::Session,
+    rounds: usize,
+}
+
+impl Bench {
+    fn new(image: &Image, rounds: usize) -> Self {
+        let mut device = image.device.clone();
+        let mut work = vec![0u8; purse::WORK_SIZE];
+        let mut store = Store::new(&mut device, &mut work);
+        store.open_whole().expect("the image opens");
+        let raw = store.session();
+        let mut plain = plain::Session::never_opened();
+        plain::open(&device, &mut plain).expect("the image opens");
+        Bench { device, work, raw, plain, rounds }
+    }
+
+    /// Times one call made over and over from the same session.
+    fn time(
+        &mut self,
+        mut proved: impl FnMut(&mut Store),
+        mut rust: impl FnMut(&mut [u8], &mut [u8], &mut plain::Session),
+    ) -> Pair {
+        let (device, work, raw, session) = (&mut self.device, &mut self.work, self.raw, self.plain.clone());
+        spread(self.rounds, |n, first| {
+            for _ in 0..n {
+                if first {
+                    let mut store = Store::resume(device, work, raw);
+                    proved(black_box(&mut store));
+                } else {
+                    let mut s = session.clone();
+                    rust(black_box(device), black_box(work), &mut s);
+                }
+            }
+        })
+    }
+}
+
+fn calls(table: &mut Table, title: &str, image: &Image, file: u32, rounds: usize) {
+    let mut b = Bench::new(image, rounds);
+    let a = name(file);
+    let other = name(4000);
+    let size = image.size(file);
+    let blocks = size / 512;
+    let bytes = [7u8; 8];
+    let mut small = [0u8; 8];
+    let mut list = vec![Extent::default(); 512];
+    let mut rust_list = vec![plain::Extent::default(); 512];
+    let at = size / 2;
+    table.head(title);
+    table.row("size", b.time(|s| _ = black_box(s.size(&a)), |d, w, s| _ = black_box(plain::size(d, w, s, &a))));
+    table.row("free count", b.time(|s| _ = black_box(s.free_count()), |d, w, s| _ = black_box(plain::free_count(d, w, s))));
+    table.row("record", b.time(|s| _ = black_box(s.record(127)), |d, w, s| _ = black_box(plain::record_at(d, w, s, 127))));
+    let mut again = small;
+    table.row(
+        "read 8 bytes",
+        b.time(|s| _ = black_box(s.read(&a, at, &mut small)), |d, w, s| _ = black_box(plain::read(d, w, s, &a, at, &mut again))),
+    );
+    let mut whole = vec![0u8; size as usize];
+    let mut other_whole = whole.clone();
+    table.row(
+        "read all",
+        b.time(|s| _ = black_box(s.read(&a, 0, &mut whole)), |d, w, s| _ = black_box(plain::read(d, w, s, &a, 0, &mut other_whole))),
+    );
+    table.row(
+        "n-th extent",
+        b.time(|s| _ = black_box(s.nth_extent(&a, 0, blocks, 0)), |d, w, s| _ = black_box(plain::nth_extent(d, w, s, &a, 0, blocks, 0))),
+    );
+    table.row(
+        "run list",
+        b.time(
+            |s| _ = black_box(s.run_list(&a, 0, blocks, &mut list)),
+            |d, w, s| _ = black_box(plain::run_list(d, w, s, &a, 0, blocks, &mut rust_list)),
+        ),
+    );
+    table.row(
+        "write 8 bytes",
+        b.time(|s| s.write(&a, at, &bytes).unwrap(), |d, w, s| plain::write(d, w, s, &a, at, &bytes).unwrap()),
+    );
+    table.row(
+        "append 8 bytes",
+        b.time(|s| _ = black_box(s.write(&a, size, &bytes)), |d, w, s| _ = black_box(plain::write(d, w, s, &a, size, &bytes))),
+    );
+    table.row("cut to half", b.time(|s| s.set_size(&a, at).unwrap(), |d, w, s| plain::set_size(d, w, s, &a, at).unwrap()));
+    table.row("create", b.time(|s| _ = black_box(s.create(&other)), |d, w, s| _ = black_box(plain::create(d, w, s, &other))));
+    table.row("rename", b.time(|s| s.rename(&a, &other).unwrap(), |d, w, s| plain::rename(d, w, s, &a, &other).unwrap()));
+    table.row("remove", b.time(|s| s.remove(&a).unwrap(), |d, w, s| plain::remove(d, w, s, &a).unwrap()));
+}
+
+/// Three small writes, one transaction, all its stores; and memcpy of as many blocks.
+fn sale(table: &mut Table, image: &Image, rounds: usize) {
+    let mut b = Bench::new(image, rounds);
+    let names = [name(0), name(1), name(2)];
+    let bytes = [9u8; 8];
+    table.head("a sale: three writes of 8 bytes, commit, 8 stores");
+    let pair = b.time(
+        |s| {
+            for a in &names {
+                s.write(a, 0, &bytes).unwrap();
+            }
+            assert_eq!(s.commit_whole(), Ok(8));
+        },
+        |d, w, s| {
+            for a in &names {
+                plain::write(d, w, s, a, 0, &bytes).unwrap();
+            }
+            assert_eq!(plain::commit(d, w, s), Ok(8));
+            while let Ok(Some(_)) = plain::advance(d, w, s) {}
+        },
+    );
+    table.row("whole sale", pair);
+    let stores = b.time(
+        |s| {
+            for a in &names {
+                s.write(a, 0, &bytes).unwrap();
+            }
+        },
+        |d, w, s| {
+            for a in &names {
+                plain::write(d, w, s, a, 0, &bytes).unwrap();
+            }
+        },
+    );
+    table.row("its writes alone", stores);
+    let mut to = vec![0u8; 8 * 512];
+    let from = vec![1u8; 8 * 512];
+    let copies = spread(rounds, |n, _| {
+        for _ in 0..n {
+            for k in 0..8 {
+                to[512 * k..512 * k + 512].copy_from_slice(black_box(&from[512 * k..512 * k + 512]));
+            }
+            black_box(&mut to);
+        }
+    });
+    table.note("memcpy of 8 blocks", copies.proved);
+    table.note("commit and 8 stores, against that memcpy (times)", (pair.proved - stores.proved) / copies.proved);
+}
+
+/// A commit of 30 blocks and its 62 stores.
+fn bulk(table: &mut Table, image: &Image, rounds: usize) {
+    let mut b = Bench::new(image, rounds);
+    let a = name(0);
+    let bytes = vec![3u8; 29 * 512];
+    table.head("a write of 29 blocks into a new stretch, commit, all stores");
+    let pair = b.time(
+        |s| {
+            s.write(&a, 512, &bytes).unwrap();
+        },
+        |d, w, s| {
+            plain::write(d, w, s, &a, 512, &bytes).unwrap();
+        },
+    );
+    table.row("write", pair);
+    let device = b.device.clone();
+    let whole = {
+        let (work, raw, session) = (&mut b.work, b.raw, b.plain.clone());
+        let mut d1 = device.clone();
+        spread(rounds, |n, first| {
+            for _ in 0..n {
+                d1[33 * 512..].copy_from_slice(&device[33 * 512..]);
+                if first {
+                    let mut s = Store::resume(&mut d1, work, raw);
+                    s.write(&a, 512, &bytes).unwrap();
+                    s.commit_whole().unwrap();
+                } else {
+                    let mut s = session.clone();
+                    plain::write(&mut d1, work, &mut s, &a, 512, &bytes).unwrap();
+                    plain::commit(&d1, work, &mut s).unwrap();
+                    while let Ok(Some(_)) = plain::advance(&mut d1, work, &mut s) {}
+                }
+            }
+        })
+    };
+    table.row("write, commit, stores (and the device set back)", whole);
+}
+
+fn opens(table: &mut Table, rounds: usize) {
+    table.head("open and format by device size");
+    for (n, files) in [(64, 22), (512, 100), (4096, 128)] {
+        let image = Image::full(n, files);
+        let mut b = Bench::new(&image, rounds);
+        table.row(
+            &format!("open, N = {n}, {files} files, full"),
+            b.time(|s| s.open().unwrap(), |d, _, s| plain::open(d, s).unwrap()),
+        );
+    }
+    for n in [64, 512, 4096] {
+        let image = Image::empty(n);
+        let mut b = Bench::new(&image, rounds);
+        table.row(&format!("open, N = {n}, empty"), b.time(|s| s.open().unwrap(), |d, _, s| plain::open(d, s).unwrap()));
+        table.row(&format!("format, N = {n}"), b.time(|s| s.format().unwrap(), |d, _, s| plain::format(d, s).unwrap()));
+    }
+}
+
+fn main() {
+    let rounds = std::env::args().nth(1).and_then(|a| a.parse().ok()).unwrap_or(9);
+    let mut table = Table::default();
+    calls(&mut table, "N = 64, 8 files of 600 bytes", &Image::even(64, 8, 600), 3, rounds);
+    calls(&mut table, "N = 4,096, 128 files of 600 bytes", &Image::even(4096, 128, 600), 120, rounds);
+    calls(&mut table, "N = 4,096, a file of 100 blocks in one stretch", &Image::even(4096, 4, 51_200), 3, rounds);
+    calls(&mut table, "N = 4,096, a file of 2,000 blocks in one stretch", &Image::even(4096, 1, 1_024_000), 0, rounds);
+    calls(&mut table, "N = 4,096, a file of 500 blocks in 500 extents", &Image::scattered(4096, 500), 0, rounds);
+    sale(&mut table, &Image::even(512, 64, 600), rounds);
+    bulk(&mut table, &Image::even(512, 4, 512), rounds);
+    opens(&mut table, rounds);
+    table.foot();
+}

@@ -1,14 +1,15 @@
 -- Laws of marking. Assumes nothing.
 use Prim.Native.Nat.{ℕ, zero, suc, _+_, _-_, _/_, _%_, _^_, _<_, _≤_, min}
 use mathlib.Core.Path.{_≡_, refl, sym, ap, _∙_}
-use mathlib.Core.Bool.{Bool, true, false, cond, not, _&&_, _||_, Bool·beq, true≢false}
+use mathlib.Core.Bool.{Bool, true, false, cond, not, _&&_, _||_, Bool·beq, true≢false, and-false}
+use mathlib.Core.Logic.{⊎-elim}
 use mathlib.Core.List.{List, [], _∷_, map}
 use mathlib.Core.Option.{none, some}
 use native.Mathlib.Nat.{zero-div}
 use native.Mathlib.Numerals.{add-one}
 use native.Mathlib.Omega.{arith}
-use borrow.Author.Tests.{eqb-true, eqb-false, eq-eqb, ne-eqb, ltb-true, ltb-false, lt-ltb, le-ltb, not-true}
-use lib.Dec.{eqb, ltb}
+use borrow.Author.Tests.{le-leb, lt-leb, eqb-true, eqb-false, eq-eqb, ne-eqb, ltb-true, ltb-false, lt-ltb, le-ltb, not-true}
+use lib.Dec.{eqb, leb, ltb}
 use lib.ListN.{length, getD, set, replicate, length-replicate}
 use lib.Seq.{getD-set-same, getD-set-other}
 use Rattle.spec.specs.Bytes.{exactly, occurs, upFrom, concat, lowest}
@@ -18,7 +19,7 @@ use Rattle.spec.specs.declared.Area.the-variants.{Header, Log, Bitmap, Inodes, 
 use Rattle.spec.specs.Inode.{reachedFrom, reached}
 use Rattle.spec.specs.Sound.{blockSound, bitFault, blockFault}
 use Rattle.bitmap.proofs.Laws.{length-bits, bit-at, bits-binary, occurs-append}
-use Rattle.block.proofs.Laws.{length-exactly}
+use Rattle.block.proofs.Laws.{lt-or-le, length-exactly}
 use Rattle.inode.specs.declared.Found.{Found}
 use Rattle.inode.specs.declared.Found.the-variants.{Nothing}
 use Rattle.inode.specs.Records.{foundOf, lowestTo}
@@ -66,6 +67,22 @@ bit-same t u b l m h e = bit-at t b 0 (omega arith) ∙ ap (λ (x : ℕ). x / 2 
 bit-zero : (t : List ℕ) (b : ℕ) → length t ≡ 512 → b < 4096 → getD t (b / 8) 0 ≡ 0 → bit t b ≡ 0
 unfolding bit
 bit-zero t b l h e = bit-at t b 0 (omega arith) ∙ ap (λ (x : ℕ). x / 2 ^ (b % 8) % 2) e ∙ ap (λ (x : ℕ). x % 2) (zero-div (2 ^ (b % 8)))
+
+-- every bit of 255 is 1
+ones : (r : ℕ) → r < 8 → 255 / 2 ^ r % 2 ≡ 1
+ones zero h = refl
+ones (suc zero) h = refl
+ones (suc (suc zero)) h = refl
+ones (suc (suc (suc zero))) h = refl
+ones (suc (suc (suc (suc zero)))) h = refl
+ones (suc (suc (suc (suc (suc zero))))) h = refl
+ones (suc (suc (suc (suc (suc (suc zero)))))) h = refl
+ones (suc (suc (suc (suc (suc (suc (suc zero))))))) h = refl
+ones (suc (suc (suc (suc (suc (suc (suc (suc r)))))))) h = absurd (omega arith)
+
+bit-one : (t : List ℕ) (b : ℕ) → length t ≡ 512 → b < 4096 → getD t (b / 8) 0 ≡ 255 → bit t b ≡ 1
+unfolding bit
+bit-one t b l h e = bit-at t b 0 (omega arith) ∙ ap (λ (x : ℕ). x / 2 ^ (b % 8) % 2) e ∙ ones (b % 8) (omega arith)
 
 -- bit b set
 module _ (t u : List ℕ) (b : ℕ) (full : length t ≡ 512) (inside : b < 4096) (e : bitsOf u ≡ set (bitsOf t) b 1) where
@@ -242,10 +259,11 @@ record Plain (N : ℕ) (o t bits : List ℕ) (b : ℕ) : Type 0 where
   same : getD o (b / 8) 0 ≡ getD bits (b / 8) 0
   single : getD t (b / 8) 0 ≡ 0
 
-plain-says : (N : ℕ) (o t bits : List ℕ) (b : ℕ) → plain N o t bits b ≡ true → Plain N o t bits b
+plain-says : (N : ℕ) (o t bits : List ℕ) (b : ℕ) → b < N → plain N o t bits b ≡ true → Plain N o t bits b
 unfolding plain
-plain-says N o t bits b h =
-    let p = and-true (inData N b && inData N (b + 7) && eqb (b % 8) 0 && eqb (getD o (b / 8) 0) (getD bits (b / 8) 0)) (eqb (getD t (b / 8) 0) 0) h in
+plain-says N o t bits b l h =
+    let g : inData N b && inData N (b + 7) && eqb (b % 8) 0 && eqb (getD o (b / 8) 0) (getD bits (b / 8) 0) && eqb (getD t (b / 8) 0) 0 ≡ true = rw (lt-leb N b l) at h in
+    let p = and-true (inData N b && inData N (b + 7) && eqb (b % 8) 0 && eqb (getD o (b / 8) 0) (getD bits (b / 8) 0)) (eqb (getD t (b / 8) 0) 0) g in
     let q = and-true (inData N b && inData N (b + 7) && eqb (b % 8) 0) (eqb (getD o (b / 8) 0) (getD bits (b / 8) 0)) (p .0) in
     let r = and-true (inData N b && inData N (b + 7)) (eqb (b % 8) 0) (q .0) in
     let s = and-true (inData N b) (inData N (b + 7)) (r .0) in
@@ -257,27 +275,50 @@ plain-says N o t bits b h =
       single = eqb-true (getD t (b / 8) 0) 0 (p .1);
     }
 
+above-says : (N : ℕ) (o t bits : List ℕ) (b : ℕ) → N ≤ b → plain N o t bits b ≡ true → (b % 8 ≡ 0) × (getD bits (b / 8) 0 ≡ 255)
+unfolding plain
+above-says N o t bits b l h =
+    let g : eqb (b % 8) 0 && eqb (getD bits (b / 8) 0) 255 ≡ true = rw (le-leb N b l) at h in
+    let p = and-true (eqb (b % 8) 0) (eqb (getD bits (b / 8) 0) 255) g in
+    (eqb-true (b % 8) 0 (p .0), eqb-true (getD bits (b / 8) 0) 255 (p .1))
+
+-- a block behind the device holds no data
+data-out : (N x : ℕ) → N ≤ x → inData N x ≡ false
+unfolding inData
+data-out N x h = rw (le-ltb x N h) (and-false (isDataArea (areaOf x)))
+
 -- eight bits at once
-module _ (N : ℕ) (o t bits : List ℕ) (b : ℕ) (most : N ≤ 4096) (lo : length o ≡ 512) (lt : length t ≡ 512) (lb : length bits ≡ 512)
+module _ (N : ℕ) (o t bits : List ℕ) (b : ℕ) (most : N ≤ 4096) (less : b < 4096) (lo : length o ≡ 512) (lt : length t ≡ 512) (lb : length bits ≡ 512)
     (h : plain N o t bits b ≡ true) where
-  right : (k : ℕ) → b ≤ k → k < b + 8 → wrong N o t bits k ≡ false
+  right-in : b < N → (k : ℕ) → b ≤ k → k < b + 8 → wrong N o t bits k ≡ false
   unfolding wrong
-  right k l m =
-      let p = plain-says N o t bits b h in
+  right-in a k l m =
+      let p = plain-says N o t bits b a h in
       let z : b / 8 ≡ k / 8 = omega arith in
       let c : k < 4096 = omega arith in
       let e : getD o (k / 8) 0 ≡ getD bits (k / 8) 0 = rw (← z) (p .same) in
       let f : getD t (k / 8) 0 ≡ 0 = rw (← z) (p .single) in
       rw (data-in N k (omega arith) (omega arith), bit-same o bits k lo lb c e, bit-zero t k lt c f, beq-same (eqb (bit bits k) 1))
 
-  pub plain-skip : lowestTo 4096 (wrong N o t bits) b ≡ lowestTo 4096 (wrong N o t bits) (b + 8)
-  plain-skip =
-      let p = plain-says N o t bits b h in
-      lowest-past (b + 8) 4096 (wrong N o t bits) b (omega arith) (omega arith)
-      (lowest-agree (b + 8) (wrong N o t bits) (λ k. false) b right ∙ found-off (b + 8) b)
+  right-above : N ≤ b → (k : ℕ) → b ≤ k → k < b + 8 → wrong N o t bits k ≡ false
+  unfolding wrong
+  right-above a k l m =
+      let p = above-says N o t bits b a h in
+      let w = p .0 in
+      let z : b / 8 ≡ k / 8 = omega arith in
+      let f : getD bits (k / 8) 0 ≡ 255 = rw (← z) (p .1) in
+      rw (data-out N k (omega arith), bit-one bits k lb (omega arith) f)
 
   pub plain-within : b + 8 ≤ 4096
-  plain-within = let p = plain-says N o t bits b h in omega arith
+  plain-within = ⊎-elim (λ a. let p = plain-says N o t bits b a h in omega arith) (λ a. let p = above-says N o t bits b a h in let w = p .0 in omega arith) (lt-or-le b N)
+
+  right : (k : ℕ) → b ≤ k → k < b + 8 → wrong N o t bits k ≡ false
+  right = ⊎-elim right-in right-above (lt-or-le b N)
+
+  pub plain-skip : lowestTo 4096 (wrong N o t bits) b ≡ lowestTo 4096 (wrong N o t bits) (b + 8)
+  plain-skip =
+      lowest-past (b + 8) 4096 (wrong N o t bits) b (omega arith) plain-within
+      (lowest-agree (b + 8) (wrong N o t bits) (λ k. false) b right ∙ found-off (b + 8) b)
 
 -- ---- the marks of all records and the bitmap
 

@@ -4,7 +4,7 @@ use mathlib.Core.Path.{_≡_}
 use mathlib.Core.Bool.{Bool, cond, not, _&&_, _||_, Bool·beq}
 use mathlib.Core.List.{List, map}
 use lib.ListN.{getD}
-use lib.Dec.{eqb}
+use lib.Dec.{eqb, leb}
 use Rattle.spec.specs.Bytes.{occurs, upFrom, concat}
 use Rattle.spec.specs.Bitmap.{bitsOf}
 use Rattle.spec.specs.Disk.{Disk, inData}
@@ -34,7 +34,8 @@ reachLeft v i = concat (map (reachedFrom v) (upFrom i (128 - i)))
 unfoldable pub wrong : ℕ → List ℕ → List ℕ → List ℕ → ℕ → Bool
 wrong N o t bits b = cond (inData N b) (eqb (bit t b) 1 || not (Bool·beq (eqb (bit o b) 1) (eqb (bit bits b) 1))) (not (eqb (bit bits b) 1))
 
--- whether whole bytes tell that the eight bits from b on are right
+-- whether whole bytes tell that the eight bits from b on are right: behind the device all are 1
 unfoldable pub plain : ℕ → List ℕ → List ℕ → List ℕ → ℕ → Bool
 plain N o t bits b =
-    inData N b && inData N (b + 7) && eqb (b % 8) 0 && eqb (getD o (b / 8) 0) (getD bits (b / 8) 0) && eqb (getD t (b / 8) 0) 0
+    cond (leb N b) (eqb (b % 8) 0 && eqb (getD bits (b / 8) 0) 255)
+    (inData N b && inData N (b + 7) && eqb (b % 8) 0 && eqb (getD o (b / 8) 0) (getD bits (b / 8) 0) && eqb (getD t (b / 8) 0) 0)

@@ -66,12 +66,15 @@ fn is_wrong(once: &[u8; 512], twice: &[u8; 512], bitmap: &[u8; 512], blocks: usi
     !taken
 }
 
-// Whether the eight bits from block b on are all right, told by whole bytes: blocks within 42 to N-1, none reached twice.
+// Whether the eight bits from block b on are all right, told by whole bytes: behind the device, or within 42 to N-1 and none reached twice.
 fn is_plain(once: &[u8; 512], twice: &[u8; 512], bitmap: &[u8; 512], blocks: usize, b: u32) -> bool
     requires { ⌜ b < 4096 ⌝ }
     ensures { λ r. ⌜ r ≡ plain blocks (now (once .entry)) (now (twice .entry)) (now (bitmap .entry)) b ⌝ }
 {
     let i = (b / 8) as usize;
+    if blocks <= b as usize {
+        return (b % 8 == 0) & (bitmap[i] == 255);
+    }
     let inside = in_data(blocks, DiskBlock(b)) & in_data(blocks, DiskBlock(b + 7));
     inside & (b % 8 == 0) & (once[i] == bitmap[i]) & (twice[i] == 0)
 }

@@ -38,8 +38,8 @@ loop-less c = search needs
 
 loop-again : tie.Need-loop-again Inv-loop μ-loop
 loop-again c = (
-  plain-within _ _ _ _ _ (c .before .before .before .before .before .before .before .before .before .before .pre) (c .before .before .before .before .before .before .before .before .known .ensures .full) (c .before .before .before .before .before .before .known2 .ensures .full) (c .before .before .before .before .known3 .ensures .full) (sym (c .before .is-plain .ensures) ∙ c .if1 .taken),
-  c .before .before .before .loop .inv .1 ∙ plain-skip _ _ _ _ _ (c .before .before .before .before .before .before .before .before .before .before .pre) (c .before .before .before .before .before .before .before .before .known .ensures .full) (c .before .before .before .before .before .before .known2 .ensures .full) (c .before .before .before .before .known3 .ensures .full) (sym (c .before .is-plain .ensures) ∙ c .if1 .taken),
+  plain-within _ _ _ _ _ (c .before .before .before .before .before .before .before .before .before .before .pre) (c .before .before .loop-test .taken) (c .before .before .before .before .before .before .before .before .known .ensures .full) (c .before .before .before .before .before .before .known2 .ensures .full) (c .before .before .before .before .known3 .ensures .full) (sym (c .before .is-plain .ensures) ∙ c .if1 .taken),
+  c .before .before .before .loop .inv .1 ∙ plain-skip _ _ _ _ _ (c .before .before .before .before .before .before .before .before .before .before .pre) (c .before .before .loop-test .taken) (c .before .before .before .before .before .before .before .before .known .ensures .full) (c .before .before .before .before .before .before .known2 .ensures .full) (c .before .before .before .before .known3 .ensures .full) (sym (c .before .is-plain .ensures) ∙ c .if1 .taken),
 )
 
 is-wrong-requires : tie.Need-is-wrong-requires Inv-loop μ-loop

@@ -32,7 +32,7 @@ use Rattle.extents.specs.Stretches.{restRuns, NextRun}
 use Rattle.extents.proofs.Laws.{Begun}
 use Rattle.text.specs.Written.{number, Written}
 use Rattle.text.proofs.Laws.{laid-front}
-use Rattle.listing.specs.Steps.{spanText, moreText, runsText, lineText, usedFrom, linesText, filesLines, toldText, refusedLine, recoverLine, openedLines, numberOf, Listed}
+use Rattle.listing.specs.Steps.{spanText, moreText, runsText, lineText, usedFrom, linesText, filesLines, toldText, refusedLine, recoverLine, openedLines, deviceText, numberOf, Listed}
 
 -- ---- extents
 
@@ -226,18 +226,25 @@ pub text-long : (d : List ℕ) → 65536 < length d → refusedLine 1 ≡ listin
 unfolding textOf refusedLine
 text-long d h = rw (lt-ltb 65536 (length d) h)
 
+pub short-text : (d : List ℕ) → length d ≤ 65536 → deviceText d ≡ listing d
+unfolding textOf deviceText
+short-text d h = rw (le-ltb 65536 (length d) h)
+
+device-text : (d : List ℕ) (o : Outcome) → o ≡ openStore (stateOf neverOpened d []) → outcomeText (blocksOf d) (o .after .session .phase) (o .answer) ≡ deviceText d
+unfolding deviceText
+device-text d o e = rw e
+
 pub text-short : (d : List ℕ) (o : Outcome) → length d ≤ 65536 → o ≡ openStore (stateOf neverOpened d []) → outcomeText (blocksOf d) (o .after .session .phase) (o .answer) ≡ listing d
-unfolding textOf
-text-short d o h e = rw (le-ltb 65536 (length d) h, e)
+text-short d o h e = device-text d o e ∙ short-text d h
 
-module _ (d : List ℕ) (q s : Session) (a : Done) (e : (work : List ℕ) → left q d work (doneOf a) ≡ openStore (stateOf s d work)) (n : s ≡ neverOpened) (h : length d ≤ 65536) where
-  outcome-text : outcomeText (blocksOf d) (q .phase) (doneOf a) ≡ listing d
-  outcome-text = text-short d (left q d [] (doneOf a)) h (e [] ∙ ap (λ (t : Session). openStore (stateOf t d [])) n)
+module _ (d : List ℕ) (q s : Session) (a : Done) (e : (work : List ℕ) → left q d work (doneOf a) ≡ openStore (stateOf s d work)) (n : s ≡ neverOpened) where
+  outcome-text : outcomeText (blocksOf d) (q .phase) (doneOf a) ≡ deviceText d
+  outcome-text = device-text d (left q d [] (doneOf a)) (e [] ∙ ap (λ (t : Session). openStore (stateOf t d [])) n)
 
-  pub text-refused : (r : Refusal) (k : ℕ) → a ≡ done-cases.Refused r → k ≡ numberOf r → refusedLine k ≡ listing d
+  pub text-refused : (r : Refusal) (k : ℕ) → a ≡ done-cases.Refused r → k ≡ numberOf r → refusedLine k ≡ deviceText d
   text-refused r k f m = ap refusedLine m ∙ refused-text (blocksOf d) (q .phase) r ∙ ap (λ (x : Done). outcomeText (blocksOf d) (q .phase) (doneOf x)) (sym f) ∙ outcome-text
 
-  pub text-done : a ≡ done-cases.Done → openedLines (blocksOf d) (q .phase) ≡ listing d
+  pub text-done : a ≡ done-cases.Done → openedLines (blocksOf d) (q .phase) ≡ deviceText d
   text-done f = opened-text (blocksOf d) (q .phase) ∙ ap (λ (x : Done). outcomeText (blocksOf d) (q .phase) (doneOf x)) (sym f) ∙ outcome-text
 
 pub listed : (image out after text : List ℕ) (p : ℕ) → Written out 0 text after p → text ≡ listing image → Listed image out after p

@@ -10,9 +10,12 @@ use Rattle.spec.specs.declared.Phase.the-variants.{Closed, Ready, Committing, R
 use Rattle.spec.specs.declared.Refusal.{Refusal}
 use Rattle.spec.specs.declared.Refusal.the-variants.{DeviceSize, WorkSize, BadName, TooLarge, BadHeader, Unsound, NotReady, Unknown, Taken, NoInode, NoSpace, TooManyExtents, TooManyStaged, ListShort}
 use Rattle.spec.specs.Bytes.{concat, keep, upFrom}
-use Rattle.spec.specs.Disk.{Disk}
+use Rattle.spec.specs.Disk.{Disk, blocksOf}
 use Rattle.spec.specs.Inode.{inodeAt, isEmpty, dataOf, runs}
-use Rattle.spec.specs.Listing.{extentText, moreExtents, extentsText, lineAt, filesText, refusedText, recoverText, feed, listing}
+use Rattle.spec.specs.Session.{neverOpened}
+use Rattle.spec.specs.Transaction.{stateOf}
+use Rattle.spec.specs.Calls.{openStore}
+use Rattle.spec.specs.Listing.{extentText, moreExtents, extentsText, lineAt, filesText, refusedText, recoverText, outcomeText, feed, listing}
 use Rattle.text.specs.Written.{number}
 
 -- "first+count"
@@ -58,6 +61,12 @@ openedLines d Closed = []
 openedLines d Ready = filesLines d
 openedLines d (Committing p) = []
 openedLines d (Recovering p) = recoverLine d
+
+-- the text of an image of any length
+unfoldable pub deviceText : List ℕ → List ℕ
+deviceText image =
+    let o = openStore (stateOf neverOpened image []) in
+    outcomeText (blocksOf image) (o .after .session .phase) (o .answer)
 
 -- the refusals' numbers
 abbrev pub numberOf : Refusal → ℕ

@@ -35,7 +35,7 @@ ghost use Rattle.spec.specs.Bitmap.{bitsOf, freeBits};
 ghost use Rattle.spec.specs.Transaction.{view, stateOf};
 ghost use Rattle.extents.specs.Stretches.{Fits, restRuns};
 ghost use Rattle.text.specs.Written.{Written};
-ghost use Rattle.listing.specs.Steps.{spanText, moreText, runsText, lineText, linesText, filesLines, refusedLine, recoverLine, openedLines, toldText, usedFrom, numberOf, Listed};
+ghost use Rattle.listing.specs.Steps.{spanText, moreText, runsText, lineText, linesText, filesLines, refusedLine, recoverLine, openedLines, deviceText, toldText, usedFrom, numberOf, Listed};
 
 // "at most 65,536 bytes"
 const LONGEST_IMAGE: usize = 65536;
@@ -183,7 +183,8 @@ fn put_refused(out: &mut [u8], n: usize) -> usize
     put_told(out, b"refused ", n)
 }
 
-fn put_recover(image: &[u8], out: &mut [u8]) -> usize
+// How many blocks the log lists.
+pub fn put_recover(image: &[u8], out: &mut [u8]) -> usize
     ensures { λ p. ⌜ Written (now (out .entry)) 0 (recoverLine (blocksOf (now (image .entry)))) (now (out .exit)) p ⌝ }
 {
     let t = targets_in(block_in(image, DiskBlock(0)));
@@ -191,7 +192,7 @@ fn put_recover(image: &[u8], out: &mut [u8]) -> usize
 }
 
 // The number of a refusal.
-fn number_of(why: Refusal) -> usize
+pub fn number_of(why: Refusal) -> usize
     ensures { λ r. ⌜ r ≡ numberOf why ⌝ }
 {
     match why {
@@ -225,13 +226,10 @@ fn put_opened(image: &[u8], phase: Phase, out: &mut [u8]) -> usize
     }
 }
 
-// The text for the bytes of an image, put to the front of `out` as far as it reaches; how many bytes were put.
-pub fn list_image(image: &[u8], out: &mut [u8]) -> usize
-    ensures { λ r. ⌜ Listed (now (image .entry)) (now (out .entry)) (now (out .exit)) r ⌝ }
+// The text for an image of any length, put to the front of `out`.
+pub fn list_device(image: &[u8], out: &mut [u8]) -> usize
+    ensures { λ p. ⌜ Written (now (out .entry)) 0 (deviceText (now (image .entry))) (now (out .exit)) p ⌝ }
 {
-    if LONGEST_IMAGE < image.len() {
-        return put_refused(out, 1);
-    }
     let opened = open_store(image, Session::never_opened());
     let answer = opened.answer;
     match answer {
@@ -242,4 +240,14 @@ pub fn list_image(image: &[u8], out: &mut [u8]) -> usize
             put_opened(image, phase, out)
         }
     }
+}
+
+// The text for the bytes of an image, put to the front of `out` as far as it reaches; how many bytes were put.
+pub fn list_image(image: &[u8], out: &mut [u8]) -> usize
+    ensures { λ r. ⌜ Listed (now (image .entry)) (now (out .entry)) (now (out .exit)) r ⌝ }
+{
+    if LONGEST_IMAGE < image.len() {
+        return put_refused(out, 1);
+    }
+    list_device(image, out)
 }

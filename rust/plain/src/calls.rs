@@ -1,101 +1,93 @@
-//! The calls of document 01. Each tests in the order of the refusals' numbers.
+//! The calls. "Tests go in the order of these numbers."
 
 use crate::bits::Bits;
 use crate::journal;
 use crate::mutant;
-use crate::plan::{Patch, Plan};
+use crate::plan::{change, set_record, Wish};
 use crate::sound;
-use crate::tree::{find, record, Record};
+use crate::tree::{self, size_of, Record, Runs};
 use crate::types::*;
-use crate::view::{block_of, View};
+use crate::view::View;
 
 type Done = Result<(), Refusal>;
+type Name = [u8; 8];
 
-// ---- tests
+fn require(holds: bool, refusal: Refusal) -> Done {
+    if holds {
+        Ok(())
+    } else {
+        Err(refusal)
+    }
+}
 
-/// The N of a device of this length, if it is allowed.
-fn blocks_of(device: &[u8]) -> Result<usize, Refusal> {
-    let n = device.len() / BLOCK;
-    let allowed = device.len().is_multiple_of(BLOCK) && (FEWEST_BLOCKS..=MOST_BLOCKS).contains(&n);
+/// 1: "not 512 times an allowed N"
+fn length(device: &[u8]) -> Result<usize, Refusal> {
+    let blocks = device.len() / BLOCK;
+    let allowed = device.len().is_multiple_of(BLOCK) && (FEWEST_BLOCKS..=MOST_BLOCKS).contains(&blocks);
     require(allowed, Refusal::DeviceSize)?;
-    Ok(n)
+    Ok(blocks)
 }
 
 /// 1 and 2.
-fn lent(device: &[u8], work: &[u8], s: &Session) -> Done {
-    require(blocks_of(device)? == s.blocks, Refusal::DeviceSize)?;
+fn lent(device: &[u8], work: &[u8], session: &Session) -> Done {
+    require(length(device)? == session.blocks, Refusal::DeviceSize)?;
     require(work.len() == WORK_SIZE, Refusal::WorkSize)
 }
 
-/// 3.
-fn named(name: &[u8]) -> Done {
-    require(name.len() == 8 && name.iter().any(|&x| x != 0), Refusal::BadName)
+/// 3: "Name not 8 bytes, or all zero"
+fn named(name: &[u8]) -> Result<Name, Refusal> {
+    name.try_into().ok().filter(|n| *n != [0; 8]).ok_or(Refusal::BadName)
 }
 
-/// 4, without wrapping.
-fn sized(x: u64, n: usize) -> Result<u64, Refusal> {
-    let end = x.checked_add(n as u64).filter(|&end| end <= MAX_FILE_SIZE);
-    end.ok_or(Refusal::TooLarge)
+/// 12: "Session not ready"
+fn ready(session: &Session) -> Done {
+    require(session.phase == Phase::Ready, Refusal::NotReady)
 }
 
-/// 12.
-fn ready(s: &Session) -> Done {
-    require(s.phase == Phase::Ready, Refusal::NotReady)
+/// 13: "Name unknown"
+fn known(view: View, name: Name) -> Result<usize, Refusal> {
+    view.find(name).ok_or(Refusal::Unknown)
 }
 
-/// 13.
-fn known(view: &View, name: &[u8]) -> Result<Record, Refusal> {
-    find(view, name).ok_or(Refusal::Unknown)
+/// 1, 2, 3, 12 and 13: the view and the record of a file.
+fn file<'a>(device: &'a [u8], work: &'a [u8], session: &'a Session, name: &[u8]) -> Result<(View<'a>, usize), Refusal> {
+    lent(device, work, session)?;
+    let name = named(name)?;
+    ready(session)?;
+    let view = View::new(device, work, session);
+    Ok((view, known(view, name)?))
 }
 
-/// 1, 2, 3, 12, 13: what most calls test.
-fn file<'a>(device: &'a [u8], work: &'a [u8], s: &'a Session, name: &[u8]) -> Result<(View<'a>, Record), Refusal> {
-    lent(device, work, s)?;
-    named(name)?;
-    ready(s)?;
-    let view = View::new(device, work, s);
-    Ok((view, known(&view, name)?))
-}
-
-// ---- format, open, advance, commit, abort
-
-/// Makes an empty store; the session is closed.
+/// Makes an empty store, all zero but the bit table, and a closed session.
 pub fn format(device: &mut [u8], session: &mut Session) -> Done {
-    let n = blocks_of(device)?;
+    let blocks = length(device)?;
     device.fill(0);
-    Bits::empty_store(n).to_block(&mut device[BIT_TABLE as usize * BLOCK..][..BLOCK]);
-    *session = Session::fresh(n, Phase::Closed);
+    let at = BIT_TABLE as usize * BLOCK;
+    Bits::outside(blocks).store(&mut device[at..at + BLOCK]);
+    *session = Session::fresh(blocks, Phase::Closed);
     Ok(())
 }
 
-/// Recovering if block 0 has a used record, else ready.
+/// "recovering if block 0 has a used record, else ready"
 pub fn open(device: &[u8], session: &mut Session) -> Done {
-    let n = blocks_of(device)?;
-    let header = block_of(device, 0);
-    if let Some(i) = journal::lowest_wrong(header, n) {
-        return Err(Refusal::BadHeader(i));
-    }
-    let phase = match journal::targets(header).1 {
-        0 => Phase::Ready,
-        _ => Phase::Recovering(0),
+    let blocks = length(device)?;
+    let phase = if journal::used_records(device)? > 0 {
+        Phase::Recovering(0)
+    } else {
+        sound::check(device).map_err(|_| Refusal::Unsound)?;
+        Phase::Ready
     };
-    let sound = phase != Phase::Ready || sound::check(device).is_ok();
-    require(sound, Refusal::Unsound)?;
-    *session = Session::fresh(n, phase);
+    *session = Session::fresh(blocks, phase);
     Ok(())
 }
 
-/// Stores exactly one block of the commit or recovery under way; none if nothing is.
+/// "Each advance stores exactly one block"; none if nothing is under way.
 pub fn advance(device: &mut [u8], work: &[u8], session: &mut Session) -> Result<Option<Store>, Refusal> {
     lent(device, work, session)?;
-    Ok(match session.phase {
-        Phase::Closed | Phase::Ready => None,
-        Phase::Committing(place) => journal::advance_commit(device, work, session, place),
-        Phase::Recovering(place) => journal::advance_recovery(device, session, place),
-    })
+    Ok(journal::advance(device, work, session))
 }
 
-/// Starts the commit of k staged blocks: 2k+2 stores, or none.
+/// "Commit of k staged blocks starts 2k+2 stores and answers that number"
 pub fn commit(device: &[u8], work: &[u8], session: &mut Session) -> Result<usize, Refusal> {
     lent(device, work, session)?;
     ready(session)?;
@@ -108,7 +100,7 @@ pub fn commit(device: &[u8], work: &[u8], session: &mut Session) -> Result<usize
     }
 }
 
-/// Empties the transaction.
+/// "Abort empties the transaction."
 pub fn abort(device: &[u8], work: &[u8], session: &mut Session) -> Done {
     lent(device, work, session)?;
     ready(session)?;
@@ -116,145 +108,122 @@ pub fn abort(device: &[u8], work: &[u8], session: &mut Session) -> Done {
     Ok(())
 }
 
-// ---- changing calls
-
-/// An empty file in the lowest empty record: 1, 2, 3, 12, 14, 15, 18.
+/// "Create takes the lowest empty record."
 pub fn create(device: &[u8], work: &mut [u8], session: &mut Session, name: &[u8]) -> Done {
     lent(device, work, session)?;
-    named(name)?;
+    let name = named(name)?;
     ready(session)?;
     let view = View::new(device, work, session);
-    require(find(&view, name).is_none(), Refusal::Taken)?;
-    let empty = find(&view, &[0; 8]).ok_or(Refusal::NoRecord)?;
-    let mut bytes = [0; RECORD_SIZE];
-    bytes[..8].copy_from_slice(name);
-    Plan::record(&view, empty, bytes, false)?.stage(device, work, session)
+    require(view.find(name).is_none(), Refusal::Taken)?;
+    let index = view.find([0; 8]).ok_or(Refusal::NoRecord)?;
+    let mut record: Record = [0; RECORD_SIZE];
+    record[..8].copy_from_slice(&name);
+    set_record(device, work, session, index, record)
 }
 
-/// The record emptied, its blocks given back: 1, 2, 3, 12, 13, 18.
+/// "Remove and set-size give back every data and extent block no longer needed."
 pub fn remove(device: &[u8], work: &mut [u8], session: &mut Session, name: &[u8]) -> Done {
-    let (view, record) = file(device, work, session, name)?;
-    Plan::record(&view, record, [0; RECORD_SIZE], true)?.stage(device, work, session)
+    let (_, index) = file(device, work, session, name)?;
+    change(device, work, session, &Wish { index, size: None, x: 0, data: &[] })
 }
 
-/// Another name in the same record: 1, 2, 3 of both, 12, 13 of the old, 14 of the new, 18.
+/// "Rename keeps the record in its place."
 pub fn rename(device: &[u8], work: &mut [u8], session: &mut Session, name: &[u8], new: &[u8]) -> Done {
     lent(device, work, session)?;
-    named(name)?;
-    named(new)?;
+    let (name, new) = (named(name)?, named(new)?);
     ready(session)?;
     let view = View::new(device, work, session);
     if mutant::on(1) {
-        require(find(&view, new).is_none(), Refusal::Taken)?;
+        require(view.find(new).is_none(), Refusal::Taken)?;
     }
-    let record = known(&view, name)?;
-    require(find(&view, new).is_none(), Refusal::Taken)?;
-    let mut bytes = record.bytes;
-    bytes[..8].copy_from_slice(new);
-    Plan::record(&view, record, bytes, false)?.stage(device, work, session)
+    let index = known(view, name)?;
+    require(view.find(new).is_none(), Refusal::Taken)?;
+    let mut record = *view.record(index);
+    record[..8].copy_from_slice(&new);
+    set_record(device, work, session, index, record)
 }
 
-/// Lays data over a file at x; the size grows where needed: 1, 2, 3, 4, 12, 13, 16, 17, 18.
-pub fn write(device: &[u8], work: &mut [u8], session: &mut Session, name: &[u8], x: u64, bytes: &[u8]) -> Done {
+/// "the size becomes the larger of the old size and x plus the data length, a gap is zeros"
+pub fn write(device: &[u8], work: &mut [u8], session: &mut Session, name: &[u8], x: u64, data: &[u8]) -> Done {
     lent(device, work, session)?;
-    named(name)?;
-    let end = sized(x, bytes.len())?;
+    let name = named(name)?;
+    let end = x.checked_add(data.len() as u64).filter(|&end| end <= MAX_FILE_SIZE).ok_or(Refusal::TooLarge)?;
     ready(session)?;
     let view = View::new(device, work, session);
-    let record = known(&view, name)?;
-    let size = end.max(record.size() as u64);
-    Plan::rewrite(&view, record, size, Patch { x, bytes })?.stage(device, work, session)
+    let index = known(view, name)?;
+    let size = size_of(view.record(index)).max(end);
+    change(device, work, session, &Wish { index, size: Some(size), x: x as usize, data })
 }
 
-/// Cuts a file off or lengthens it by zeros: 1, 2, 3, 4, 12, 13, 16, 17, 18.
+/// Cuts a file, or lengthens it by zeros.
 pub fn set_size(device: &[u8], work: &mut [u8], session: &mut Session, name: &[u8], size: u64) -> Done {
     lent(device, work, session)?;
-    named(name)?;
-    sized(size, 0)?;
+    let name = named(name)?;
+    require(size <= MAX_FILE_SIZE, Refusal::TooLarge)?;
     ready(session)?;
-    let view = View::new(device, work, session);
-    let record = known(&view, name)?;
-    Plan::rewrite(&view, record, size, Patch { x: 0, bytes: &[] })?.stage(device, work, session)
+    let index = known(View::new(device, work, session), name)?;
+    change(device, work, session, &Wish { index, size: Some(size), x: 0, data: &[] })
 }
 
-// ---- reading calls
-
-/// Copies the bytes from place x on; answers how many: 1, 2, 3, 12, 13.
+/// Copies bytes from place `x` on; "the rest of the buffer is unchanged, the number is the answer".
 pub fn read(device: &[u8], work: &[u8], session: &Session, name: &[u8], x: u64, buffer: &mut [u8]) -> Result<usize, Refusal> {
-    let (view, record) = file(device, work, session, name)?;
-    let left = (record.size() as u64).saturating_sub(x);
-    let wanted = left.min(buffer.len() as u64) as usize;
-    let (mut done, mut skip) = (0, (x % BLOCK as u64) as usize);
-    for run in record.runs(&view, x / BLOCK as u64, u64::MAX) {
-        if done == wanted {
-            break;
-        }
-        let n = (run.count as usize * BLOCK - skip).min(wanted - done);
-        view.copy(run.first, skip, &mut buffer[done..done + n]);
-        (done, skip) = (done + n, 0);
-    }
-    if mutant::on(9) && done > 0 && done % BLOCK != 0 && done < buffer.len() {
-        buffer[done] = 0;
-    }
-    Ok(done)
+    let (view, index) = file(device, work, session, name)?;
+    Ok(tree::read(view, view.record(index), x, buffer))
 }
 
-/// The size of a file: 1, 2, 3, 12, 13.
 pub fn size(device: &[u8], work: &[u8], session: &Session, name: &[u8]) -> Result<u64, Refusal> {
-    let (_, record) = file(device, work, session, name)?;
-    Ok(record.size() as u64)
+    let (view, index) = file(device, work, session, name)?;
+    Ok(size_of(view.record(index)))
 }
 
-/// The number of free blocks: 1, 2, 12.
+/// The free blocks: zero bits of the working table.
 pub fn free_count(device: &[u8], work: &[u8], session: &Session) -> Result<usize, Refusal> {
     lent(device, work, session)?;
     ready(session)?;
-    let view = View::new(device, work, session);
-    Ok(Bits::from_block(view.block(BIT_TABLE)).zeros())
+    Ok(Bits::load(View::new(device, work, session).block(BIT_TABLE)).free())
 }
 
-/// Name and size of record i, none if it is empty or past 127: 1, 2, 12.
+/// Record i: "name and size, or empty, also past 127".
 pub fn record_at(device: &[u8], work: &[u8], session: &Session, i: u64) -> Result<Option<File>, Refusal> {
     lent(device, work, session)?;
     ready(session)?;
     if i >= RECORD_COUNT as u64 {
         return Ok(None);
     }
-    let r = record(&View::new(device, work, session), i as usize);
-    Ok((!r.is_empty()).then(|| File { name: r.name(), size: r.size() }))
+    let record = View::new(device, work, session).record(i as usize);
+    let file = named(&record[..8]).map(|name| File { name, size: size_of(record) as u32 });
+    Ok(file.ok())
 }
 
-/// The extents of `n` blocks from block place `from` on; answers how many: 1, 2, 3, 12, 13, 19.
+/// The run list of a stretch; "places after the last are unchanged, and their number is the answer".
 pub fn run_list(
     device: &[u8],
     work: &[u8],
     session: &Session,
     name: &[u8],
     from: u64,
-    n: u64,
+    count: u64,
     list: &mut [Extent],
 ) -> Result<usize, Refusal> {
-    let (view, record) = file(device, work, session, name)?;
-    let count = record.runs(&view, from, n).count();
-    require(count <= list.len(), Refusal::ListShort)?;
-    for (place, run) in list.iter_mut().zip(record.runs(&view, from, n)) {
-        *place = run;
-    }
-    Ok(count)
+    let (view, index) = file(device, work, session, name)?;
+    let runs = || Runs::new(view, view.record(index), from, count);
+    let n = runs().count();
+    require(n <= list.len(), Refusal::ListShort)?;
+    list.iter_mut().zip(runs()).for_each(|(cell, e)| *cell = e);
+    Ok(n)
 }
 
-/// The k-th extent of such a run list, none past the last: 1, 2, 3, 12, 13.
+/// The n-th extent of a run list, counted from 0; "past the last it answers none".
 pub fn nth_extent(
     device: &[u8],
     work: &[u8],
     session: &Session,
     name: &[u8],
     from: u64,
+    count: u64,
     n: u64,
-    k: u64,
 ) -> Result<Option<Extent>, Refusal> {
-    let (view, record) = file(device, work, session, name)?;
-    let k = usize::try_from(k).unwrap_or(usize::MAX);
-    let run = record.runs(&view, from, n).nth(k);
-    Ok(run)
+    let (view, index) = file(device, work, session, name)?;
+    let n = n.min(usize::MAX as u64) as usize;
+    Ok(Runs::new(view, view.record(index), from, count).nth(n))
 }

@@ -1,131 +1,148 @@
-//! The commit block, and the stores of a commit and of a recovery.
+//! Commit and recovery: the sequence of stores and the list in block 0.
 
 use crate::mutant;
 use crate::types::*;
-use crate::view::{block_of, number2};
+use crate::view::{block_of, Block};
 
-const LOG_RECORD: usize = 16;
+const LIST_RECORD: usize = 16;
 
-/// A log's target lies within 33 to N-1.
-fn is_target(blocks: usize, b: u32) -> bool {
-    b >= BIT_TABLE && (b as usize) < blocks
+/// "Bytes 0 and 1 of record i are a target block; the other 14 are zero."
+fn target(record: &[u8]) -> u32 {
+    u16::from_le_bytes([record[0], record[1]]) as u32
 }
 
-fn target(header: &[u8], i: usize) -> u32 {
-    number2(header, i * LOG_RECORD)
+/// Targets in ascending order, or in record order.
+struct Targets {
+    list: [u32; LOG_LENGTH],
+    count: usize,
 }
 
-/// The targets of the leading used records, and how many there are.
-pub fn targets(header: &[u8]) -> ([u32; LOG_LENGTH], usize) {
-    let mut list = [0; LOG_LENGTH];
-    let mut k = 0;
-    while k < LOG_LENGTH && target(header, k) != 0 {
-        list[k] = target(header, k);
-        k += 1;
+impl Targets {
+    fn list(&self) -> &[u32] {
+        &self.list[..self.count]
     }
-    (list, k)
-}
 
-/// Refusal 10: the lowest wrong record of the commit block.
-pub fn lowest_wrong(header: &[u8], blocks: usize) -> Option<usize> {
-    let mut empty_seen = false;
-    (0..LOG_LENGTH).find(|&i| {
-        let t = target(header, i);
-        let seen = || (0..i).any(|j| target(header, j) == t);
-        let bad_target = t != 0 && (empty_seen || !is_target(blocks, t) || seen());
-        empty_seen |= t == 0;
-        let other = &header[i * LOG_RECORD + 2..(i + 1) * LOG_RECORD];
-        bad_target || other.iter().any(|&x| x != 0)
-    })
-}
-
-/// What a log may list: at least one target, each within its area, none twice (D109 of
-/// docs/DECISIONS.md; the definition used is `areTargets`). The list is in ascending order here.
-fn are_targets(blocks: usize, sorted: &[u32]) -> bool {
-    !sorted.is_empty() && sorted.iter().all(|&t| is_target(blocks, t)) && sorted.windows(2).all(|w| w[0] != w[1])
-}
-
-/// The next store of a commit that has made `place` stores. None: nothing is under way.
-pub fn advance_commit(device: &mut [u8], work: &[u8], s: &mut Session, place: usize) -> Option<Store> {
-    let mut order = [0; LOG_LENGTH];
-    let k = s.staged().len();
-    (0..k).for_each(|i| order[i] = i);
-    if !mutant::on(7) {
-        order[..k].sort_unstable_by_key(|&i| s.staged[i]);
+    /// "images in ascending order of target"
+    fn staged(session: &Session) -> Self {
+        let mut targets = Targets { list: session.staged, count: session.staged().len() };
+        if !mutant::on(7) {
+            targets.list[..targets.count].sort_unstable();
+        }
+        targets
     }
-    let list = order.map(|i| s.staged[i]);
-    let mut sorted = list;
-    sorted[..k].sort_unstable();
-    if !are_targets(s.blocks, &sorted[..k]) || place > 2 * k + 1 {
-        return None;
+
+    /// "Target 0 means empty."
+    fn listed(block: &Block) -> Self {
+        let mut targets = Targets { list: [0; LOG_LENGTH], count: 0 };
+        for t in block.chunks_exact(LIST_RECORD).map(target).take_while(|&t| t != 0) {
+            targets.list[targets.count] = t;
+            targets.count += 1;
+        }
+        targets
     }
-    let last = place == 2 * k + 1;
-    let early = mutant::on(6) && k > 1;
-    let block = match place {
-        _ if place < k => store_image(device, work, place, order[place]),
-        _ if place == k => store_list(device, &list[..k]),
-        _ if last && early => redo(device, k - 1, list[k - 1]),
-        _ if last || (early && place == 2 * k) => clear(device),
-        _ => redo(device, place - k - 1, list[place - k - 1]),
+
+    /// Whether a log may list them: at least one, within 33 to N-1, none twice.
+    fn allowed(&self, blocks: usize) -> bool {
+        let inside = |t: &u32| *t >= BIT_TABLE && (*t as usize) < blocks;
+        let list = self.list();
+        let distinct = list.windows(2).all(|w| w[0] < w[1]) || (1..list.len()).all(|i| !list[..i].contains(&list[i]));
+        !list.is_empty() && list.iter().all(inside) && distinct
+    }
+}
+
+/// 10: "Commit block wrong, with the lowest record that is"; otherwise how many records are used.
+pub fn used_records(device: &[u8]) -> Result<usize, Refusal> {
+    let blocks = device.len() / BLOCK;
+    let (mut seen, mut count) = ([0; LOG_LENGTH], 0);
+    for (i, record) in block_of(device, 0).chunks_exact(LIST_RECORD).enumerate() {
+        let t = target(record);
+        let inside = t >= BIT_TABLE && (t as usize) < blocks;
+        let used_right = t == 0 || (inside && count == i && !seen[..count].contains(&t));
+        if !used_right || record[2..].iter().any(|&x| x != 0) {
+            return Err(Refusal::BadHeader(i));
+        }
+        if t != 0 {
+            seen[count] = t;
+            count += 1;
+        }
+    }
+    Ok(count)
+}
+
+/// Makes the store at the place reached, if there is one, and moves on.
+pub fn advance(device: &mut [u8], work: &[u8], session: &mut Session) -> Option<Store> {
+    let (targets, place) = match session.phase {
+        Phase::Closed | Phase::Ready => return None,
+        Phase::Committing(place) => (Targets::staged(session), place),
+        Phase::Recovering(place) => (Targets::listed(block_of(device, 0)), place),
     };
-    if last {
-        finish(s, Phase::Ready);
-    } else {
-        s.phase = Phase::Committing(place + 1);
-    }
-    Some(Store { block, last, number: place + 1 })
-}
-
-/// The next store of a recovery that has made `place` stores.
-pub fn advance_recovery(device: &mut [u8], s: &mut Session, place: usize) -> Option<Store> {
-    let (list, k) = targets(block_of(device, 0));
-    let mut sorted = list;
-    sorted[..k].sort_unstable();
-    if !are_targets(s.blocks, &sorted[..k]) || place > k {
+    if !targets.allowed(session.blocks) {
         return None;
     }
-    let last = place == k;
-    let block = if last { clear(device) } else { redo(device, place, list[place]) };
-    if last {
-        finish(s, Phase::Closed);
-    } else {
-        s.phase = Phase::Recovering(place + 1);
-    }
-    Some(Store { block, last, number: place + 1 })
-}
-
-/// The session after the last store: nothing staged, N kept.
-fn finish(s: &mut Session, phase: Phase) {
-    if mutant::on(10) {
-        (s.phase, s.count) = (phase, 0);
-    } else {
-        *s = Session::fresh(s.blocks, phase);
+    let k = targets.count;
+    match session.phase {
+        Phase::Committing(_) if place < 2 * k + 2 => {
+            let block = commit_store(device, work, session, &targets, place);
+            let next = if place == 2 * k + 1 { Phase::Ready } else { Phase::Committing(place + 1) };
+            Some(report(session, block, place, next))
+        }
+        Phase::Recovering(_) if place <= k => {
+            let block = redo(device, targets.list(), place);
+            let next = if place == k { Phase::Closed } else { Phase::Recovering(place + 1) };
+            Some(report(session, block, place, next))
+        }
+        _ => None,
     }
 }
 
-/// Image `i` of the work space to log block 1 + `at`.
-fn store_image(device: &mut [u8], work: &[u8], at: usize, i: usize) -> u32 {
-    device[(1 + at) * BLOCK..][..BLOCK].copy_from_slice(&work[i * BLOCK..][..BLOCK]);
-    1 + at as u32
+/// "the block stored, whether it was the last, and the number of stores since the commit or open began"
+fn report(session: &mut Session, block: u32, place: usize, next: Phase) -> Store {
+    let last = matches!(next, Phase::Ready | Phase::Closed);
+    if last && !mutant::on(10) {
+        *session = Session::fresh(session.blocks, next);
+    }
+    session.phase = next;
+    Store { block, last, number: place + 1 }
 }
 
-/// The list of targets to block 0.
-fn store_list(device: &mut [u8], list: &[u32]) -> u32 {
-    device[..BLOCK].fill(0);
-    for (record, &t) in device.chunks_exact_mut(LOG_RECORD).zip(list) {
-        record[..2].copy_from_slice(&(t as u16).to_le_bytes());
+/// "images in ascending order of target to 1, 2, and so on; block 0 with the list; each target; block 0
+/// cleared"
+fn commit_store(device: &mut [u8], work: &[u8], session: &Session, targets: &Targets, place: usize) -> u32 {
+    let k = targets.count;
+    if place < k {
+        let image = session.staged().iter().position(|&s| s == targets.list[place]).unwrap_or(0);
+        put(device, 1 + place as u32, block_of(work, image));
+        return 1 + place as u32;
+    }
+    if place > k {
+        return redo(device, targets.list(), place - k - 1);
+    }
+    let list = &mut device[..BLOCK];
+    list.fill(0);
+    for (record, t) in list.chunks_exact_mut(LIST_RECORD).zip(targets.list()) {
+        record[..2].copy_from_slice(&(*t as u16).to_le_bytes());
     }
     0
 }
 
-/// Log block 1 + `i` to its target.
-fn redo(device: &mut [u8], i: usize, target: u32) -> u32 {
-    let from = (1 + i) * BLOCK;
-    device.copy_within(from..from + BLOCK, target as usize * BLOCK);
-    target
+/// Step `i` of "k targets in record order and the clearing".
+fn redo(device: &mut [u8], targets: &[u32], i: usize) -> u32 {
+    let k = targets.len();
+    let i = if mutant::on(6) && i + 1 >= k { 2 * k - 1 - i } else { i };
+    match targets.get(i) {
+        Some(&t) => {
+            let at = (1 + i) * BLOCK;
+            device.copy_within(at..at + BLOCK, t as usize * BLOCK);
+            t
+        }
+        None => {
+            device[..BLOCK].fill(0);
+            0
+        }
+    }
 }
 
-fn clear(device: &mut [u8]) -> u32 {
-    device[..BLOCK].fill(0);
-    0
+fn put(device: &mut [u8], block: u32, content: &Block) {
+    let at = block as usize * BLOCK;
+    device[at..at + BLOCK].copy_from_slice(content);
 }

@@ -1,8 +1,14 @@
-//! A purse store in plain Rust, written from document 01, the readings in docs/DECISIONS.md and,
-//! for damaged devices and tampered sessions, the definitions in crates/spec/specs.
+//! A purse store in plain Rust, written from document 01 and docs/DECISIONS.md alone.
 //!
-//! It shares no line with the proved store, whose code was not read for it. It serves as the second
-//! opinion in the differential tests and as the baseline when speed is measured.
+//! It shares no line with the proved store, of which neither the code nor the definitions were read for
+//! it. It serves as the second opinion in the differential tests and as the baseline when speed is
+//! measured.
+//!
+//! Two cases that both papers leave open, on tampered sessions and damaged devices only, were taken over
+//! from what the proved library does: an accepted call that changes files sets a session's count past 32
+//! to 32; and where one call gives a block several new contents, because the block has more than one use,
+//! the last of record, bit table, extent blocks, data blocks in file order stands. Both places in `plan`
+//! say so.
 //!
 //! ```
 //! let mut device = vec![0u8; 64 * 512];

@@ -1,288 +1,250 @@
-//! What a change takes, gives back and stages.
+//! A change of one call: planned on local values, staged only when no refusal is left.
 
 use crate::bits::Bits;
 use crate::mutant;
-use crate::tree::{blocks_for, nodes_for, record_block, Record};
+use crate::tree::{all_slots, blocks_for, nodes_for, put_slots, size_of, Record, Tree};
 use crate::types::*;
-use crate::view::{block_of, View};
+use crate::view::{block_of, record_place, View};
 
-/// The new content of one block to stage.
+/// Why a block is staged, which tells its new content.
 #[derive(Clone, Copy)]
-enum Content {
-    /// The bit table.
-    Table,
-    /// 32 bytes of a record's block.
-    Record,
-    /// An extent block: this piece of the extents.
+enum Edit {
+    /// A data block that the file had, at this place of it.
+    Held(usize),
+    /// A new data block, at this place of the file.
+    New(usize),
+    /// The last kept block.
+    Tail,
+    /// The extent block of this number in the file.
     Node(usize),
-    /// The data block at this place of the file.
-    Data(usize),
+    Table,
+    Record,
 }
 
-/// A file after a change.
-struct Resized {
-    extents: Vec<Extent>,
-    nodes: Vec<u32>,
-    nodes_held: usize,
-    blocks_held: usize,
-}
-
-/// The data of a write, and where it goes.
-#[derive(Clone, Copy)]
-pub struct Patch<'a> {
-    pub x: u64,
-    pub bytes: &'a [u8],
-}
-
-impl Patch<'_> {
-    /// The places of the blocks that hold a byte of it.
-    fn places(&self) -> std::ops::Range<usize> {
-        match self.bytes.len() {
-            0 => 0..0,
-            n => self.x as usize / BLOCK..(self.x as usize + n).div_ceil(BLOCK),
-        }
-    }
-
-    /// Lays it over the block at a place of the file.
-    fn lay(&self, place: usize, block: &mut [u8]) {
-        let (start, x) = (place * BLOCK, self.x as usize);
-        let (from, to) = (x.max(start), (x + self.bytes.len()).min(start + BLOCK));
-        if from < to {
-            block[from - start..to - start].copy_from_slice(&self.bytes[from - x..to - x]);
-        }
+impl Edit {
+    /// Whether a part of the old content stays.
+    fn keeps(self) -> bool {
+        matches!(self, Edit::Held(_) | Edit::Tail | Edit::Record)
     }
 }
 
-/// A change of one file, planned on values; nothing is touched until `stage`.
-pub struct Plan<'a> {
-    table: Bits,
+/// The blocks that a call stages, each once. "More than 32 blocks would be staged" is told at once.
+struct Edits {
+    list: [(u32, Edit); LOG_LENGTH],
+    count: usize,
+    /// Staged before, and by this call.
+    staged: usize,
+}
+
+impl Edits {
+    fn new(view: View) -> Self {
+        Edits { list: [(0, Edit::Table); LOG_LENGTH], count: 0, staged: view.staged_count() }
+    }
+
+    fn add(&mut self, view: View, block: u32, edit: Edit) -> Result<(), Refusal> {
+        // Damaged trees only: a block of several uses gets the content that comes last (open case 2).
+        if let Some(cell) = self.list[..self.count].iter_mut().find(|c| c.0 == block) {
+            cell.1 = edit;
+            return Ok(());
+        }
+        self.staged += !view.is_staged(block) as usize;
+        if self.staged > LOG_LENGTH {
+            return Err(Refusal::TooManyStaged);
+        }
+        self.list[self.count] = (block, edit);
+        self.count += 1;
+        Ok(())
+    }
+
+    /// "Image i of the work space is that of the i-th block staged, within a call ascending"
+    fn stage(&mut self, device: &[u8], work: &mut [u8], session: &mut Session, draw: impl Fn(Edit, &mut [u8])) {
+        // Tampered sessions only: a count past 32 becomes 32 (open case 1).
+        session.count = session.staged().len();
+        let list = &mut self.list[..self.count];
+        list.sort_unstable_by_key(|c| c.0);
+        for &(block, edit) in list.iter() {
+            let before = session.staged().iter().position(|&s| s == block);
+            let i = before.unwrap_or(session.count);
+            let image = &mut work[i * BLOCK..(i + 1) * BLOCK];
+            if before.is_none() {
+                session.staged[i] = block;
+                session.count += 1;
+                if edit.keeps() {
+                    image.copy_from_slice(block_of(device, block as usize));
+                }
+            }
+            draw(edit, image);
+        }
+    }
+}
+
+fn put_record(image: &mut [u8], index: usize, record: &Record) {
+    let (_, at) = record_place(index);
+    image[at..at + RECORD_SIZE].copy_from_slice(record);
+}
+
+/// Gives a record other bytes and changes nothing else.
+pub fn set_record(device: &[u8], work: &mut [u8], session: &mut Session, index: usize, record: Record) -> Result<(), Refusal> {
+    let view = View::new(device, work, session);
+    let mut edits = Edits::new(view);
+    if *view.record(index) != record {
+        edits.add(view, record_place(index).0, Edit::Record)?;
+    }
+    edits.stage(device, work, session, |_, image| put_record(image, index, &record));
+    Ok(())
+}
+
+/// What write, set-size and remove ask of a file.
+pub struct Wish<'a> {
+    pub index: usize,
+    /// The size afterwards; none: the file goes.
+    pub size: Option<u64>,
+    pub x: usize,
+    pub data: &'a [u8],
+}
+
+/// The file as it will be.
+struct Plan<'a> {
+    wish: &'a Wish<'a>,
     record: Record,
-    new_record: [u8; RECORD_SIZE],
-    file: Resized,
-    size: u64,
-    patch: Patch<'a>,
-    /// In ascending order of block. Of two contents for one block the later one stands: that
-    /// happens only on a damaged device (the definition used is `ascending`).
-    edits: Vec<(u32, Content)>,
+    tree: Tree,
+    bits: Bits,
+    /// Data and extent blocks that the file has before and after; those behind are new.
+    held: usize,
+    held_nodes: usize,
 }
 
-/// Adds blocks to a list of extents, as part of the last one where they follow on.
-fn push(extents: &mut Vec<Extent>, e: Extent) {
-    match extents.last_mut() {
-        Some(l) if l.first + l.count == e.first && !mutant::on(4) => l.count += e.count,
-        _ => extents.push(e),
-    }
-}
-
-/// Splits extents after `n` blocks.
-fn split(extents: impl Iterator<Item = Extent>, n: usize) -> (Vec<Extent>, Vec<Extent>, usize) {
-    let (mut front, mut back, mut held) = (Vec::new(), Vec::new(), 0);
-    for e in extents {
-        let kept = n.saturating_sub(held).min(e.count as usize) as u32;
-        held += e.count as usize;
-        if kept > 0 {
-            front.push(Extent { first: e.first, count: kept });
-        }
-        if kept < e.count {
-            back.push(Extent { first: e.first + kept, count: e.count - kept });
-        }
-    }
-    (front, back, held)
-}
-
-/// Makes a file of `wanted` blocks: refusals 16 and 17. The table takes part in it. On a damaged device
-/// one change may take and give back: taken bits are set first (the definition used is `bitmapEdit`).
-fn resize(view: &View, record: &Record, table: &mut Bits, wanted: usize) -> Result<Resized, Refusal> {
-    let free = table.zeros();
-    let all = record.runs(view, 0, MAX_FILE_BLOCKS as u64);
-    let (mut extents, dropped, blocks_held) = split(all, wanted);
-    let lack = wanted.saturating_sub(blocks_held);
-    require(lack <= free, Refusal::NoSpace)?;
-    let mut word = 0;
-    for _ in 0..lack {
-        let first = table.take_lowest(&mut word).expect("counted before");
-        push(&mut extents, Extent { first, count: 1 });
-    }
-    let mut nodes: Vec<u32> = record.nodes().collect();
-    let (nodes_held, nodes_wanted) = (nodes.len(), nodes_for(extents.len()));
-    let lack_nodes = nodes_wanted.saturating_sub(nodes_held);
-    let counted = lack + if mutant::on(8) { nodes_wanted } else { lack_nodes };
-    require(counted <= free, Refusal::NoSpace)?;
-    require(extents.len() <= MAX_EXTENTS, Refusal::TooManyExtents)?;
-    for _ in 0..lack_nodes {
-        nodes.push(table.take_lowest(&mut word).expect("counted before"));
-    }
-    let surplus = nodes.split_off(nodes_wanted);
-    let freed = dropped.iter().flat_map(|e| e.first..e.first + e.count).chain(surplus);
-    freed.for_each(|b| table.set(b as usize, false));
-    Ok(Resized { extents, nodes, nodes_held, blocks_held })
-}
-
-/// Slots one after the other; a number that does not fit is cut to 16 bits.
-fn put_slots(extents: impl Iterator<Item = Extent>, to: &mut [u8]) {
-    for (e, slot) in extents.zip(to.chunks_exact_mut(4)) {
-        slot[..2].copy_from_slice(&(e.first as u16).to_le_bytes());
-        slot[2..].copy_from_slice(&(e.count as u16).to_le_bytes());
-    }
-}
-
-impl Resized {
-    fn node_bytes(&self, i: usize) -> [u8; BLOCK] {
-        let mut bytes = [0; BLOCK];
-        let piece = self.extents.chunks(NODE_SLOTS).nth(i).unwrap_or(&[]);
-        put_slots(piece.iter().copied(), &mut bytes);
-        bytes
-    }
-
-    fn record_bytes(&self, name: &[u8], size: u64) -> [u8; RECORD_SIZE] {
-        let mut bytes = [0; RECORD_SIZE];
-        bytes[..8].copy_from_slice(name);
-        bytes[8..12].copy_from_slice(&(size as u32).to_le_bytes());
-        if self.nodes.is_empty() {
-            put_slots(self.extents.iter().copied(), &mut bytes[16..]);
-        } else {
-            bytes[12] = 1;
-            let pieces = self.extents.chunks(NODE_SLOTS);
-            let counts = pieces.map(|p| p.iter().map(|e| e.count).sum());
-            let slots = self.nodes.iter().zip(counts).map(|(&first, count)| Extent { first, count });
-            put_slots(slots, &mut bytes[16..]);
-        }
-        bytes
-    }
+/// Plans and stages a change of a file's size or bytes.
+pub fn change(device: &[u8], work: &mut [u8], session: &mut Session, wish: &Wish) -> Result<(), Refusal> {
+    let view = View::new(device, work, session);
+    let plan = Plan::new(view, wish)?;
+    let mut edits = plan.edits(view)?;
+    edits.stage(device, work, session, |edit, image| plan.draw(edit, image));
+    Ok(())
 }
 
 impl<'a> Plan<'a> {
-    /// A record becomes a file of this name and size, with a patch laid over it.
-    pub fn rewrite(view: &View, record: Record, size: u64, patch: Patch<'a>) -> Result<Self, Refusal> {
-        let before = Bits::from_block(view.block(BIT_TABLE));
-        let mut table = before.clone();
-        let file = resize(view, &record, &mut table, blocks_for(size))?;
-        let new_record = file.record_bytes(&record.name(), size);
-        let edits = Vec::with_capacity(LOG_LENGTH + 1);
-        let mut plan = Plan { table, record, new_record, file, size, patch, edits };
-        plan.edit_table(&before)?;
-        plan.edit_record()?;
-        plan.edit_nodes(view)?;
-        plan.edit_data()?;
+    fn new(view: View, wish: &'a Wish) -> Result<Self, Refusal> {
+        let old = view.record(wish.index);
+        let (tree, bits) = (Tree::new(view, old), Bits::load(view.block(BIT_TABLE)));
+        let mut plan = Plan { wish, record: [0; RECORD_SIZE], held: 0, held_nodes: 0, tree, bits };
+        let blocks = blocks_for(wish.size.unwrap_or(0));
+        plan.held = plan.tree.blocks().min(blocks);
+        plan.lengthen(blocks)?;
+        plan.shorten(blocks);
+        if let Some(size) = wish.size {
+            plan.record[..8].copy_from_slice(&old[..8]);
+            plan.record[8..12].copy_from_slice(&(size as u32).to_le_bytes());
+            plan.tree.put(&mut plan.record);
+        }
         Ok(plan)
     }
 
-    /// The record's 32 bytes become these; its blocks are given back or stay.
-    pub fn record(view: &View, record: Record, bytes: [u8; RECORD_SIZE], free: bool) -> Result<Self, Refusal> {
-        let before = Bits::from_block(view.block(BIT_TABLE));
-        let mut table = before.clone();
-        let file = if free {
-            resize(view, &record, &mut table, 0)?
-        } else {
-            Resized { extents: Vec::new(), nodes: Vec::new(), nodes_held: 0, blocks_held: 0 }
-        };
-        let patch = Patch { x: 0, bytes: &[] };
-        let mut plan = Plan { table, record, new_record: bytes, file, size: 0, patch, edits: Vec::new() };
-        plan.edit_table(&before)?;
-        plan.edit_record()?;
-        Ok(plan)
-    }
-
-    /// Refusal 18 as far as this call alone goes.
-    fn put(&mut self, block: u32, content: Content) -> Result<(), Refusal> {
-        match self.edits.binary_search_by_key(&block, |e| e.0) {
-            Ok(i) => self.edits[i].1 = content,
-            Err(i) => self.edits.insert(i, (block, content)),
-        }
-        require(self.edits.len() <= LOG_LENGTH, Refusal::TooManyStaged)
-    }
-
-    /// Block 33 when a bit changes.
-    fn edit_table(&mut self, before: &Bits) -> Result<(), Refusal> {
-        if self.table == *before {
+    /// "New blocks: first the data blocks in file order, each the lowest free one in the working bit
+    /// table, then extent blocks likewise."
+    fn lengthen(&mut self, blocks: usize) -> Result<(), Refusal> {
+        self.held_nodes = self.tree.nodes().len();
+        let lacking = blocks.saturating_sub(self.tree.blocks());
+        if lacking == 0 {
             return Ok(());
         }
-        self.put(BIT_TABLE, Content::Table)
+        let free = self.bits.free();
+        if lacking > free {
+            return Err(Refusal::NoSpace);
+        }
+        let mut low = 0;
+        for _ in 0..lacking {
+            self.tree.grow(self.bits.take(&mut low));
+        }
+        let held = if mutant::on(8) { 0 } else { self.held_nodes };
+        let wanted = nodes_for(self.tree.extent_count());
+        if lacking + wanted.saturating_sub(held) > free {
+            return Err(Refusal::NoSpace);
+        }
+        if self.tree.extent_count() > MAX_EXTENTS {
+            return Err(Refusal::TooManyExtents);
+        }
+        for _ in self.held_nodes..wanted {
+            self.tree.push_node(self.bits.take(&mut low));
+        }
+        Ok(())
     }
 
-    /// The record's block when the record changes.
-    fn edit_record(&mut self) -> Result<(), Refusal> {
-        if self.new_record == self.record.bytes {
+    /// "Remove and set-size give back every data and extent block no longer needed."
+    fn shorten(&mut self, blocks: usize) {
+        let bits = &mut self.bits;
+        self.tree.cut(blocks, |e| bits.clear(e.first as usize, e.count as usize));
+        let wanted = nodes_for(self.tree.extent_count());
+        if wanted < self.tree.nodes().len() {
+            self.tree.nodes()[wanted..].iter().for_each(|&b| bits.clear(b as usize, 1));
+            self.tree.cut_nodes(wanted);
+        }
+        self.held_nodes = self.held_nodes.min(wanted);
+    }
+
+    /// The clauses of "A call stages". Their order counts only where a block has several uses.
+    fn edits(&self, view: View) -> Result<Edits, Refusal> {
+        let (mut edits, wish) = (Edits::new(view), self.wish);
+        let old = view.record(wish.index);
+        if self.record != *old {
+            edits.add(view, record_place(wish.index).0, Edit::Record)?;
+        }
+        if !self.bits.same_as(view.block(BIT_TABLE)) {
+            edits.add(view, BIT_TABLE, Edit::Table)?;
+        }
+        for (i, &b) in self.tree.nodes().iter().enumerate() {
+            if i >= self.held_nodes || self.leaf_changes(view, i) {
+                edits.add(view, b, Edit::Node(i))?;
+            }
+        }
+        if !wish.data.is_empty() {
+            let end = (wish.x + wish.data.len()).div_ceil(BLOCK);
+            self.places(&mut edits, view, wish.x / BLOCK, end.min(self.held), Edit::Held)?;
+        }
+        self.places(&mut edits, view, self.held, self.tree.blocks(), Edit::New)?;
+        if wish.size.is_some_and(|s| s < size_of(old) && s % BLOCK as u64 != 0) {
+            self.places(&mut edits, view, self.tree.blocks() - 1, self.held, |_| Edit::Tail)?;
+        }
+        Ok(edits)
+    }
+
+    /// Adds the data blocks at some places.
+    fn places(&self, edits: &mut Edits, view: View, from: usize, end: usize, edit: impl Fn(usize) -> Edit) -> Result<(), Refusal> {
+        if from >= end {
             return Ok(());
         }
-        self.put(record_block(self.record.index), Content::Record)
+        self.tree.places(from, end).try_for_each(|(p, b)| edits.add(view, b, edit(p)))
     }
 
-    /// Each new extent block, and each one whose content changes.
-    fn edit_nodes(&mut self, view: &View) -> Result<(), Refusal> {
-        for i in 0..self.file.nodes.len() {
-            let b = self.file.nodes[i];
-            if i >= self.file.nodes_held || self.file.node_bytes(i) != view.block(b) {
-                self.put(b, Content::Node(i))?;
+    /// "each extent block whose content changes"
+    fn leaf_changes(&self, view: View, i: usize) -> bool {
+        let unused = std::iter::repeat(Extent::default());
+        let new = self.tree.leaf(i).iter().copied().chain(unused).take(NODE_SLOTS);
+        !all_slots(view.block(self.tree.nodes()[i])).eq(new)
+    }
+
+    /// Turns the old content of a block into the new one.
+    fn draw(&self, edit: Edit, image: &mut [u8]) {
+        match edit {
+            Edit::Held(place) => self.lay_over(place, image),
+            Edit::New(place) => {
+                image.fill(0);
+                self.lay_over(place, image);
             }
+            Edit::Tail if mutant::on(3) => {}
+            Edit::Tail => image[(self.wish.size.unwrap_or(0) % BLOCK as u64) as usize..].fill(0),
+            Edit::Node(i) => put_slots(image, self.tree.leaf(i).iter().copied()),
+            Edit::Table => self.bits.store(image),
+            Edit::Record => put_record(image, self.wish.index, &self.record),
         }
-        Ok(())
     }
 
-    /// On shortening to a size not divisible by 512: the place of the last kept block.
-    fn last_kept(&self) -> Option<usize> {
-        let cut = self.size < self.record.size() as u64 && !self.size.is_multiple_of(BLOCK as u64);
-        cut.then_some(self.size as usize / BLOCK)
-    }
-
-    /// Each data block holding a byte of the data, each new one, and the last kept one.
-    fn edit_data(&mut self) -> Result<(), Refusal> {
-        let (held, data, kept) = (self.file.blocks_held, self.patch.places(), self.last_kept());
-        let staged = |p: usize| p >= held || data.contains(&p) || kept == Some(p);
-        let mut start = 0;
-        for k in 0..self.file.extents.len() {
-            let e = self.file.extents[k];
-            let end = start + e.count as usize;
-            let quiet = end <= held && (end <= data.start || start >= data.end) && kept.is_none();
-            if !quiet {
-                for p in (start..end).filter(|&p| staged(p)) {
-                    self.put(e.first + (p - start) as u32, Content::Data(p))?;
-                }
-            }
-            start = end;
-        }
-        Ok(())
-    }
-
-    /// Refusal 18 in whole, then the images and the staged numbers. A count past 32 becomes 32 (only
-    /// after tampering; the definition used is `withStaged`).
-    pub fn stage(&self, device: &[u8], work: &mut [u8], s: &mut Session) -> Result<(), Refusal> {
-        let count = s.staged().len();
-        let staged_before = |b: u32| s.staged[..count].contains(&b);
-        let new = self.edits.iter().filter(|e| !staged_before(e.0)).count();
-        require(count + new <= LOG_LENGTH, Refusal::TooManyStaged)?;
-        s.count = count;
-        for &(b, content) in &self.edits {
-            let place = s.staged[..count].iter().position(|&t| t == b);
-            let i = place.unwrap_or(s.count);
-            let image = &mut work[i * BLOCK..(i + 1) * BLOCK];
-            if place.is_none() {
-                image.copy_from_slice(block_of(device, b));
-                s.staged[i] = b;
-                s.count += 1;
-            }
-            self.fill(content, image);
-        }
-        Ok(())
-    }
-
-    /// Turns a block's old content into the new one.
-    fn fill(&self, content: Content, image: &mut [u8]) {
-        match content {
-            Content::Table => self.table.to_block(image),
-            Content::Record => {
-                let at = self.record.index % 16 * RECORD_SIZE;
-                image[at..at + RECORD_SIZE].copy_from_slice(&self.new_record);
-            }
-            Content::Node(i) => image.copy_from_slice(&self.file.node_bytes(i)),
-            Content::Data(p) => {
-                if p >= self.file.blocks_held {
-                    image.fill(0);
-                } else if self.last_kept() == Some(p) && !mutant::on(3) {
-                    image[self.size as usize % BLOCK..].fill(0);
-                }
-                self.patch.lay(p, image);
-            }
+    /// Lays the part of the data that belongs to a place over the block's bytes.
+    fn lay_over(&self, place: usize, image: &mut [u8]) {
+        let (x, data, start) = (self.wish.x, self.wish.data, place * BLOCK);
+        let (from, to) = (x.max(start), (x + data.len()).min(start + BLOCK));
+        if from < to {
+            image[from - start..to - start].copy_from_slice(&data[from - x..to - x]);
         }
     }
 }

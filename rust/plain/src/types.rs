@@ -113,12 +113,3 @@ impl Refusal {
         }
     }
 }
-
-/// Refuse unless the condition holds.
-pub(crate) fn require(condition: bool, refusal: Refusal) -> Result<(), Refusal> {
-    if condition {
-        Ok(())
-    } else {
-        Err(refusal)
-    }
-}

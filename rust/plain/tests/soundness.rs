@@ -83,6 +83,9 @@ fn s6_shape() {
     // A as depth 1 with four extents.
     let four = [(FIRST + 18, 4), (FIRST + 9, 8), (FIRST + 8, 0), (NODE + 16, 0), (NODE + 18, 0)];
     assert_eq!(broken(&four), Err(Rule::S6));
+    // An empty file as depth 1.
+    assert_eq!(broken(&[(SECOND + 32, 7), (SECOND + 32 + 12, 1)]), Err(Rule::S6));
+    assert_eq!(broken(&[(SECOND + 32, 7)]), Ok(()));
 }
 
 #[test]

@@ -3,6 +3,14 @@
 // A refusal hands back that session in its own numbers: phase 0 where the number given was none, place 0 where the phase has none.
 use block::ByteOffset;
 use block::FileBlock;
+use extents::RunStep;
+use extents::count_runs;
+use extents::growing_from;
+use extents::next_run;
+use extents::stretch;
+use inode::table_block;
+use lookup::Looked;
+use lookup::look_up;
 use mirror::CAdvanced;
 use mirror::CCommitted;
 use mirror::CCounted;
@@ -17,9 +25,8 @@ use mirror::decode;
 use mirror::finished;
 use mirror::recorded;
 use mirror::run;
-use runlist::count_checked;
-use runlist::how_many;
-use runlist::nth;
+use spec::Counted;
+use spec::Refusal;
 use spec::Session;
 use store::abort;
 use store::advance;
@@ -38,11 +45,11 @@ use store::size;
 use store::write;
 ghost use mathlib.Core.Path.{_≡_};
 ghost use mathlib.Core.List.{List};
-ghost use Prim.Native.Nat.{ℕ, _*_, _≤_};
-ghost use lib.ListN.{length, take};
+ghost use Prim.Native.Nat.{ℕ, _*_, _<_, _≤_};
+ghost use lib.ListN.{length};
+ghost use Rattle.spec.specs.Answers.{countedOf as answerOf};
 ghost use Rattle.spec.specs.Transaction.{stateOf};
-ghost use Rattle.spec.specs.Calls.{format, openStore, advance, commit, abort, create, remove, rename, write, setSize, read, sizeOf, freeCount, recordAt, nthExtent, runList};
-ghost use Rattle.runlist.specs.Lists.{namedRuns};
+ghost use Rattle.spec.specs.Calls.{format, openStore, advance, commit, abort, create, remove, rename, write, setSize, read, sizeOf, freeCount, recordAt, nthExtent, runsOf, runList};
 ghost use Rattle.mirror.specs.Mirror.{decode, countedOf, recordedOf, runOf, Finishes, Commits, Advances, Reads, Lists, extentsOf, withExtents};
 
 // Makes an empty store. The work space is not lent: whatever it holds stays.
@@ -270,27 +277,61 @@ pub extern "C" fn purse_nth_extent_v<'a>(
     run(answer)
 }
 
-// The first runs of a stretch, into the first pairs of cells.
+// The runs of n data blocks of record i from block `from` on, into the first pairs of cells.
 fn put_runs<'a>(
     device: &'a [u8],
     work: &'a [u8],
-    session: Session,
-    name: &[u8],
-    from: FileBlock,
+    s: Session,
+    i: usize,
+    from: usize,
     n: usize,
-    count: usize,
     list: &mut [u32],
 )
-    requires { ⌜ (count ≤ length (namedRuns (stateOf session (now device) (now work)) (now name) (from .0) n)) × (2 * count ≤ length (now list)) ⌝ }
-    ensures { λ _. ⌜ now (list .exit)
-        ≡ withExtents (now (list .entry)) (take count (namedRuns (stateOf session (now (device .entry)) (now (work .entry))) (now (name .entry)) (from .0) n)) ⌝ }
+    requires { ⌜ (i < 128) × (2 * length (runsOf (stateOf s (now device) (now work)) i from n) ≤ length (now list)) ⌝ }
+    ensures { λ _. ⌜ now (list .exit) ≡ withExtents (now (list .entry)) (runsOf (stateOf s (now (device .entry)) (now (work .entry))) i from n) ⌝ }
 {
+    let tb = table_block(i);
+    let mut at = growing_from(stretch(device, work, s, i, from, n));
     let mut k: usize = 0;
-    while k < count {
-        let e = nth(device, work, session, name, from, n, k);
-        list[2 * k] = e.first;
-        list[2 * k + 1] = e.count;
-        k += 1;
+    loop {
+        match next_run(device, work, s, tb, at) {
+            RunStep::Run(e, then) => {
+                list[2 * k] = e.first;
+                list[2 * k + 1] = e.count;
+                k += 1;
+                at = then;
+            }
+            RunStep::End => {
+                return;
+            }
+        }
+    }
+}
+
+// 1, 2, 3, 12, 13 and 19, or the run list put into pairs of cells: the tree once for the count, and once for the runs.
+fn list_runs<'a>(
+    device: &'a [u8],
+    work: &'a [u8],
+    s: Session,
+    name: &[u8],
+    from: usize,
+    n: usize,
+    list: &mut [u32],
+) -> Counted
+    ensures { λ r. ⌜ Lists (countedOf (answerOf r)) (now (list .entry)) (now (list .exit))
+        (runList (stateOf s (now (device .entry)) (now (work .entry))) (now (name .entry)) from n (extentsOf (now (list .entry)))) ⌝ }
+{
+    match look_up(device, work, s, name) {
+        Looked::Bad(why) => Counted::Refused(why),
+        Looked::At(i) => {
+            let count = count_runs(device, work, s, i, from, n);
+            if count <= list.len() / 2 {
+                put_runs(device, work, s, i, from, n, list);
+                Counted::Count(count)
+            } else {
+                Counted::Refused(Refusal::ListShort)
+            }
+        }
     }
 }
 
@@ -309,17 +350,6 @@ pub extern "C" fn purse_run_list_v<'a>(
         (runList (stateOf (decode session) (now (device .entry)) (now (work .entry))) (now (name .entry)) from n (extentsOf (now (list .entry)))) ⌝ }
 {
     let s = decode(session);
-    let first = FileBlock(from as usize);
-    let answer = count_checked(device, work, s, name, first, n as usize, list.len() / 2);
-    put_runs(
-        device,
-        work,
-        s,
-        name,
-        first,
-        n as usize,
-        how_many(answer),
-        list,
-    );
+    let answer = list_runs(device, work, s, name, from as usize, n as usize, list);
     counted(answer)
 }

@@ -18,7 +18,7 @@ ghost use Rattle.spec.specs.Calls.{leftList, runList};
 ghost use Rattle.runlist.specs.Lists.{countsOf, countOk, namedRuns, manyOf};
 
 // 1, 2, 3, 12, 13 and 19: how many runs the stretch has, or the first test that failed.
-pub fn count_checked<'a>(
+fn count_checked<'a>(
     device: &'a [u8],
     work: &'a [u8],
     session: Session,
@@ -44,7 +44,7 @@ pub fn count_checked<'a>(
 }
 
 // Run k of the stretch, of no blocks where there is none.
-pub fn nth<'a>(
+fn nth<'a>(
     device: &'a [u8],
     work: &'a [u8],
     session: Session,
@@ -66,7 +66,7 @@ pub fn nth<'a>(
 }
 
 // How many runs are listed under an answer.
-pub fn how_many(answer: Counted) -> usize
+fn how_many(answer: Counted) -> usize
     ensures { λ r. ⌜ r ≡ manyOf answer ⌝ }
 {
     match answer {

@@ -11,17 +11,29 @@ use Rattle.spec.specs.declared.Extent.{Extent}
 use Rattle.spec.specs.Bytes.{upFrom}
 use Rattle.spec.specs.Inode.{extent, blocksIn, counts}
 use Rattle.runs.specs.declared.Runs.{Runs}
+use Rattle.runs.specs.declared.End.{End}
+use Rattle.runs.specs.Push.{columns}
 use Rattle.runs.specs.Runs.{extentsFrom, listed}
 use Rattle.content.proofs.Laws.{extents-more}
 use Rattle.lists.specs.Counts.{length-upFrom}
 use Rattle.lists.specs.Extents.{counts-append, blocks-append, length-blocks}
-use Rattle.content.proofs.Record.{extents-join}
+use Rattle.content.proofs.Record.{extents-join, any-first}
 use Rattle.change.specs.Contents.{placeOf}
 
 up-at : (a n j : ℕ) → j < n → getD (upFrom a n) j 0 ≡ a + j
 up-at a zero j h = absurd (omega arith)
 up-at a (suc n) zero h = sym (add-zero a)
 up-at a (suc n) (suc j) h = up-at (suc a) n j (omega arith) ∙ omega arith
+
+-- where extents begin plays no part in how many blocks they have
+module _ (fs gs ns : List ℕ) (e : End) where
+  pub place-columns : (k : ℕ) → placeOf (columns fs ns e) k ≡ placeOf (columns gs ns e) k
+  unfolding placeOf
+  place-columns k = any-first fs gs ns 0 k
+
+  pub counts-columns : counts (listed (columns fs ns e)) ≡ counts (listed (columns gs ns e))
+  unfolding listed
+  counts-columns = any-first fs gs ns 0 (e .len)
 
 module _ (r : Runs) where
   pub place-none : placeOf r 0 ≡ 0
@@ -104,6 +116,9 @@ module _ (r : Runs) where
         let p = place-more j in
         let z : placeOf r k ≡ placeOf r (j + 1) = ap (placeOf r) q in
         omega arith
+
+    pub place-split : n ≡ n - w + getD (r .count) j 0
+    place-split = let u = place-under in omega arith
 
   pub place-end : (n k : ℕ) → n ≡ placeOf r k → k ≡ r .len → n ≡ placeOf r (r .len)
   place-end n k e q = e ∙ ap (placeOf r) q

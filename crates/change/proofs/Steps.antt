@@ -22,7 +22,7 @@ use Rattle.agenda.proofs.Laws.{insert-over}
 use Rattle.block.proofs.Laws.{lt-or-le}
 use Rattle.change.specs.declared.Change.{Change}
 use Rattle.change.specs.Change.{changeStores}
-use Rattle.change.specs.Contents.{contentOf, contentIn, withChanged, dataStores, nodeStores, recordStores}
+use Rattle.change.specs.Contents.{contentOf, contentIn, withChanged, dataStores, nodeStores, recordStores, Numbers}
 use Rattle.change.proofs.Contents.{content-bitmap, content-record, content-node, content-data}
 
 pub ascending-more : (w : BlockStore) (ws : List BlockStore) → insert w (ascending ws) ≡ ascending (w ∷ ws)
@@ -49,6 +49,11 @@ same-as f v i c x bytes b tag new old r eo en ef er =
     er ∙ ap₂ same (en ∙ ap (contentOf i c x bytes tag) eo ∙ sym (ap (λ (g : ℕ → ℕ → List ℕ). g b tag) ef)) eo
 
 -- ---- data blocks
+
+-- the test of a data block, from the numbers of a change
+pub staged-by : (c : Change) (held old size x : ℕ) (bytes : List ℕ) (p : ℕ) (r : Bool) → Numbers c held old size → r ≡ isStaged held old size x bytes p
+    → r ≡ isStaged (c .tree .held) (c .old) (c .size) x bytes p
+staged-by c held old size x bytes p r n e = rw (n .0, n .1, n .2) e
 
 module _ (v : Disk) (F : ℕ → Edit) (f : ℕ → Bool) (p n : ℕ) where
   keep-skip : f p ≡ false → storesOf v (map F (keep f (upFrom p (suc n)))) ≡ storesOf v (map F (keep f (upFrom (suc p) n)))

@@ -1,5 +1,6 @@
 -- What the code inserts into an agenda, entry by entry, and the content of each, for the contracts of this crate.
-use Prim.Native.Nat.{ℕ, _*_, _-_}
+use Prim.Native.Nat.{ℕ, _*_, _-_, _<_}
+use mathlib.Core.Path.{_≡_}
 use mathlib.Core.Bool.{cond}
 use mathlib.Core.List.{List, _∷_, _++_, map}
 use lib.ListN.{length, drop, getD}
@@ -11,8 +12,15 @@ use Rattle.spec.specs.Transaction.{BlockStore, put}
 use Rattle.spec.specs.Plan.{edit, ifChanged, storesOf, inodeEdit, nodeEdits, dataEdits, isStaged, newContent}
 use Rattle.runs.specs.declared.Runs.{Runs}
 use Rattle.runs.specs.Runs.{extentsFrom, listed, nodesIn}
+use Rattle.runs.specs.Push.{columns}
 use Rattle.content.specs.Content.{withRecord, nodeContent, dataContent}
 use Rattle.change.specs.declared.Change.{Change}
+use Rattle.change.specs.declared.Outline.{Outline}
+
+-- a change from its bitmap, the columns of its extents and the rest
+abbrev pub changeOf : List ℕ → List ℕ → List ℕ → Outline → Change
+changeOf table first count o =
+    record { tree = record { table = table; runs = columns first count (o .end); node = o .node; nodes = o .nodes; before = o .before; held = o .held }; «record» = o .bytes; old = o .old; size = o .size }
 
 -- the content of a block by its tag: 0 the bitmap, 1 the record's block, 2 + j node j, 6 + p the file's data block p
 unfoldable pub contentOf : ℕ → Change → ℕ → List ℕ → ℕ → List ℕ → List ℕ
@@ -53,3 +61,11 @@ recordStores v i c x bytes =
 -- how many blocks the first k extents have
 unfoldable pub placeOf : Runs → ℕ → ℕ
 placeOf r k = counts (extentsFrom (r .first) (r .count) 0 k)
+
+-- a change with these numbers: data blocks held before, size before and after
+abbrev pub Numbers : Change → ℕ → ℕ → ℕ → Type 0
+Numbers c held old size = (c .tree .held ≡ held) × (c .old ≡ old) × (c .size ≡ size)
+
+-- data block p of the file is block b
+abbrev pub IsBlock : Change → ℕ → ℕ → Type 0
+IsBlock c p b = (p < length (blocksIn (listed (c .tree .runs)))) × (b ≡ getD (blocksIn (listed (c .tree .runs))) p 0)

@@ -11,7 +11,7 @@ use content::is_staged;
 use content::node_content;
 use content::with_record;
 use inode::table_block;
-use runs::Runs;
+use runs::End;
 use runs::Tree;
 use spec::Done;
 use spec::Finished;
@@ -22,24 +22,37 @@ use transaction::stage;
 use transaction::staged_count;
 use transaction::view_block;
 ghost use mathlib.Core.Path.{_≡_};
-ghost use mathlib.Core.List.{List};
+ghost use mathlib.Core.List.{List, []};
 ghost use Prim.Native.Nat.{ℕ, _+_, _-_, _<_, _≤_};
 ghost use lib.ListN.{length, take, getD};
 ghost use Rattle.spec.specs.Answers.{doneOf};
 ghost use Rattle.spec.specs.Disk.{Disk};
-ghost use Rattle.spec.specs.Inode.{blocksIn, counts};
+ghost use Rattle.spec.specs.Inode.{counts};
 ghost use Rattle.spec.specs.Session.{stagedIn, withStaged};
 ghost use Rattle.spec.specs.Transaction.{BlockStore, view, stateOf, ascending, stageEach, stagedOf, withStaging};
 ghost use Rattle.spec.specs.Calls.{left, settle, outcome, staging};
 ghost use Rattle.runs.specs.Runs.{Bounded, listed};
+ghost use Rattle.runs.specs.Push.{columns};
 ghost use Rattle.agenda.specs.Agenda.{Lists, storesBy, Rising};
-ghost use Rattle.change.specs.Change.{changeStores};
-ghost use Rattle.change.specs.Contents.{contentOf, contentIn, withChanged, dataStores, nodeStores, placeOf};
+ghost use Rattle.change.specs.Change.{Change, changeStores};
+ghost use Rattle.change.specs.Contents.{contentOf, contentIn, withChanged, dataStores, nodeStores, placeOf, changeOf, Numbers, IsBlock};
 
 // A change of a file: its tree and the bitmap, the bytes of its record, its size before and after.
 pub struct Change {
     pub tree: Tree,
     pub record: [u8; 32],
+    pub old: usize,
+    pub size: usize,
+}
+
+// All of a change but the bitmap and the columns of its extents: where these end, its nodes, the bytes of its record, its numbers.
+pub struct Outline {
+    pub end: End,
+    pub node: [u32; 4],
+    pub nodes: usize,
+    pub before: usize,
+    pub held: usize,
+    pub bytes: [u8; 32],
     pub old: usize,
     pub size: usize,
 }
@@ -56,26 +69,35 @@ const FIRST_DATA: u32 = 6;
 const BITMAP_BLOCK: u32 = 33;
 
 // The content to stage, by the tag, from the block's old content.
-fn content(i: usize, c: Change, x: usize, bytes: &[u8], tag: u32, old: [u8; 512]) -> [u8; 512]
-    requires { ⌜ (c .tree .runs .len ≤ 512) × (x + length (now bytes) ≤ 1048576) ⌝ }
-    ensures { λ q. ⌜ q ≡ contentOf i c x (now (bytes .entry)) tag old ⌝ }
+fn content<'a>(
+    i: usize,
+    table: &'a [u8; 512],
+    first: &'a [u32; 512],
+    count: &'a [u32; 512],
+    o: Outline,
+    x: usize,
+    bytes: &[u8],
+    tag: u32,
+    old: [u8; 512],
+) -> [u8; 512]
+    requires { ⌜ (o .end .len ≤ 512) × (x + length (now bytes) ≤ 1048576) ⌝ }
+    ensures { λ q. ⌜ q ≡ contentOf i (changeOf (now (table .entry)) (now (first .entry)) (now (count .entry)) o) x (now (bytes .entry)) tag old ⌝ }
 {
-    let t = c.tree;
     if tag == BITMAP {
-        let table = t.table;
-        return table;
+        return *table;
     }
     if tag == RECORD {
-        let new = c.record;
+        let new = o.bytes;
         return with_record(old, i, new);
     }
     if tag < FIRST_DATA {
-        return node_content(t.runs, (tag - FIRST_NODE) as usize);
+        let end = o.end;
+        return node_content(first, count, end, (tag - FIRST_NODE) as usize);
     }
     data_content(
-        t.held,
-        c.old,
-        c.size,
+        o.held,
+        o.old,
+        o.size,
         x,
         bytes,
         (tag - FIRST_DATA) as usize,
@@ -97,20 +119,23 @@ fn add_changed<'a>(
     s: Session,
     a: Agenda,
     i: usize,
-    c: Change,
+    table: &'a [u8; 512],
+    first: &'a [u32; 512],
+    count: &'a [u32; 512],
+    o: Outline,
     x: usize,
     bytes: &[u8],
     b: u32,
     tag: u32,
 ) -> Agenda
-    requires { ⌜ (a .len ≤ 33) × (c .tree .runs .len ≤ 512) × (x + length (now bytes) ≤ 1048576) ⌝ }
+    requires { ⌜ (a .len ≤ 33) × (o .end .len ≤ 512) × (x + length (now bytes) ≤ 1048576) ⌝ }
     ensures { λ q. ⌜ ((f : ℕ → ℕ → List ℕ) (ws : List BlockStore)
-        → f ≡ contentIn (view (stateOf s (now (device .entry)) (now (work .entry)))) i c x (now (bytes .entry))
+        → f ≡ contentIn (view (stateOf s (now (device .entry)) (now (work .entry)))) i (changeOf (now (table .entry)) (now (first .entry)) (now (count .entry)) o) x (now (bytes .entry))
         → Lists f a (ascending ws)
         → Lists f q (ascending (withChanged (view (stateOf s (now (device .entry)) (now (work .entry)))) (f b tag) b ws))) × (q .len ≤ 33) ⌝ }
 {
     let old = block_now(device, work, s, b);
-    let new = content(i, c, x, bytes, tag, old);
+    let new = content(i, table, first, count, o, x, bytes, tag, old);
     if same_block(&new, &old) {
         return a;
     }
@@ -118,38 +143,53 @@ fn add_changed<'a>(
 }
 
 // Data block p of the file, which is block b, on the agenda where it is staged.
-fn add_place(a: Agenda, c: Change, x: usize, bytes: &[u8], p: usize, b: u32) -> Agenda
-    requires { ⌜ (a .len ≤ 33) × (x + length (now bytes) ≤ 1048576) × (p < 8192)
-        × (p < length (blocksIn (listed (c .tree .runs)))) × (b ≡ getD (blocksIn (listed (c .tree .runs))) p 0) ⌝ }
-    ensures { λ q. ⌜ ((v : Disk) (i : ℕ)
+fn add_place(
+    a: Agenda,
+    held: usize,
+    old: usize,
+    size: usize,
+    x: usize,
+    bytes: &[u8],
+    p: usize,
+    b: u32,
+) -> Agenda
+    requires { ⌜ (a .len ≤ 33) × (x + length (now bytes) ≤ 1048576) × (p < 8192) ⌝ }
+    ensures { λ q. ⌜ ((v : Disk) (i : ℕ) (c : Change) → Numbers c held old size → IsBlock c p b
         → Lists (contentIn v i c x (now (bytes .entry))) a (ascending (dataStores v c x (now (bytes .entry)) (p + 1)))
         → Lists (contentIn v i c x (now (bytes .entry))) q (ascending (dataStores v c x (now (bytes .entry)) p))) × (q .len ≤ 33) ⌝ }
 {
-    if is_staged(c.tree.held, c.old, c.size, x, bytes, p) {
+    if is_staged(held, old, size, x, bytes, p) {
         return insert(a, b, FIRST_DATA + (p as u32));
     }
     a
 }
 
-// The blocks of extent k, from the last to the first; the first is data block `at` of the file.
-fn add_run(a: Agenda, c: Change, x: usize, bytes: &[u8], k: usize, at: usize) -> Agenda
-    requires { ⌜ (a .len ≤ 33) × (x + length (now bytes) ≤ 1048576) × Bounded (c .tree)
-        × (k < c .tree .runs .len) × (at ≡ placeOf (c .tree .runs) k) ⌝ }
-    ensures { λ q. ⌜ ((v : Disk) (i : ℕ)
-        → Lists (contentIn v i c x (now (bytes .entry))) a (ascending (dataStores v c x (now (bytes .entry)) (placeOf (c .tree .runs) (k + 1))))
-        → Lists (contentIn v i c x (now (bytes .entry))) q (ascending (dataStores v c x (now (bytes .entry)) (placeOf (c .tree .runs) k)))) × (q .len ≤ 33) ⌝ }
+// n blocks of the file, from the last to the first; the first is block `first` and data block `at` of the file.
+fn add_run(
+    a: Agenda,
+    held: usize,
+    old: usize,
+    size: usize,
+    x: usize,
+    bytes: &[u8],
+    first: u32,
+    n: u32,
+    at: usize,
+) -> Agenda
+    requires { ⌜ (a .len ≤ 33) × (x + length (now bytes) ≤ 1048576) × (first < 131072) × (at + n ≤ 8192) ⌝ }
+    ensures { λ q. ⌜ ((v : Disk) (i : ℕ) (c : Change) → Numbers c held old size → ((j : ℕ) → j < n → IsBlock c (at + j) (first + j))
+        → Lists (contentIn v i c x (now (bytes .entry))) a (ascending (dataStores v c x (now (bytes .entry)) (at + n)))
+        → Lists (contentIn v i c x (now (bytes .entry))) q (ascending (dataStores v c x (now (bytes .entry)) at))) × (q .len ≤ 33) ⌝ }
 {
-    let r = c.tree.runs;
-    let first = r.first[k];
     let mut out = a;
-    let mut j = r.count[k];
+    let mut j = n;
     while 0 < j {
         // Nothing more is told by an agenda of more than 32.
         if Limits::LOG_LENGTH < out.len {
             return out;
         }
         j -= 1;
-        out = add_place(out, c, x, bytes, at + (j as usize), first + j);
+        out = add_place(out, held, old, size, x, bytes, at + (j as usize), first + j);
     }
     out
 }
@@ -161,42 +201,52 @@ fn wide(n: u32) -> usize
 }
 
 // How many blocks the extents have.
-fn total(r: Runs) -> usize
-    requires { ⌜ (r .len ≤ 512) × (counts (listed r) ≤ 8192) ⌝ }
-    ensures { λ n. ⌜ n ≡ placeOf r (r .len) ⌝ }
+fn total(count: &[u32; 512], end: End) -> usize
+    requires { ⌜ (end .len ≤ 512) × (counts (listed (columns [] (now count) end)) ≤ 8192) ⌝ }
+    ensures { λ n. ⌜ n ≡ placeOf (columns [] (now (count .entry)) end) (end .len) ⌝ }
 {
     let mut n: usize = 0;
     let mut k: usize = 0;
-    while k < r.len {
-        n += wide(r.count[k]);
+    while k < end.len {
+        n += wide(count[k]);
         k += 1;
     }
     n
 }
 
 // The data blocks of a change, from the last to the first.
-fn add_data(c: Change, x: usize, bytes: &[u8]) -> Agenda
-    requires { ⌜ (x + length (now bytes) ≤ 1048576) × Bounded (c .tree) ⌝ }
-    ensures { λ q. ⌜ ((v : Disk) (i : ℕ) → Lists (contentIn v i c x (now (bytes .entry))) q (ascending (dataStores v c x (now (bytes .entry)) 0))) × (q .len ≤ 33) ⌝ }
+fn add_data<'a>(
+    table: &'a [u8; 512],
+    first: &'a [u32; 512],
+    count: &'a [u32; 512],
+    o: Outline,
+    x: usize,
+    bytes: &[u8],
+) -> Agenda
+    requires { ⌜ (x + length (now bytes) ≤ 1048576) × Bounded ((changeOf (now table) (now first) (now count) o) .tree) ⌝ }
+    ensures { λ q. ⌜ ((v : Disk) (i : ℕ) → Lists (contentIn v i (changeOf (now (table .entry)) (now (first .entry)) (now (count .entry)) o) x (now (bytes .entry))) q
+        (ascending (dataStores v (changeOf (now (table .entry)) (now (first .entry)) (now (count .entry)) o) x (now (bytes .entry)) 0))) × (q .len ≤ 33) ⌝ }
 {
-    let r = c.tree.runs;
+    let end = o.end;
     let mut out = nothing();
-    let mut k = r.len;
-    let mut at = total(r);
+    let mut k = end.len;
+    let mut at = total(count, end);
     while 0 < k {
         k -= 1;
-        at -= wide(r.count[k]);
-        out = add_run(out, c, x, bytes, k, at);
+        let b = first[k];
+        let n = count[k];
+        at -= wide(n);
+        out = add_run(out, o.held, o.old, o.size, x, bytes, b, n, at);
     }
     out
 }
 
 // The block of node j.
-fn node_at(t: Tree, j: usize) -> u32
+fn node_at(node: [u32; 4], j: usize) -> u32
     requires { ⌜ j < 4 ⌝ }
-    ensures { λ b. ⌜ (b ≡ getD (t .node) j 0) × (length (t .node) ≡ 4) ⌝ }
+    ensures { λ b. ⌜ (b ≡ getD node j 0) × (length node ≡ 4) ⌝ }
 {
-    t.node[j]
+    node[j]
 }
 
 // Node j: one that was held only where its content changes.
@@ -206,23 +256,40 @@ fn add_node<'a>(
     s: Session,
     a: Agenda,
     i: usize,
-    c: Change,
+    table: &'a [u8; 512],
+    first: &'a [u32; 512],
+    count: &'a [u32; 512],
+    o: Outline,
     x: usize,
     bytes: &[u8],
     j: usize,
 ) -> Agenda
-    requires { ⌜ (a .len ≤ 33) × (x + length (now bytes) ≤ 1048576) × Bounded (c .tree) × (j < c .tree .nodes)
-        × Lists (contentIn (view (stateOf s (now device) (now work))) i c x (now bytes)) a
-        (ascending (nodeStores (view (stateOf s (now device) (now work))) c x (now bytes) (j + 1))) ⌝ }
-    ensures { λ q. ⌜ Lists (contentIn (view (stateOf s (now (device .entry)) (now (work .entry)))) i c x (now (bytes .entry))) q
-        (ascending (nodeStores (view (stateOf s (now (device .entry)) (now (work .entry)))) c x (now (bytes .entry)) j))
+    requires { ⌜ (a .len ≤ 33) × (x + length (now bytes) ≤ 1048576) × Bounded ((changeOf (now table) (now first) (now count) o) .tree) × (j < o .nodes)
+        × Lists (contentIn (view (stateOf s (now device) (now work))) i (changeOf (now table) (now first) (now count) o) x (now bytes)) a
+        (ascending (nodeStores (view (stateOf s (now device) (now work))) (changeOf (now table) (now first) (now count) o) x (now bytes) (j + 1))) ⌝ }
+    ensures { λ q. ⌜ Lists (contentIn (view (stateOf s (now (device .entry)) (now (work .entry)))) i (changeOf (now (table .entry)) (now (first .entry)) (now (count .entry)) o) x (now (bytes .entry))) q
+        (ascending (nodeStores (view (stateOf s (now (device .entry)) (now (work .entry)))) (changeOf (now (table .entry)) (now (first .entry)) (now (count .entry)) o) x (now (bytes .entry)) j))
         × (q .len ≤ 33) ⌝ }
 {
-    let t = c.tree;
-    let b = node_at(t, j);
+    let node = o.node;
+    let b = node_at(node, j);
     let tag = FIRST_NODE + (j as u32);
-    if j < t.before {
-        return add_changed(device, work, s, a, i, c, x, bytes, b, tag);
+    if j < o.before {
+        return add_changed(
+            device,
+            work,
+            s,
+            a,
+            i,
+            table,
+            first,
+            count,
+            o,
+            x,
+            bytes,
+            b,
+            tag,
+        );
     }
     insert(a, b, tag)
 }
@@ -234,22 +301,25 @@ fn add_nodes<'a>(
     s: Session,
     a: Agenda,
     i: usize,
-    c: Change,
+    table: &'a [u8; 512],
+    first: &'a [u32; 512],
+    count: &'a [u32; 512],
+    o: Outline,
     x: usize,
     bytes: &[u8],
 ) -> Agenda
-    requires { ⌜ (a .len ≤ 33) × (x + length (now bytes) ≤ 1048576) × Bounded (c .tree)
-        × Lists (contentIn (view (stateOf s (now device) (now work))) i c x (now bytes)) a
-        (ascending (dataStores (view (stateOf s (now device) (now work))) c x (now bytes) 0)) ⌝ }
-    ensures { λ q. ⌜ Lists (contentIn (view (stateOf s (now (device .entry)) (now (work .entry)))) i c x (now (bytes .entry))) q
-        (ascending (nodeStores (view (stateOf s (now (device .entry)) (now (work .entry)))) c x (now (bytes .entry)) 0))
+    requires { ⌜ (a .len ≤ 33) × (x + length (now bytes) ≤ 1048576) × Bounded ((changeOf (now table) (now first) (now count) o) .tree)
+        × Lists (contentIn (view (stateOf s (now device) (now work))) i (changeOf (now table) (now first) (now count) o) x (now bytes)) a
+        (ascending (dataStores (view (stateOf s (now device) (now work))) (changeOf (now table) (now first) (now count) o) x (now bytes) 0)) ⌝ }
+    ensures { λ q. ⌜ Lists (contentIn (view (stateOf s (now (device .entry)) (now (work .entry)))) i (changeOf (now (table .entry)) (now (first .entry)) (now (count .entry)) o) x (now (bytes .entry))) q
+        (ascending (nodeStores (view (stateOf s (now (device .entry)) (now (work .entry)))) (changeOf (now (table .entry)) (now (first .entry)) (now (count .entry)) o) x (now (bytes .entry)) 0))
         × (q .len ≤ 33) ⌝ }
 {
     let mut out = a;
-    let mut j = c.tree.nodes;
+    let mut j = o.nodes;
     while 0 < j {
         j -= 1;
-        out = add_node(device, work, s, out, i, c, x, bytes, j);
+        out = add_node(device, work, s, out, i, table, first, count, o, x, bytes, j);
     }
     out
 }
@@ -260,25 +330,45 @@ fn agenda_of<'a>(
     work: &'a [u8],
     s: Session,
     i: usize,
-    c: Change,
+    table: &'a [u8; 512],
+    first: &'a [u32; 512],
+    count: &'a [u32; 512],
+    o: Outline,
     x: usize,
     bytes: &[u8],
 ) -> Agenda
-    requires { ⌜ (i < 128) × (x + length (now bytes) ≤ 1048576) × Bounded (c .tree) ⌝ }
-    ensures { λ q. ⌜ Lists (contentIn (view (stateOf s (now (device .entry)) (now (work .entry)))) i c x (now (bytes .entry))) q
-        (ascending (changeStores (view (stateOf s (now (device .entry)) (now (work .entry)))) i c x (now (bytes .entry)))) ⌝ }
+    requires { ⌜ (i < 128) × (x + length (now bytes) ≤ 1048576) × Bounded ((changeOf (now table) (now first) (now count) o) .tree) ⌝ }
+    ensures { λ q. ⌜ Lists (contentIn (view (stateOf s (now (device .entry)) (now (work .entry)))) i (changeOf (now (table .entry)) (now (first .entry)) (now (count .entry)) o) x (now (bytes .entry))) q
+        (ascending (changeStores (view (stateOf s (now (device .entry)) (now (work .entry)))) i (changeOf (now (table .entry)) (now (first .entry)) (now (count .entry)) o) x (now (bytes .entry)))) ⌝ }
 {
-    let data = add_data(c, x, bytes);
-    let nodes = add_nodes(device, work, s, data, i, c, x, bytes);
+    let data = add_data(table, first, count, o, x, bytes);
+    let nodes = add_nodes(device, work, s, data, i, table, first, count, o, x, bytes);
     let b = table_block(i);
-    let record = add_changed(device, work, s, nodes, i, c, x, bytes, b, RECORD);
+    let record = add_changed(
+        device,
+        work,
+        s,
+        nodes,
+        i,
+        table,
+        first,
+        count,
+        o,
+        x,
+        bytes,
+        b,
+        RECORD,
+    );
     add_changed(
         device,
         work,
         s,
         record,
         i,
-        c,
+        table,
+        first,
+        count,
+        o,
         x,
         bytes,
         BITMAP_BLOCK,
@@ -302,17 +392,20 @@ fn stage_all<'a>(
     s: Session,
     a: Agenda,
     i: usize,
-    c: Change,
+    table: &'a [u8; 512],
+    first: &'a [u32; 512],
+    count: &'a [u32; 512],
+    o: Outline,
     x: usize,
     bytes: &[u8],
 ) -> Session
-    requires { ⌜ (a .len ≤ 32) × (length (now work) ≡ 16384) × (c .tree .runs .len ≤ 512) × (x + length (now bytes) ≤ 1048576)
-        × Rising 0 (storesBy (contentIn (view (stateOf s (now device) (now work))) i c x (now bytes)) (take (a .len) (a .block)) (take (a .len) (a .tag)))
+    requires { ⌜ (a .len ≤ 32) × (length (now work) ≡ 16384) × (o .end .len ≤ 512) × (x + length (now bytes) ≤ 1048576)
+        × Rising 0 (storesBy (contentIn (view (stateOf s (now device) (now work))) i (changeOf (now table) (now first) (now count) o) x (now bytes)) (take (a .len) (a .block)) (take (a .len) (a .tag)))
         × (length (stageEach (stagedOf (stateOf s (now device) (now work)))
-        (storesBy (contentIn (view (stateOf s (now device) (now work))) i c x (now bytes)) (take (a .len) (a .block)) (take (a .len) (a .tag))) .blocks) ≤ 32) ⌝ }
+        (storesBy (contentIn (view (stateOf s (now device) (now work))) i (changeOf (now table) (now first) (now count) o) x (now bytes)) (take (a .len) (a .block)) (take (a .len) (a .tag))) .blocks) ≤ 32) × (length (a .block) ≡ 32) × (length (a .tag) ≡ 32) ⌝ }
     ensures { λ q. ⌜ stateOf q (now (device .entry)) (now (work .exit))
         ≡ withStaging (stateOf s (now (device .entry)) (now (work .entry))) (stageEach (stagedOf (stateOf s (now (device .entry)) (now (work .entry))))
-        (storesBy (contentIn (view (stateOf s (now (device .entry)) (now (work .entry)))) i c x (now (bytes .entry))) (take (a .len) (a .block)) (take (a .len) (a .tag)))) ⌝ }
+        (storesBy (contentIn (view (stateOf s (now (device .entry)) (now (work .entry)))) i (changeOf (now (table .entry)) (now (first .entry)) (now (count .entry)) o) x (now (bytes .entry))) (take (a .len) (a .block)) (take (a .len) (a .tag)))) ⌝ }
 {
     let blocks = a.block;
     let tags = a.tag;
@@ -322,7 +415,7 @@ fn stage_all<'a>(
     while k < n {
         let b = blocks[k];
         let old = block_now(device, work, t, b);
-        let new = content(i, c, x, bytes, tags[k], old);
+        let new = content(i, table, first, count, o, x, bytes, tags[k], old);
         t = stage(work, t, DiskBlock(b), &new);
         k += 1;
     }
@@ -335,20 +428,23 @@ pub fn apply<'a>(
     work: &mut [u8],
     s: Session,
     i: usize,
-    c: Change,
+    table: &'a [u8; 512],
+    first: &'a [u32; 512],
+    count: &'a [u32; 512],
+    o: Outline,
     x: usize,
     bytes: &[u8],
 ) -> Finished
-    requires { ⌜ (i < 128) × (length (now work) ≡ 16384) × Bounded (c .tree) × (x + length (now bytes) ≤ 1048576)
-        × (c .old < 4294967296) × (c .size < 4294967296) ⌝ }
+    requires { ⌜ (i < 128) × (length (now work) ≡ 16384) × Bounded (changeOf (now table) (now first) (now count) o .tree) × (x + length (now bytes) ≤ 1048576)
+        × (o .old < 4294967296) × (o .size < 4294967296) ⌝ }
     ensures { λ r. ⌜ left (r .session) (now (device .entry)) (now (work .exit)) (doneOf (r .answer))
         ≡ settle (outcome (stateOf s (now (device .entry)) (now (work .entry))))
         (staging (stateOf s (now (device .entry)) (now (work .entry)))
-        (changeStores (view (stateOf s (now (device .entry)) (now (work .entry)))) i c x (now (bytes .entry)))) ⌝ }
+        (changeStores (view (stateOf s (now (device .entry)) (now (work .entry)))) i (changeOf (now (table .entry)) (now (first .entry)) (now (count .entry)) o) x (now (bytes .entry)))) ⌝ }
 {
-    let a = agenda_of(device, work, s, i, c, x, bytes);
+    let a = agenda_of(device, work, s, i, table, first, count, o, x, bytes);
     if fits(s, a) {
-        let t = stage_all(device, work, s, a, i, c, x, bytes);
+        let t = stage_all(device, work, s, a, i, table, first, count, o, x, bytes);
         return Finished {
             session: t,
             answer: Done::Done,

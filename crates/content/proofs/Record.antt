@@ -15,9 +15,9 @@ use Rattle.spec.specs.Bytes.{exactly, bytes2, bytes4}
 use Rattle.spec.specs.Inode.{extent, counts, bytesOfSlots, nodeSlots, topSlots, bytesOfInode, inodeWith}
 use Rattle.runs.specs.declared.Runs.{Runs}
 use Rattle.runs.specs.declared.Tree.{Tree}
-use Rattle.runs.specs.Runs.{extentsFrom, listed, nodesIn, levelsIn}
+use Rattle.runs.specs.Runs.{extentsFrom, listed, nodesIn, levelsIn, Bounded}
 use Rattle.lists.specs.Extents.{counts-append}
-use Rattle.content.specs.Content.{countsBelow, slotsAbove}
+use Rattle.content.specs.Content.{treeOf, countsBelow, slotsAbove}
 use Rattle.content.proofs.Laws.{extents-drop, extents-take, extents-more}
 
 -- ---- extents
@@ -73,7 +73,8 @@ module _ (r : Runs) (k : ℕ) where
 unfoldable pub countsFrom : List ℕ → ℕ → ℕ → ℕ
 countsFrom cs a k = counts (extentsFrom [] cs a k)
 
-any-first : (fs gs cs : List ℕ) (a k : ℕ) → counts (extentsFrom fs cs a k) ≡ counts (extentsFrom gs cs a k)
+-- where extents begin plays no part in how many blocks they have
+pub any-first : (fs gs cs : List ℕ) (a k : ℕ) → counts (extentsFrom fs cs a k) ≡ counts (extentsFrom gs cs a k)
 unfolding extentsFrom
 any-first fs gs cs a zero = refl
 any-first fs gs cs a (suc k) = ap (λ (n : ℕ). getD cs a 0 + n) (any-first fs gs cs (suc a) k)
@@ -211,3 +212,15 @@ module _ (t : Tree) (n z a b c e q : List ℕ) (d size : ℕ) (ea eb ec ee : Ext
   record-is ez ed qa pa qb pb qc pc qe pe eq =
       eq ∙ rw (ez, ed, pa, pb, pc, pe, qa, qb, qc, qe)
       (ap (λ (xs : List ℕ). n ++ (bytes4 size ++ (length (levelsIn t) ∷ 0 ∷ 0 ∷ 0 ∷ xs))) (sym (four-slots (topSlots (levelsIn t) (listed (t .runs))))))
+
+-- a tree and its parts
+module _ (t : Tree) where
+  abbrev parts : Tree
+  parts = treeOf (t .runs .first) (t .runs .count) (record { len = t .runs .len; next = t .runs .next }) (t .node) (t .nodes)
+
+  pub parts-levels : levelsIn parts ≡ levelsIn t
+  unfolding levelsIn nodesIn
+  parts-levels = refl
+
+  pub parts-bounded : Bounded t → Bounded parts
+  parts-bounded b = record { extents = b .extents; nodes = b .nodes; blocks = b .blocks; first = b .first; count = b .count; held = omega arith }

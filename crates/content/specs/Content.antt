@@ -1,7 +1,7 @@
 -- The content of blocks after a change, sealed, for the contracts of this crate.
 use Prim.Native.Nat.{ℕ, _*_}
 use mathlib.Core.Bool.{cond}
-use mathlib.Core.List.{List}
+use mathlib.Core.List.{List, []}
 use lib.ListN.{take, drop}
 use lib.Dec.{leb}
 use Rattle.spec.specs.Bytes.{exactly, patch, zeros}
@@ -10,7 +10,13 @@ use Rattle.spec.specs.Inode.{placeOfInode, nodeBytes, counts, topSlots}
 use Rattle.spec.specs.Plan.{overlay, clearTail, isLastKept, newContent}
 use Rattle.runs.specs.declared.Runs.{Runs}
 use Rattle.runs.specs.declared.Tree.{Tree}
+use Rattle.runs.specs.declared.End.{End}
+use Rattle.runs.specs.Push.{columns}
 use Rattle.runs.specs.Runs.{listed, levelsIn}
+
+-- a tree from its extents and nodes; bitmap and what was held before play no part in its record
+abbrev pub treeOf : List ℕ → List ℕ → End → List ℕ → ℕ → Tree
+treeOf first count end node nodes = record { table = []; runs = columns first count end; node = node; nodes = nodes; before = 0; held = 0 }
 
 -- the block of record i with the record's bytes replaced
 unfoldable pub withRecord : ℕ → List ℕ → List ℕ → List ℕ

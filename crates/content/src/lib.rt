@@ -1,18 +1,19 @@
 // The content of a block after a change: a file record's block, a node, a data block.
 use block::copy_of;
-use runs::Runs;
-use runs::Tree;
+use runs::End;
 use spec::Extent;
 use spec::Limits;
 ghost use mathlib.Core.Path.{_≡_};
-ghost use mathlib.Core.List.{[], _∷_, _++_};
-ghost use Prim.Native.Nat.{_+_, _*_, _-_, _<_, _≤_, min};
+ghost use mathlib.Core.List.{List, [], _∷_, _++_};
+ghost use Prim.Native.Nat.{ℕ, _+_, _*_, _-_, _<_, _≤_, min};
 ghost use lib.ListN.{length, getD};
 ghost use Rattle.spec.specs.Bytes.{bytes2, bytes4};
-ghost use Rattle.spec.specs.Inode.{extent, counts, bytesOfInode, inodeWith};
+ghost use Rattle.spec.specs.Inode.{extent, bytesOfInode, inodeWith};
 ghost use Rattle.spec.specs.Plan.{isLastKept, holdsData, isStaged};
+ghost use Rattle.runs.specs.declared.Tree.{Tree};
 ghost use Rattle.runs.specs.Runs.{Bounded, listed, levelsIn};
-ghost use Rattle.content.specs.Content.{withRecord, nodeContent, countsBelow, slotsAbove, laidOver, cutTo, keptContent, dataContent};
+ghost use Rattle.runs.specs.Push.{columns};
+ghost use Rattle.content.specs.Content.{treeOf, withRecord, nodeContent, countsBelow, slotsAbove, laidOver, cutTo, keptContent, dataContent};
 
 // The block of file record i with the record's bytes replaced.
 pub fn with_record(old: [u8; 512], i: usize, new: [u8; 32]) -> [u8; 512]
@@ -44,19 +45,22 @@ fn slots_in(len: usize, j: usize) -> usize
 }
 
 // The content of node j.
-pub fn node_content(r: Runs, j: usize) -> [u8; 512]
-    requires { ⌜ (r .len ≤ 512) × (j < 4) ⌝ }
-    ensures { λ q. ⌜ q ≡ nodeContent r j ⌝ }
+pub fn node_content<'a>(
+    first: &'a [u32; 512],
+    count: &'a [u32; 512],
+    end: End,
+    j: usize,
+) -> [u8; 512]
+    requires { ⌜ (end .len ≤ 512) × (j < 4) ⌝ }
+    ensures { λ q. ⌜ q ≡ nodeContent (columns (now (first .entry)) (now (count .entry)) end) j ⌝ }
 {
-    let firsts = r.first;
-    let counts = r.count;
     let start = 128 * j;
-    let n = slots_in(r.len, j);
+    let n = slots_in(end.len, j);
     let mut out = [0u8; 512];
     let mut k: usize = 0;
     while k < n {
-        let f = firsts[start + k];
-        let c = counts[start + k];
+        let f = first[start + k];
+        let c = count[start + k];
         let at = 4 * k;
         out[at] = (f % 256) as u8;
         out[at + 1] = (f / 256 % 256) as u8;
@@ -68,52 +72,54 @@ pub fn node_content(r: Runs, j: usize) -> [u8; 512]
 }
 
 // The extent at place k, of no blocks past the last one.
-fn extent_at(r: Runs, k: usize) -> Extent
+fn extent_at<'a>(first: &'a [u32; 512], count: &'a [u32; 512], end: End, k: usize) -> Extent
     requires { ⌜ k < 512 ⌝ }
-    ensures { λ e. ⌜ e ≡ getD (listed r) k (extent 0 0) ⌝ }
+    ensures { λ e. ⌜ e ≡ getD (listed (columns (now (first .entry)) (now (count .entry)) end)) k (extent 0 0) ⌝ }
 {
-    if k < r.len {
-        let first = r.first[k];
-        let count = r.count[k];
-        return Extent {
-            first: first,
-            count: count,
-        };
+    if k < end.len {
+        let b = first[k];
+        let n = count[k];
+        return Extent { first: b, count: n };
     }
     Extent { first: 0, count: 0 }
 }
 
 // How many data blocks are below node j.
-fn blocks_below(r: Runs, j: usize) -> u32
-    requires { ⌜ (counts (listed r) ≤ 8192) × (r .len ≤ 512) × (j < 4) ⌝ }
-    ensures { λ n. ⌜ n ≡ countsBelow r j ⌝ }
+fn blocks_below(count: &[u32; 512], end: End, j: usize) -> u32
+    requires { ⌜ (end .len ≤ 512) × (j < 4) × ((k : ℕ) → getD (now count) k 0 ≤ 8192) ⌝ }
+    ensures { λ n. ⌜ ((first : List ℕ) → n ≡ countsBelow (columns first (now (count .entry)) end) j) ⌝ }
 {
-    let lengths = r.count;
     let start = 128 * j;
-    let m = slots_in(r.len, j);
+    let m = slots_in(end.len, j);
     let mut n: u32 = 0;
     let mut k: usize = 0;
     while k < m {
-        n += lengths[start + k];
+        n += count[start + k];
         k += 1;
     }
     n
 }
 
 // Slot k of the record: an extent, or a node with the data blocks below it.
-fn top_slot(t: Tree, k: usize) -> Extent
-    requires { ⌜ (k < 4) × Bounded t ⌝ }
-    ensures { λ e. ⌜ e ≡ getD (slotsAbove t) k (extent 0 0) ⌝ }
+fn top_slot<'a>(
+    first: &'a [u32; 512],
+    count: &'a [u32; 512],
+    end: End,
+    node: [u32; 4],
+    nodes: usize,
+    k: usize,
+) -> Extent
+    requires { ⌜ (k < 4) × Bounded (treeOf (now first) (now count) end node nodes) ⌝ }
+    ensures { λ e. ⌜ e ≡ getD (slotsAbove (treeOf (now (first .entry)) (now (count .entry)) end node nodes)) k (extent 0 0) ⌝ }
 {
-    let r = t.runs;
-    if t.nodes == 0 {
-        return extent_at(r, k);
+    if nodes == 0 {
+        return extent_at(first, count, end, k);
     }
-    if k < t.nodes {
-        let b = t.node[k];
+    if k < nodes {
+        let b = node[k];
         return Extent {
             first: b,
-            count: blocks_below(r, k),
+            count: blocks_below(count, end, k),
         };
     }
     Extent { first: 0, count: 0 }
@@ -145,10 +151,10 @@ fn size_bytes(size: usize) -> [u8; 4]
     ]
 }
 
-fn depth_of(t: Tree) -> u8
-    ensures { λ d. ⌜ d ≡ length (levelsIn t) ⌝ }
+fn depth_of(nodes: usize) -> u8
+    ensures { λ d. ⌜ ((t : Tree) → t .nodes ≡ nodes → d ≡ length (levelsIn t)) ⌝ }
 {
-    if t.nodes == 0 {
+    if nodes == 0 {
         return 0;
     }
     1
@@ -195,16 +201,24 @@ fn joined(n: [u8; 8], z: [u8; 4], d: u8, a: [u8; 4], b: [u8; 4], c: [u8; 4], e: 
 }
 
 // "Bytes 0 to 7 name; 8 to 11 size in bytes; 12 depth, 0 or 1; 13 to 15 zero; 16 to 31 four slots."
-pub fn record_bytes(name: [u8; 8], size: usize, t: Tree) -> [u8; 32]
-    requires { ⌜ Bounded t × (size < 4294967296) ⌝ }
-    ensures { λ q. ⌜ q ≡ bytesOfInode (inodeWith name size (listed (t .runs)) (levelsIn t)) ⌝ }
+pub fn record_bytes<'a>(
+    name: [u8; 8],
+    size: usize,
+    first: &'a [u32; 512],
+    count: &'a [u32; 512],
+    end: End,
+    node: [u32; 4],
+    nodes: usize,
+) -> [u8; 32]
+    requires { ⌜ Bounded (treeOf (now first) (now count) end node nodes) × (size < 4294967296) ⌝ }
+    ensures { λ q. ⌜ q ≡ bytesOfInode (inodeWith name size (listed (columns (now (first .entry)) (now (count .entry)) end)) (levelsIn (treeOf (now (first .entry)) (now (count .entry)) end node nodes))) ⌝ }
 {
     let z = size_bytes(size);
-    let d = depth_of(t);
-    let a = slot_bytes(top_slot(t, 0));
-    let b = slot_bytes(top_slot(t, 1));
-    let c = slot_bytes(top_slot(t, 2));
-    let e = slot_bytes(top_slot(t, 3));
+    let d = depth_of(nodes);
+    let a = slot_bytes(top_slot(first, count, end, node, nodes, 0));
+    let b = slot_bytes(top_slot(first, count, end, node, nodes, 1));
+    let c = slot_bytes(top_slot(first, count, end, node, nodes, 2));
+    let e = slot_bytes(top_slot(first, count, end, node, nodes, 3));
     joined(name, z, d, a, b, c, e)
 }
 

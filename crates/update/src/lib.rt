@@ -4,7 +4,7 @@ use block::ByteOffset;
 use block::DiskBlock;
 use block::copy_of;
 use block::load;
-use change::Change;
+use change::Outline;
 use change::apply;
 use checks::Checked;
 use checks::refused;
@@ -17,37 +17,19 @@ use lookup::look_up;
 use lookup::look_up_new;
 use lookup::look_up_pair;
 use lookup::look_up_sized;
-use runs::Tree;
-use runs::no_runs;
+use runs::End;
 use spec::Finished;
 use spec::Limits;
 use spec::Session;
 use transaction::view_block;
 ghost use mathlib.Core.Path.{_≡_};
-ghost use mathlib.Core.List.{[]};
 ghost use Prim.Native.Nat.{_+_, _<_, _≤_, max};
 ghost use lib.ListN.{length, getD};
 ghost use Rattle.spec.specs.Inode.{blocksFor};
 ghost use Rattle.spec.specs.Answers.{doneOf};
 ghost use Rattle.spec.specs.Transaction.{stateOf, view};
 ghost use Rattle.spec.specs.Calls.{left, outcome, settle, staging, rewrite, create, remove, rename, write, setSize};
-ghost use Rattle.runs.specs.Runs.{listed, nodesIn, Bounded};
 ghost use Rattle.update.specs.Records.{renamedIn, recordStores};
-
-// A file of which only the record changes: the bitmap stays.
-fn same_tree(table: [u8; 512]) -> Tree
-    ensures { λ t. ⌜ (t .table ≡ table) × (nodesIn t ≡ []) × (listed (t .runs) ≡ []) × Bounded t ⌝ }
-{
-    let runs = no_runs();
-    Tree {
-        table: table,
-        runs: runs,
-        node: [0u32; 4],
-        nodes: 0,
-        before: 0,
-        held: 0,
-    }
-}
 
 // The bytes of record i changed, and nothing else: 18.
 fn change_record(
@@ -64,14 +46,30 @@ fn change_record(
         (recordStores (view (stateOf session (now (device .entry)) (now (work .entry)))) i bytes)) ⌝ }
 {
     let table = copy_of(view_block(device, work, session, DiskBlock(33)));
-    let tree = same_tree(table);
-    let c = Change {
-        tree: tree,
-        record: bytes,
+    let none = [0u32; 512];
+    let end = End { len: 0, next: 0 };
+    let o = Outline {
+        end: end,
+        node: [0u32; 4],
+        nodes: 0,
+        before: 0,
+        held: 0,
+        bytes: bytes,
         old: 0,
         size: 0,
     };
-    apply(device, work, session, i, c, 0, &device[0..0])
+    apply(
+        device,
+        work,
+        session,
+        i,
+        &table,
+        &none,
+        &none,
+        o,
+        0,
+        &device[0..0],
+    )
 }
 
 fn byte_named(name: &[u8], block: &[u8], at: usize, k: usize) -> u8
@@ -137,13 +135,33 @@ pub fn remove(device: &[u8], work: &mut [u8], session: Session, name: &[u8]) -> 
         Looked::At(i) => {
             let d = draft_of(device, work, session, i, 0);
             let tree = d.tree;
-            let gone = Change {
-                tree: tree,
-                record: [0u8; 32],
+            let node = tree.node;
+            let end = End {
+                len: tree.runs.len,
+                next: tree.runs.next,
+            };
+            let gone = Outline {
+                end: end,
+                node: node,
+                nodes: tree.nodes,
+                before: tree.before,
+                held: tree.held,
+                bytes: [0u8; 32],
                 old: 0,
                 size: 0,
             };
-            apply(device, work, session, i, gone, 0, &name[0..0])
+            apply(
+                device,
+                work,
+                session,
+                i,
+                &tree.table,
+                &tree.runs.first,
+                &tree.runs.count,
+                gone,
+                0,
+                &name[0..0],
+            )
         }
     }
 }
@@ -184,14 +202,42 @@ fn resize(
         Checked::Fine => {
             let table = inode_block(device, work, session, i);
             let old = wide(size_of(table, i));
-            let record = record_bytes(name_of(table, i), size, tree);
-            let c = Change {
-                tree: tree,
-                record: record,
+            let node = tree.node;
+            let end = End {
+                len: tree.runs.len,
+                next: tree.runs.next,
+            };
+            let record = record_bytes(
+                name_of(table, i),
+                size,
+                &tree.runs.first,
+                &tree.runs.count,
+                end,
+                node,
+                tree.nodes,
+            );
+            let o = Outline {
+                end: end,
+                node: node,
+                nodes: tree.nodes,
+                before: tree.before,
+                held: tree.held,
+                bytes: record,
                 old: old,
                 size: size,
             };
-            apply(device, work, session, i, c, x, bytes)
+            apply(
+                device,
+                work,
+                session,
+                i,
+                &tree.table,
+                &tree.runs.first,
+                &tree.runs.count,
+                o,
+                x,
+                bytes,
+            )
         }
     }
 }

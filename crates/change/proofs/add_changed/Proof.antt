@@ -1,3 +1,4 @@
+use Rattle.change.specs.Contents.{changeOf}
 use Rattle.change.proofs.Steps.{same-as, changed-not, changed-is}
 use borrow.Author.Needs.{needs}
 use Rattle.change.proofs.add_changed.Statement.{statement}
@@ -18,7 +19,7 @@ returns c =
     let o = c .before .before .before .before .before .before .before .before .before in
     let a = o .args in (
       λ f ws e h. changed-not f _ (a .a) (a .b) (a .tag) ws h _
-          (same-as f _ (a .i) (a .c) (a .x) (a .bytes .now) (a .b) (a .tag) _ _ _ (p .before .before .before .before .block-now .ensures) (p .before .before .before .content .ensures) e (p .same-block .ensures))
+          (same-as f _ (a .i) (changeOf (a .table .now) (a .first .now) (a .count .now) (a .o)) (a .x) (a .bytes .now) (a .b) (a .tag) _ _ _ (p .before .before .before .before .block-now .ensures) (p .before .before .before .content .ensures) e (p .same-block .ensures))
           (c .if1 .taken),
       o .pre .0,
     )
@@ -32,7 +33,7 @@ returns-2 c =
     let o = p .before .before .before .before .before .before .before .before in
     let a = o .args in (
       λ f ws e h. changed-is f _ (a .a) (a .b) (a .tag) ws h _
-          (same-as f _ (a .i) (a .c) (a .x) (a .bytes .now) (a .b) (a .tag) _ _ _ (p .before .before .before .before .block-now .ensures) (p .before .before .before .content .ensures) e (p .same-block .ensures))
+          (same-as f _ (a .i) (changeOf (a .table .now) (a .first .now) (a .count .now) (a .o)) (a .x) (a .bytes .now) (a .b) (a .tag) _ _ _ (p .before .before .before .before .block-now .ensures) (p .before .before .before .content .ensures) e (p .same-block .ensures))
           _ (c .before .if1 .left) (λ z. c .insert .ensures .0 f _ z),
       c .insert .ensures .1,
     )

@@ -1,3 +1,4 @@
+use Rattle.change.specs.Contents.{changeOf}
 use mathlib.Core.Path.{refl}
 use native.Mathlib.Omega.{arith}
 use Rattle.change.proofs.Steps.{held-lists, new-lists}
@@ -21,7 +22,7 @@ returns c =
     let o = c .before .before .before .before .before .before .before .before in
     let a = o .args in
     let n = c .before .before .before .node-at .ensures in
-    (held-lists _ (a .i) (a .c) (a .x) (a .bytes .now) (a .j) (o .pre .3) (o .pre .2 .nodes) (n .1) _ (n .0) _ (omega (arith, c .before .if1 .taken)) (c .add-changed .ensures .0 _ _ refl (o .pre .4)), c .add-changed .ensures .1)
+    (held-lists _ (a .i) (changeOf (a .table .now) (a .first .now) (a .count .now) (a .o)) (a .x) (a .bytes .now) (a .j) (o .pre .3) (o .pre .2 .nodes) (n .1) _ (n .0) _ (omega (arith, c .before .if1 .taken)) (c .add-changed .ensures .0 _ _ refl (o .pre .4)), c .add-changed .ensures .1)
 
 insert-requires : tie.Need-insert-requires
 insert-requires c κs = let o = c .before .before .before .before .before .before .before in o .pre .0
@@ -31,7 +32,7 @@ returns-2 c =
     let o = c .before .before .before .before .before .before .before .before in
     let a = o .args in
     let n = c .before .before .before .node-at .ensures in
-    (new-lists _ (a .i) (a .c) (a .x) (a .bytes .now) (a .j) (o .pre .3) (o .pre .2 .nodes) (n .1) _ (n .0) _ (omega (arith, c .before .if1 .left)) (c .insert .ensures .0 _ _ (o .pre .4)), c .insert .ensures .1)
+    (new-lists _ (a .i) (changeOf (a .table .now) (a .first .now) (a .count .now) (a .o)) (a .x) (a .bytes .now) (a .j) (o .pre .3) (o .pre .2 .nodes) (n .1) _ (n .0) _ (omega (arith, c .before .if1 .left)) (c .insert .ensures .0 _ _ (o .pre .4)), c .insert .ensures .1)
 
 pub add-node-spec : {M : Type 1} → statement M
 add-node-spec =

@@ -2,22 +2,22 @@ use Prim.Native.Nat.{_+_, _-_, _≤_}
 use mathlib.Core.Path.{_≡_}
 use Rattle.spec.specs.Transaction.{view, stateOf, ascending}
 use Rattle.agenda.specs.Agenda.{Lists}
-use Rattle.change.specs.Contents.{contentIn, nodeStores}
+use Rattle.change.specs.Contents.{changeOf, contentIn, nodeStores}
 use Rattle.change.proofs.Steps.{nodes-start, node-cast}
 use native.Mathlib.Omega.{arith}
 use Rattle.change.proofs.add_nodes.Statement.{statement}
 use Rattle.change.proofs.add_nodes.Tie as tie
 
 abbrev Inv-loop : tie.InvT-loop
-Inv-loop device work s i c x bytes out₀ j₀ out j =
-    (j ≤ c .tree .nodes) × (out .len ≤ 33)
-    × Lists (contentIn (view (stateOf s device work)) i c x bytes) out (ascending (nodeStores (view (stateOf s device work)) c x bytes j))
+Inv-loop device work s i table first count o x bytes out₀ j₀ out j =
+    (j ≤ o .nodes) × (out .len ≤ 33)
+    × Lists (contentIn (view (stateOf s device work)) i (changeOf table first count o) x bytes) out (ascending (nodeStores (view (stateOf s device work)) (changeOf table first count o) x bytes j))
 
 abbrev μ-loop : tie.MeasureT-loop
-μ-loop device work s i c x bytes out₀ j₀ out j = j
+μ-loop device work s i table first count o x bytes out₀ j₀ out j = j
 
 loop-holds : tie.Need-loop-holds Inv-loop μ-loop
-loop-holds c = let o = c .before .before .before in let a = o .args in (omega arith, o .pre .0, nodes-start _ (a .i) (a .c) (a .x) (a .bytes .now) _ (o .pre .3))
+loop-holds c = let o = c .before .before .before in let a = o .args in (omega arith, o .pre .0, nodes-start _ (a .i) (changeOf (a .table .now) (a .first .now) (a .count .now) (a .o)) (a .x) (a .bytes .now) _ (o .pre .3))
 
 sub-j : tie.Need-sub-j Inv-loop μ-loop
 sub-j c = omega arith
@@ -28,7 +28,7 @@ add-node-requires c κs =
     let a = o .args in
     let lp = c .before .loop in
     let z : lp .j ≡ lp .j - 1 + 1 = omega (arith, c .loop-test .taken) in
-    (lp .inv .1, o .pre .1, o .pre .2, omega (arith, lp .inv .0, c .loop-test .taken), node-cast _ (a .i) (a .c) (a .x) (a .bytes .now) _ _ _ z (lp .inv .2))
+    (lp .inv .1, o .pre .1, o .pre .2, omega (arith, lp .inv .0, c .loop-test .taken), node-cast _ (a .i) (changeOf (a .table .now) (a .first .now) (a .count .now) (a .o)) (a .x) (a .bytes .now) _ _ _ z (lp .inv .2))
 
 loop-less : tie.Need-loop-less Inv-loop μ-loop
 loop-less c = omega arith
@@ -42,7 +42,7 @@ returns c =
     let a = o .args in
     let lp = c .before .loop in
     let z : lp .j ≡ 0 = omega (arith, c .loop-test .left) in
-    (node-cast _ (a .i) (a .c) (a .x) (a .bytes .now) _ _ _ z (lp .inv .2), lp .inv .1)
+    (node-cast _ (a .i) (changeOf (a .table .now) (a .first .now) (a .count .now) (a .o)) (a .x) (a .bytes .now) _ _ _ z (lp .inv .2), lp .inv .1)
 
 pub add-nodes-spec : {M : Type 1} → statement M
 add-nodes-spec =

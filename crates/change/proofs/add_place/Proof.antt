@@ -1,4 +1,4 @@
-use Rattle.change.proofs.Steps.{place-taken, place-left}
+use Rattle.change.proofs.Steps.{staged-by, place-taken, place-left}
 use native.Mathlib.Omega.{arith}
 use borrow.Author.Needs.{needs}
 use Rattle.change.proofs.add_place.Statement.{statement}
@@ -18,18 +18,20 @@ insert-requires c κs = search needs
 
 returns : tie.Need-returns
 returns c =
-    let o = c .before .before .before .before in
-    let a = o .args in (
-      λ v i h. place-taken v i (a .c) (a .x) (a .bytes .now) (a .p) (a .b) (o .pre .3) (o .pre .4) _ (c .before .before .is-staged .ensures) _ (c .before .if1 .taken)
-          (c .insert .ensures .0 _ _ h),
+    let a = c .before .before .before .before .args in (
+      λ v i k n w h. place-taken v i k (a .x) (a .bytes .now) (a .p) (a .b) (w .0) (w .1) _
+          (staged-by k _ _ _ (a .x) (a .bytes .now) (a .p) _ n (c .before .before .is-staged .ensures)) _ (c .before .if1 .taken) (c .insert .ensures .0 _ _ h),
       c .insert .ensures .1,
     )
 
 returns-2 : tie.Need-returns-2
 returns-2 c =
     let o = c .before .before .before in
-    let a = o .args in
-    (λ v i h. place-left v i (a .c) (a .x) (a .bytes .now) (a .p) (a .b) (o .pre .3) (o .pre .4) _ (c .before .is-staged .ensures) _ (c .if1 .left) h, o .pre .0)
+    let a = o .args in (
+      λ v i k n w h. place-left v i k (a .x) (a .bytes .now) (a .p) (a .b) (w .0) (w .1) _
+          (staged-by k _ _ _ (a .x) (a .bytes .now) (a .p) _ n (c .before .is-staged .ensures)) _ (c .if1 .left) h,
+      o .pre .0,
+    )
 
 pub add-place-spec : {M : Type 1} → statement M
 add-place-spec =

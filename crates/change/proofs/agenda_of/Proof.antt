@@ -1,3 +1,4 @@
+use Rattle.change.specs.Contents.{changeOf}
 use mathlib.Core.Path.{refl}
 use Rattle.change.proofs.Steps.{record-lists, change-lists}
 use Rattle.change.proofs.agenda_of.Statement.{statement}
@@ -21,9 +22,9 @@ add-changed-requires-2 c κs = let o = c .before .before .before .before .before
 returns : tie.Need-returns
 returns c =
     let a = c .before .before .before .before .before .before .before .before .args in
-    change-lists _ (a .i) (a .c) (a .x) (a .bytes .now) _
+    change-lists _ (a .i) (changeOf (a .table .now) (a .first .now) (a .count .now) (a .o)) (a .x) (a .bytes .now) _
     (c .add-changed2 .ensures .0 _ _ refl
-    (record-lists _ (a .i) (a .c) (a .x) (a .bytes .now) _ _ (c .before .before .table-block .ensures) (c .before .add-changed .ensures .0 _ _ refl (c .before .before .before .add-nodes .ensures .0))))
+    (record-lists _ (a .i) (changeOf (a .table .now) (a .first .now) (a .count .now) (a .o)) (a .x) (a .bytes .now) _ _ (c .before .before .table-block .ensures) (c .before .add-changed .ensures .0 _ _ refl (c .before .before .before .add-nodes .ensures .0))))
 
 pub agenda-of-spec : {M : Type 1} → statement M
 agenda-of-spec =

@@ -22,6 +22,8 @@ stage-all-requires c κs =
       o .pre .3,
       fits-rising _ (a .s) (a .device .now) (a .device .now) _ _ l _ (e .0) (e .1) (e .2) h,
       fits-room _ (a .s) (a .device .now) _ _ _ l _ (e .0) (e .1) (e .2) h,
+      e .1,
+      e .2,
     )
 
 same-length : tie.Need-same-length

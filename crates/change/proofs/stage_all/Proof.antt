@@ -3,7 +3,7 @@ use mathlib.Core.Path.{_≡_, _∙_}
 use lib.ListN.{length, take, drop}
 use Rattle.spec.specs.Transaction.{view, stateOf, stageEach, stagedOf, withStaging}
 use Rattle.agenda.specs.Agenda.{storesBy}
-use Rattle.change.specs.Contents.{contentIn}
+use Rattle.change.specs.Contents.{changeOf, contentIn}
 use Rattle.change.proofs.Staging.{Going, going-start, stage-room, stage-step, stage-end}
 use native.Mathlib.Omega.{arith}
 use borrow.Author.Needs.{needs}
@@ -11,20 +11,20 @@ use Rattle.change.proofs.stage_all.Statement.{statement}
 use Rattle.change.proofs.stage_all.Tie as tie
 
 abbrev Inv-loop : tie.InvT-loop
-Inv-loop device work₀ i c x bytes blocks tags n t₀ k₀ work t k =
+Inv-loop device work₀ i table first count o x bytes blocks tags n t₀ k₀ work t k =
     (k ≤ n) × (n ≤ 32) × (length blocks ≡ 32) × (length tags ≡ 32) × (length work ≡ 16384)
-    × Going i c x bytes
-    (withStaging (stateOf t₀ device work₀) (stageEach (stagedOf (stateOf t₀ device work₀)) (storesBy (contentIn (view (stateOf t₀ device work₀)) i c x bytes) (take n blocks) (take n tags))))
+    × Going i (changeOf table first count o) x bytes
+    (withStaging (stateOf t₀ device work₀) (stageEach (stagedOf (stateOf t₀ device work₀)) (storesBy (contentIn (view (stateOf t₀ device work₀)) i (changeOf table first count o) x bytes) (take n blocks) (take n tags))))
     (stateOf t device work) (drop k (take n blocks)) (drop k (take n tags))
 
 abbrev μ-loop : tie.MeasureT-loop
-μ-loop device work₀ i c x bytes blocks tags n t₀ k₀ work t k = n - k
+μ-loop device work₀ i table first count o x bytes blocks tags n t₀ k₀ work t k = n - k
 
 loop-holds : tie.Need-loop-holds Inv-loop μ-loop
 loop-holds c =
     let o = c .before .before .before .before .before in
     let a = o .args in
-    (omega arith, omega arith, search needs, search needs, o .pre .1, going-start (a .i) (a .c) (a .x) (a .bytes .now) _ _ _ (o .pre .4) (o .pre .5))
+    (omega arith, omega arith, o .pre .6, o .pre .7, o .pre .1, going-start (a .i) (changeOf (a .table .now) (a .first .now) (a .count .now) (a .o)) (a .x) (a .bytes .now) _ _ _ (o .pre .4) (o .pre .5))
 
 mul-b : tie.Need-mul-b Inv-loop μ-loop
 mul-b c = omega arith
@@ -49,7 +49,7 @@ stage-requires c κs =
     let p = c .before .before .before .before .before in
     let lp = p .before .loop in
     let a = p .before .before .before .before .before .before .before .args in
-    (lp .inv .4, stage-room (a .i) (a .c) (a .x) (a .bytes .now) _ _ _ _ (a .a .block) (a .a .tag) _ _ (lp .inv .5) (p .loop-test .taken) (omega arith) (omega arith))
+    (lp .inv .4, stage-room (a .i) (changeOf (a .table .now) (a .first .now) (a .count .now) (a .o)) (a .x) (a .bytes .now) _ _ _ _ (a .a .block) (a .a .tag) _ _ (lp .inv .5) (p .loop-test .taken) (omega arith) (omega arith))
 
 add-k : tie.Need-add-k Inv-loop μ-loop
 add-k c = omega arith
@@ -68,7 +68,7 @@ loop-again c =
       lp .inv .2,
       lp .inv .3,
       c .before .before .stage .kept .0 ∙ lp .inv .4,
-      stage-step (a .i) (a .c) (a .x) (a .bytes .now) _ _ _ _ (a .a .block) (a .a .tag) _ _ (lp .inv .5) (p .loop-test .taken) (omega arith) (omega arith) _ _ _
+      stage-step (a .i) (changeOf (a .table .now) (a .first .now) (a .count .now) (a .o)) (a .x) (a .bytes .now) _ _ _ _ (a .a .block) (a .a .tag) _ _ (lp .inv .5) (p .loop-test .taken) (omega arith) (omega arith) _ _ _
           (c .before .before .before .before .before .before .block-now .ensures) (c .before .before .before .before .before .content .ensures) (c .before .before .stage .ensures (a .device .now)),
     )
 
@@ -82,7 +82,7 @@ returns : tie.Need-returns Inv-loop μ-loop
 returns c =
     let lp = c .before .before .loop in
     let a = c .before .before .before .before .before .before .before .before .args in
-    stage-end (a .i) (a .c) (a .x) (a .bytes .now) _ _ _ _ (a .a .block) (a .a .tag) _ _ (lp .inv .5) (c .before .loop-test .left) _ (c .settled .ensures)
+    stage-end (a .i) (changeOf (a .table .now) (a .first .now) (a .count .now) (a .o)) (a .x) (a .bytes .now) _ _ _ _ (a .a .block) (a .a .tag) _ _ (lp .inv .5) (c .before .loop-test .left) _ (c .settled .ensures)
 
 pub stage-all-spec : {M : Type 1} → statement M
 stage-all-spec =

@@ -3,6 +3,8 @@ use Prim.Native.Nat.{_-_, _≤_}
 use mathlib.Core.Path.{_≡_, sym}
 use native.Mathlib.Omega.{arith}
 use borrow.Author.Needs.{needs}
+use mathlib.Core.List.{[]}
+use Rattle.runs.specs.Push.{columns}
 use Rattle.runs.specs.Runs.{listed}
 use Rattle.change.specs.Contents.{placeOf}
 use Rattle.change.proofs.Places.{place-none, place-step, place-end, place-room}
@@ -10,10 +12,10 @@ use Rattle.change.proofs.total.Statement.{statement}
 use Rattle.change.proofs.total.Tie as tie
 
 abbrev Inv-loop : tie.InvT-loop
-Inv-loop r n₀ k₀ n k = (k ≤ r .len) × (n ≡ placeOf r k)
+Inv-loop count end n₀ k₀ n k = (k ≤ end .len) × (n ≡ placeOf (columns [] count end) k)
 
 abbrev μ-loop : tie.MeasureT-loop
-μ-loop r n₀ k₀ n k = r .len - k
+μ-loop count end n₀ k₀ n k = end .len - k
 
 loop-holds : tie.Need-loop-holds Inv-loop μ-loop
 loop-holds c = (omega arith, sym (place-none _))
@@ -29,9 +31,10 @@ wide-requires c κs = search needs
 
 add-n : tie.Need-add-n Inv-loop μ-loop
 add-n c =
-    let r = c .before .before .before .before .args .t1 in
-    let lp = c .before .before .before .loop in
-    omega (arith, place-room r (lp .k) (c .before .before .loop-test .taken), length-blocks (listed r), c .before .before .before .before .pre .1, lp .inv .1, c .wide .ensures .1)
+    let a = c .before .before .before .before .before .args in
+    let r = columns [] (a .count .now) (a .end) in
+    let lp = c .before .before .before .before .loop in
+    omega (arith, place-room r (lp .k) (c .before .before .if1 .taken), length-blocks (listed r), c .before .before .before .before .before .pre .1, lp .inv .1, c .wide .ensures .1)
 
 add-k : tie.Need-add-k Inv-loop μ-loop
 add-k c = omega arith
@@ -40,10 +43,10 @@ loop-less : tie.Need-loop-less Inv-loop μ-loop
 loop-less c = omega arith
 
 loop-again : tie.Need-loop-again Inv-loop μ-loop
-loop-again c = (omega arith, place-step _ _ _ _ (c .before .before .before .loop .inv .1) (c .wide .ensures .0))
+loop-again c = (omega arith, place-step _ _ _ _ (c .before .before .before .before .loop .inv .1) (c .wide .ensures .0))
 
 returns : tie.Need-returns Inv-loop μ-loop
-returns c = let lp = c .before .loop in place-end _ _ _ (lp .inv .1) (omega arith)
+returns c = let lp = c .before .before .loop in place-end _ _ _ (lp .inv .1) (omega arith)
 
 pub total-spec : {M : Type 1} → statement M
 total-spec =

@@ -2,16 +2,17 @@ use Prim.Native.Nat.{_-_, _≤_}
 use mathlib.Core.Path.{_≡_, refl, _∙_}
 use Rattle.spec.specs.Inode.{bytesOfSlots}
 use Rattle.runs.specs.Runs.{extentsFrom}
+use Rattle.runs.specs.Push.{columns}
 use Rattle.content.proofs.Laws.{filled, slots-none, slots-more, slots-all}
 use native.Mathlib.Omega.{arith}
 use Rattle.content.proofs.node_content.Statement.{statement}
 use Rattle.content.proofs.node_content.Tie as tie
 
 abbrev Inv-loop : tie.InvT-loop
-Inv-loop j firsts counts start n out₀ k₀ out k = (k ≤ n) × (out ≡ filled (bytesOfSlots (extentsFrom firsts counts start k)))
+Inv-loop first count j start n out₀ k₀ out k = (k ≤ n) × (out ≡ filled (bytesOfSlots (extentsFrom first count start k)))
 
 abbrev μ-loop : tie.MeasureT-loop
-μ-loop j firsts counts start n out₀ k₀ out k = n - k
+μ-loop first count j start n out₀ k₀ out k = n - k
 
 mul-start : tie.Need-mul-start Inv-loop μ-loop
 mul-start c = omega arith
@@ -29,8 +30,8 @@ add-f c = omega arith
 mul-f : tie.Need-mul-f Inv-loop μ-loop
 mul-f c = omega arith
 
-array-read-f : tie.Need-array-read-f Inv-loop μ-loop
-array-read-f c = omega arith
+element-copy-out-f : tie.Need-element-copy-out-f Inv-loop μ-loop
+element-copy-out-f c = omega arith
 
 add-c : tie.Need-add-c Inv-loop μ-loop
 add-c c = omega arith
@@ -38,8 +39,8 @@ add-c c = omega arith
 mul-c : tie.Need-mul-c Inv-loop μ-loop
 mul-c c = omega arith
 
-array-read-c : tie.Need-array-read-c Inv-loop μ-loop
-array-read-c c = omega arith
+element-copy-out-c : tie.Need-element-copy-out-c Inv-loop μ-loop
+element-copy-out-c c = omega arith
 
 mul-at : tie.Need-mul-at Inv-loop μ-loop
 mul-at c = omega arith
@@ -84,14 +85,14 @@ loop-less : tie.Need-loop-less Inv-loop μ-loop
 loop-less c = omega arith
 
 loop-again : tie.Need-loop-again Inv-loop μ-loop
-loop-again c = (omega arith, slots-more _ _ _ _ _ (c .before .loop .inv .1) _ _ refl refl)
+loop-again c = (omega arith, slots-more _ _ _ _ _ (c .before .before .before .loop .inv .1) _ _ refl refl)
 
 returns : tie.Need-returns Inv-loop μ-loop
 returns c =
-    let a = c .before .before .before .before .before .args in
+    let a = c .before .before .before .args in
     let lp = c .before .loop in
     let e : lp .k ≡ c .before .before .slots-in .result = omega arith in
-    slots-all (a .r) (a .j) (lp .k) _ (e ∙ c .before .before .slots-in .ensures) (lp .inv .1)
+    slots-all (columns (a .first .now) (a .count .now) (a .end)) (a .j) (lp .k) _ (e ∙ c .before .before .slots-in .ensures) (lp .inv .1)
 
 pub node-content-spec : {M : Type 1} → statement M
 node-content-spec =
@@ -104,10 +105,10 @@ node-content-spec =
     loop-holds
     add-f
     mul-f
-    array-read-f
+    element-copy-out-f
     add-c
     mul-c
-    array-read-c
+    element-copy-out-c
     mul-at
     cast-out
     array-write-out

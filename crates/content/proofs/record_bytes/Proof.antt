@@ -1,3 +1,5 @@
+use mathlib.Core.Path.{refl}
+use Rattle.content.specs.Content.{treeOf}
 use borrow.Author.Needs.{needs}
 use Rattle.content.proofs.Record.{record-is}
 use Rattle.content.proofs.record_bytes.Statement.{statement}
@@ -39,7 +41,7 @@ joined-requires c κs = search needs
 returns : tie.Need-returns
 returns c =
     let a = c .before .before .before .before .before .before .before .before .before .before .before .args in
-    record-is (a .t) (a .name) _ _ _ _ _ _ _ (a .size) _ _ _ _ (c .before .before .before .before .before .before .before .before .before .before .size-bytes .ensures) (c .before .before .before .before .before .before .before .before .before .depth-of .ensures)
+    record-is (treeOf (a .first .now) (a .count .now) (a .end) (a .node) (a .nodes)) (a .name) _ _ _ _ _ _ _ (a .size) _ _ _ _ (c .before .before .before .before .before .before .before .before .before .before .size-bytes .ensures) (c .before .before .before .before .before .before .before .before .before .depth-of .ensures _ refl)
     (c .before .before .before .before .before .before .before .before .top-slot .ensures) (c .before .before .before .before .before .before .before .slot-bytes .ensures)
     (c .before .before .before .before .before .before .top-slot2 .ensures) (c .before .before .before .before .before .slot-bytes2 .ensures)
     (c .before .before .before .before .top-slot3 .ensures) (c .before .before .before .slot-bytes3 .ensures)

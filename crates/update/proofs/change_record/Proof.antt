@@ -1,8 +1,10 @@
 use native.Mathlib.Omega.{arith}
-use mathlib.Core.Path.{sym, ap, _∙_}
+use mathlib.Core.Path.{refl, sym, ap, _∙_}
 use mathlib.Core.List.{List, []}
 use Rattle.spec.specs.Transaction.{BlockStore, view, stateOf}
 use Rattle.spec.specs.Calls.{outcome, settle, staging}
+use Rattle.runs.proofs.Laws.{holds-none, small-none}
+use Rattle.update.proofs.Records.{bare-tree}
 use Rattle.update.proofs.Stores.{record-alone}
 use borrow.Author.Needs.{needs}
 use Rattle.update.proofs.change_record.Statement.{statement}
@@ -14,9 +16,6 @@ view-block-requires c κs = search needs
 copy-of-requires : tie.Need-copy-of-requires
 copy-of-requires c κs = search needs
 
-same-tree-requires : tie.Need-same-tree-requires
-same-tree-requires c κs = search needs
-
 sub-apply : tie.Need-sub-apply
 sub-apply c = search needs
 
@@ -27,13 +26,18 @@ part-apply-end : tie.Need-part-apply-end
 part-apply-end c = search needs
 
 apply-requires : tie.Need-apply-requires
-apply-requires c κs = (c .before .before .before .before .before .before .before .before .pre .0, c .before .before .before .before .before .before .before .before .pre .1, c .before .before .same-tree .ensures .3, omega arith, omega arith, omega arith)
+apply-requires c κs = let o = c .before .before .before .before .before .before .before .before .before .before in (o .pre .0, o .pre .1, bare-tree _ _ _ (holds-none _ _) (small-none _ _ refl refl) .2, omega arith, omega arith, omega arith)
 
 same-length : tie.Need-same-length
 same-length c = search needs
 
 returns : tie.Need-returns
-returns c = c .before .before .apply .ensures ∙ ap (λ (ws : List BlockStore). settle (outcome (stateOf (c .before .before .before .before .before .before .before .before .before .before .before .args .session) (c .before .before .before .before .before .before .before .before .before .before .before .args .device .now) (c .before .before .before .before .before .before .before .before .before .before .before .args .work .now))) (staging (stateOf (c .before .before .before .before .before .before .before .before .before .before .before .args .session) (c .before .before .before .before .before .before .before .before .before .before .before .args .device .now) (c .before .before .before .before .before .before .before .before .before .before .before .args .work .now)) ws)) (sym (record-alone (view (stateOf (c .before .before .before .before .before .before .before .before .before .before .before .args .session) (c .before .before .before .before .before .before .before .before .before .before .before .args .device .now) (c .before .before .before .before .before .before .before .before .before .before .before .args .work .now))) (c .before .before .before .before .before .before .before .before .before .before .before .args .i) _ 0 [] (c .before .before .before .before .before .same-tree .ensures .1) (c .before .before .before .before .before .same-tree .ensures .2) (c .before .before .before .before .before .same-tree .ensures .0 ∙ c .before .before .before .before .before .before .copy-of .ensures ∙ c .before .before .before .before .before .before .before .view-block .ensures)))
+returns c =
+    let a = c .before .before .before .before .before .before .before .before .before .before .before .before .before .args in
+    let s = stateOf (a .session) (a .device .now) (a .work .now) in
+    c .before .before .apply .ensures
+    ∙ ap (λ (ws : List BlockStore). settle (outcome s) (staging s ws))
+    (sym (record-alone (view s) (a .i) _ 0 [] (bare-tree _ _ _ (holds-none _ _) (small-none _ _ refl refl) .0) (bare-tree _ [] [] (holds-none _ _) (small-none _ _ refl refl) .1) (c .before .before .before .before .before .before .before .before .copy-of .ensures ∙ c .before .before .before .before .before .before .before .before .before .view-block .ensures)))
 
 pub change-record-spec : {M : Type 1} → statement M
 change-record-spec =
@@ -41,7 +45,6 @@ change-record-spec =
     (tie.spec
     view-block-requires
     copy-of-requires
-    same-tree-requires
     sub-apply
     part-apply-start
     part-apply-end

@@ -36,8 +36,8 @@ part-apply-end : tie.Need-part-apply-end
 part-apply-end c = search needs
 
 apply-requires : tie.Need-apply-requires
-apply-requires c κs = let b = emptied-fits (view (stateOf (c .before .before .before .before .before .before .before .before .before .before .before .before .before .args .session) (c .before .before .before .before .before .before .before .before .before .before .before .before .before .args .device .now) (c .before .before .before .before .before .before .before .before .before .before .before .before .before .args .work .now))) _ _ (c .before .before .before .draft-of .ensures) in
-    (subst InTable (c .before .before .before .before .before .before .i .given .1) (c .before .before .before .before .before .before .before .before .look-up .ensures .1), file-says (c .before .before .before .before .before .before .before .before .before .before .before .before .before .args .session) (c .before .before .before .before .before .before .before .before .before .before .before .before .before .args .device .now) (c .before .before .before .before .before .before .before .before .before .before .before .before .before .args .work .now) (c .before .before .before .before .before .before .before .before .before .before .before .before .before .args .name .now) _ (sym (ap lookedOf (c .before .before .before .before .before .before .i .given .1)) ∙ c .before .before .before .before .before .before .before .before .look-up .ensures .0), b .bounded, omega arith, omega arith, omega arith)
+apply-requires c κs = let b = emptied-fits (view (stateOf (c .before .before .before .before .before .before .before .before .before .before .before .before .before .before .before .before .before .before .args .session) (c .before .before .before .before .before .before .before .before .before .before .before .before .before .before .before .before .before .before .args .device .now) (c .before .before .before .before .before .before .before .before .before .before .before .before .before .before .before .before .before .before .args .work .now))) _ _ (c .before .before .before .before .before .before .before .before .draft-of .ensures) in
+    (subst InTable (c .before .before .before .before .before .before .before .before .before .before .before .i .given .1) (c .before .before .before .before .before .before .before .before .before .before .before .before .before .look-up .ensures .1), file-says (c .before .before .before .before .before .before .before .before .before .before .before .before .before .before .before .before .before .before .args .session) (c .before .before .before .before .before .before .before .before .before .before .before .before .before .before .before .before .before .before .args .device .now) (c .before .before .before .before .before .before .before .before .before .before .before .before .before .before .before .before .before .before .args .work .now) (c .before .before .before .before .before .before .before .before .before .before .before .before .before .before .before .before .before .before .args .name .now) _ (sym (ap lookedOf (c .before .before .before .before .before .before .before .before .before .before .before .i .given .1)) ∙ c .before .before .before .before .before .before .before .before .before .before .before .before .before .look-up .ensures .0), b .bounded, omega arith, omega arith, omega arith)
 
 same-length : tie.Need-same-length
 same-length c = search needs
@@ -49,8 +49,8 @@ same-length-2 : tie.Need-same-length-2
 same-length-2 c = search needs
 
 returns-2 : tie.Need-returns-2
-returns-2 c = let b = emptied-fits (view (stateOf (c .before .before .before .before .before .before .before .before .before .before .before .before .before .before .before .before .args .session) (c .before .before .before .before .before .before .before .before .before .before .before .before .before .before .before .before .args .device .now) (c .before .before .before .before .before .before .before .before .before .before .before .before .before .before .before .before .args .work .now))) _ _ (c .before .before .before .before .before .before .draft-of .ensures) in
-    remove-fine (c .before .before .before .before .before .before .before .before .before .before .before .before .before .before .before .before .args .session) (c .before .before .before .before .before .before .before .before .before .before .before .before .before .before .before .before .args .device .now) (c .before .before .before .before .before .before .before .before .before .before .before .before .before .before .before .before .args .work .now) (c .before .before .before .before .before .before .before .before .before .before .before .before .before .before .before .before .args .name .now) _ _ _ (sym (ap lookedOf (c .before .before .before .before .before .before .before .before .before .i .given .1)) ∙ c .before .before .before .before .before .before .before .before .before .before .before .look-up .ensures .0) (remove-stores (view (stateOf (c .before .before .before .before .before .before .before .before .before .before .before .before .before .before .before .before .args .session) (c .before .before .before .before .before .before .before .before .before .before .before .before .before .before .before .before .args .device .now) (c .before .before .before .before .before .before .before .before .before .before .before .before .before .before .before .before .args .work .now))) _ _ 0 [] b refl) (c .before .before .apply .ensures)
+returns-2 c = let b = emptied-fits (view (stateOf (c .before .before .before .before .before .before .before .before .before .before .before .before .before .before .before .before .before .before .before .before .before .args .session) (c .before .before .before .before .before .before .before .before .before .before .before .before .before .before .before .before .before .before .before .before .before .args .device .now) (c .before .before .before .before .before .before .before .before .before .before .before .before .before .before .before .before .before .before .before .before .before .args .work .now))) _ _ (c .before .before .before .before .before .before .before .before .before .before .before .draft-of .ensures) in
+    remove-fine (c .before .before .before .before .before .before .before .before .before .before .before .before .before .before .before .before .before .before .before .before .before .args .session) (c .before .before .before .before .before .before .before .before .before .before .before .before .before .before .before .before .before .before .before .before .before .args .device .now) (c .before .before .before .before .before .before .before .before .before .before .before .before .before .before .before .before .before .before .before .before .before .args .work .now) (c .before .before .before .before .before .before .before .before .before .before .before .before .before .before .before .before .before .before .before .before .before .args .name .now) _ _ _ (sym (ap lookedOf (c .before .before .before .before .before .before .before .before .before .before .before .before .before .before .i .given .1)) ∙ c .before .before .before .before .before .before .before .before .before .before .before .before .before .before .before .before .look-up .ensures .0) (remove-stores (view (stateOf (c .before .before .before .before .before .before .before .before .before .before .before .before .before .before .before .before .before .before .before .before .before .args .session) (c .before .before .before .before .before .before .before .before .before .before .before .before .before .before .before .before .before .before .before .before .before .args .device .now) (c .before .before .before .before .before .before .before .before .before .before .before .before .before .before .before .before .before .before .before .before .before .args .work .now))) _ _ 0 [] b refl) (c .before .before .apply .ensures)
 
 pub remove-spec : {M : Type 1} → statement M
 remove-spec =

@@ -1,7 +1,10 @@
 use native.Mathlib.Omega.{arith}
 use Prim.Native.Nat.{ℕ}
 use mathlib.Core.Path.{refl, sym, ap, ap₂, subst, _∙_}
-use Rattle.spec.specs.Inode.{Inode, inodeWith, bytesOfInode}
+use mathlib.Core.List.{List}
+use Rattle.spec.specs.Inode.{Inode, nameAt, inodeWith, bytesOfInode}
+use Rattle.content.specs.Content.{treeOf}
+use Rattle.content.proofs.Record.{parts-levels, parts-bounded}
 use Rattle.spec.specs.Transaction.{view, stateOf}
 use Rattle.inode.proofs.Laws.{inode-at, record-at}
 use Rattle.checks.proofs.Laws.{told}
@@ -42,10 +45,17 @@ name-of-requires : tie.Need-name-of-requires
 name-of-requires c κs = search needs
 
 record-bytes-requires : tie.Need-record-bytes-requires
-record-bytes-requires c κs = (((subst (λ (n : ℕ). Drafted (view (stateOf (c .before .before .before .before .before .before .before .before .before .before .before .before .before .before .args .session) (c .before .before .before .before .before .before .before .before .before .before .before .before .before .before .args .device .now) (c .before .before .before .before .before .before .before .before .before .before .before .before .before .before .args .work .now))) (c .before .before .before .before .before .before .before .before .before .before .before .before .before .before .args .i) n (c .before .before .before .before .before .before .before .before .draft-of .result)) (c .before .before .before .before .before .before .before .before .before .blocks-for .ensures .0) (c .before .before .before .before .before .before .before .before .draft-of .ensures)) .tree (c .before .before .before .before .before .enum-told .given .1)) .bounded, omega arith)
+record-bytes-requires c κs =
+    let a = c .before .before .before .before .before .before .before .before .before .before .before .before .before .before .before .before .before .before .args in
+    let d = subst (λ (n : ℕ). Drafted (view (stateOf (a .session) (a .device .now) (a .work .now))) (a .i) n (c .before .before .before .before .before .before .before .before .before .before .before .before .draft-of .result)) (c .before .before .before .before .before .before .before .before .before .before .before .before .before .blocks-for .ensures .0) (c .before .before .before .before .before .before .before .before .before .before .before .before .draft-of .ensures) in
+    (parts-bounded (c .before .before .before .before .before .before .before .before .before .before .before .before .draft-of .result .tree) (d .tree (c .before .before .before .before .before .before .before .before .before .enum-told .given .1) .bounded), c .before .before .before .before .before .before .before .before .before .before .before .before .before .before .before .before .before .before .pre .3)
 
 apply-requires : tie.Need-apply-requires
-apply-requires c κs = (omega arith, c .before .before .before .before .before .before .before .before .before .before .before .before .before .before .before .before .pre .1, ((subst (λ (n : ℕ). Drafted (view (stateOf (c .before .before .before .before .before .before .before .before .before .before .before .before .before .before .before .before .args .session) (c .before .before .before .before .before .before .before .before .before .before .before .before .before .before .before .before .args .device .now) (c .before .before .before .before .before .before .before .before .before .before .before .before .before .before .before .before .args .work .now))) (c .before .before .before .before .before .before .before .before .before .before .before .before .before .before .before .before .args .i) n (c .before .before .before .before .before .before .before .before .before .before .draft-of .result)) (c .before .before .before .before .before .before .before .before .before .before .before .blocks-for .ensures .0) (c .before .before .before .before .before .before .before .before .before .before .draft-of .ensures)) .tree (c .before .before .before .before .before .before .before .enum-told .given .1)) .bounded, omega arith, c .before .before .before .wide .ensures .1, omega arith)
+apply-requires c κs =
+    let o = c .before .before .before .before .before .before .before .before .before .before .before .before .before .before .before .before .before .before .before .before .before .before .before .before in
+    let a = o .args in
+    let d = subst (λ (n : ℕ). Drafted (view (stateOf (a .session) (a .device .now) (a .work .now))) (a .i) n (c .before .before .before .before .before .before .before .before .before .before .before .before .before .before .before .before .before .before .draft-of .result)) (c .before .before .before .before .before .before .before .before .before .before .before .before .before .before .before .before .before .before .before .blocks-for .ensures .0) (c .before .before .before .before .before .before .before .before .before .before .before .before .before .before .before .before .before .before .draft-of .ensures) in
+    (o .pre .0, o .pre .1, d .tree (c .before .before .before .before .before .before .before .before .before .before .before .before .before .before .before .enum-told .given .1) .bounded, o .pre .2, c .before .before .before .before .before .before .before .before .before .before .before .wide .ensures .1, o .pre .3)
 
 same-length : tie.Need-same-length
 same-length c = search needs
@@ -57,7 +67,20 @@ same-length-2 : tie.Need-same-length-2
 same-length-2 c = search needs
 
 returns-2 : tie.Need-returns-2
-returns-2 c = rewrite-fine (c .before .before .before .before .before .before .before .before .before .before .before .before .before .before .before .before .before .before .before .args .session) (c .before .before .before .before .before .before .before .before .before .before .before .before .before .before .before .before .before .before .before .args .device .now) (c .before .before .before .before .before .before .before .before .before .before .before .before .before .before .before .before .before .before .before .args .work .now) (c .before .before .before .before .before .before .before .before .before .before .before .before .before .before .before .before .before .before .before .args .i) (c .before .before .before .before .before .before .before .before .before .before .before .before .before .before .before .before .before .before .before .args .size) (c .before .before .before .before .before .before .before .before .before .before .before .before .before .before .before .before .before .before .before .args .x) (c .before .before .before .before .before .before .before .before .before .before .before .before .before .before .before .before .before .before .before .args .bytes .now) _ ((subst (λ (n : ℕ). Drafted (view (stateOf (c .before .before .before .before .before .before .before .before .before .before .before .before .before .before .before .before .before .before .before .args .session) (c .before .before .before .before .before .before .before .before .before .before .before .before .before .before .before .before .before .before .before .args .device .now) (c .before .before .before .before .before .before .before .before .before .before .before .before .before .before .before .before .before .before .before .args .work .now))) (c .before .before .before .before .before .before .before .before .before .before .before .before .before .before .before .before .before .before .before .args .i) n (c .before .before .before .before .before .before .before .before .before .before .before .before .before .draft-of .result)) (c .before .before .before .before .before .before .before .before .before .before .before .before .before .before .blocks-for .ensures .0) (c .before .before .before .before .before .before .before .before .before .before .before .before .before .draft-of .ensures)) .verdict) _ _ (c .before .before .before .before .before .before .before .before .before .before .enum-told .given .1) (rewrite-stores (view (stateOf (c .before .before .before .before .before .before .before .before .before .before .before .before .before .before .before .before .before .before .before .args .session) (c .before .before .before .before .before .before .before .before .before .before .before .before .before .before .before .before .before .before .before .args .device .now) (c .before .before .before .before .before .before .before .before .before .before .before .before .before .before .before .before .before .before .before .args .work .now))) (c .before .before .before .before .before .before .before .before .before .before .before .before .before .before .before .before .before .before .before .args .i) _ _ (c .before .before .before .before .before .before .before .before .before .before .before .before .before .before .before .before .before .before .before .args .x) (c .before .before .before .before .before .before .before .before .before .before .before .before .before .before .before .before .before .before .before .args .bytes .now) ((subst (λ (n : ℕ). Drafted (view (stateOf (c .before .before .before .before .before .before .before .before .before .before .before .before .before .before .before .before .before .before .before .args .session) (c .before .before .before .before .before .before .before .before .before .before .before .before .before .before .before .before .before .before .before .args .device .now) (c .before .before .before .before .before .before .before .before .before .before .before .before .before .before .before .before .before .before .before .args .work .now))) (c .before .before .before .before .before .before .before .before .before .before .before .before .before .before .before .before .before .before .before .args .i) n (c .before .before .before .before .before .before .before .before .before .before .before .before .before .draft-of .result)) (c .before .before .before .before .before .before .before .before .before .before .before .before .before .before .blocks-for .ensures .0) (c .before .before .before .before .before .before .before .before .before .before .before .before .before .draft-of .ensures)) .tree (c .before .before .before .before .before .before .before .before .before .before .enum-told .given .1)) _ (c .before .before .before .before .before .before .before .before .before .before .before .before .before .before .before .before .before .before .before .args .size) (c .before .before .before .before .record-bytes .ensures ∙ kept-record (view (stateOf (c .before .before .before .before .before .before .before .before .before .before .before .before .before .before .before .before .before .before .before .args .session) (c .before .before .before .before .before .before .before .before .before .before .before .before .before .before .before .before .before .before .before .args .device .now) (c .before .before .before .before .before .before .before .before .before .before .before .before .before .before .before .before .before .before .before .args .work .now))) (c .before .before .before .before .before .before .before .before .before .before .before .before .before .before .before .before .before .before .before .args .i) _ _ (c .before .before .before .before .before .before .before .before .before .before .before .before .before .before .before .before .before .before .before .args .size) (listed (c .before .before .before .before .before .before .before .before .before .before .before .before .before .draft-of .result .tree .runs)) (levelsIn (c .before .before .before .before .before .before .before .before .before .before .before .before .before .draft-of .result .tree)) (c .before .before .before .before .before .name-of .ensures) (c .before .before .before .before .before .before .before .before .inode-block .ensures)) (kept-size (view (stateOf (c .before .before .before .before .before .before .before .before .before .before .before .before .before .before .before .before .before .before .before .args .session) (c .before .before .before .before .before .before .before .before .before .before .before .before .before .before .before .before .before .before .before .args .device .now) (c .before .before .before .before .before .before .before .before .before .before .before .before .before .before .before .before .before .before .before .args .work .now))) (c .before .before .before .before .before .before .before .before .before .before .before .before .before .before .before .before .before .before .before .args .i) _ _ (c .before .before .before .before .before .before .wide .ensures .0 ∙ c .before .before .before .before .before .before .before .size-of .ensures) (c .before .before .before .before .before .before .before .before .inode-block .ensures)) refl) (c .before .before .apply .ensures)
+returns-2 c =
+    let a = c .before .before .before .before .before .before .before .before .before .before .before .before .before .before .before .before .before .before .before .before .before .before .before .before .before .before .before .args in
+    let v = view (stateOf (a .session) (a .device .now) (a .work .now)) in
+    let t = c .before .before .before .before .before .before .before .before .before .before .before .before .before .before .before .before .before .before .before .before .before .draft-of .result .tree in
+    let d = subst (λ (n : ℕ). Drafted v (a .i) n (c .before .before .before .before .before .before .before .before .before .before .before .before .before .before .before .before .before .before .before .before .before .draft-of .result)) (c .before .before .before .before .before .before .before .before .before .before .before .before .before .before .before .before .before .before .before .before .before .before .blocks-for .ensures .0) (c .before .before .before .before .before .before .before .before .before .before .before .before .before .before .before .before .before .before .before .before .before .draft-of .ensures) in
+    let e = c .before .before .before .before .before .before .before .before .before .before .before .before .before .before .before .before .before .before .enum-told .given .1 in
+    rewrite-fine (a .session) (a .device .now) (a .work .now) (a .i) (a .size) (a .x) (a .bytes .now) _ (d .verdict) _ _ e
+    (rewrite-stores v (a .i) _ _ (a .x) (a .bytes .now) (d .tree e) _ (a .size)
+    (c .before .before .before .before .before .before .before .before .record-bytes .ensures
+    ∙ kept-record v (a .i) _ _ (a .size) (listed (t .runs))
+    (levelsIn (treeOf (t .runs .first) (t .runs .count) (record { len = t .runs .len; next = t .runs .next }) (t .node) (t .nodes))) (c .before .before .before .before .before .before .before .before .before .before .before .before .name-of .ensures) (c .before .before .before .before .before .before .before .before .before .before .before .before .before .before .before .before .inode-block .ensures)
+    ∙ ap (λ (ls : List (List ℕ)). bytesOfInode (inodeWith (nameAt v (a .i)) (a .size) (listed (t .runs)) ls)) (parts-levels t))
+    (kept-size v (a .i) _ _ (c .before .before .before .before .before .before .before .before .before .before .before .before .before .before .wide .ensures .0 ∙ c .before .before .before .before .before .before .before .before .before .before .before .before .before .before .before .size-of .ensures) (c .before .before .before .before .before .before .before .before .before .before .before .before .before .before .before .before .inode-block .ensures)) refl)
+    (c .before .before .apply .ensures)
 
 pub resize-spec : {M : Type 1} → statement M
 resize-spec =

@@ -1,5 +1,2 @@
-pub mod Runs
-pub mod Slots
-pub mod Walks
 pub mod Names
-pub mod Shape
+pub mod Records

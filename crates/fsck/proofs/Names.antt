@@ -1,28 +1,32 @@
 -- Names as numbers. Assumes nothing.
-use Prim.Native.Nat.{ℕ, zero, suc, _+_, _*_, _-_, _<_}
+use Prim.Native.Nat.{ℕ, zero, suc, _+_, _*_, _-_, _%_, _<_, _≤_}
 use mathlib.Core.Path.{_≡_, refl, sym, ap, _∙_}
-use mathlib.Core.Bool.{Bool, true, false}
+use mathlib.Core.Bool.{Bool, true, false, _||_, true≢false}
+use mathlib.Core.Logic.{⊎-elim}
 use mathlib.Core.List.{List, [], _∷_}
 use mathlib.Core.Option.{Option, none}
+use native.Mathlib.Nat.{eq-or-lt-of-le}
+use native.Mathlib.Numerals.{add-one}
 use native.Mathlib.Omega.{arith}
 use borrow.Author.Tests.{eqb-true, eqb-false, eq-eqb, ne-eqb}
 use lib.Dec.{eqb}
 use lib.ListN.{length, take, drop, getD, set, replicate, length-take, length-drop, length-replicate, length-set}
 use lib.Seq.{ext-getD, getD-drop, getD-set-same, getD-set-other}
-use Rattle.spec.specs.Bytes.{exactly, number4, same, found}
+use Rattle.spec.specs.Bytes.{exactly, number4, same, found, allZero}
 use Rattle.spec.specs.Disk.{Disk}
 use Rattle.spec.specs.Inode.{inodeBytes, nameAt, isEmpty, find, blockOfInode, placeOfInode}
 use Rattle.spec.specs.Sound.{firstOfName}
 use Rattle.lists.specs.Tests.{false-of}
-use Rattle.lists.specs.Lowest.{lowest-some}
-use Rattle.block.proofs.Laws.{exactly-small, same-self, same-true}
+use Rattle.lists.specs.Lowest.{lowest-some, lowest-none, lowest-no}
+use Rattle.block.proofs.Laws.{lt-or-le, exactly-small, same-self, same-true}
+use Rattle.zeros.proofs.Laws.{zero-at}
 use Rattle.bitmap.specs.Words.{Below, wordOf}
 use Rattle.inode.specs.declared.Found.{Found}
 use Rattle.inode.specs.declared.Found.the-variants.{At, Nothing}
-use Rattle.inode.specs.Records.{bytesIn, recordIn, lowestTo}
-use Rattle.inode.proofs.Laws.{name-bytes, record-at, same-zeros, lowest-hit, lowest-in, lowest-past, lowest-agree, namedAt, find-all, found-at}
+use Rattle.inode.specs.Records.{bytesIn, recordIn, foundOf, lowestTo}
+use Rattle.inode.proofs.Laws.{name-bytes, record-at, same-zeros, lowest-hit, lowest-in, lowest-past, lowest-agree, namedAt, find-all, found-at, found-nothing}
 use Rattle.marks.proofs.Laws.{zero-byte}
-use Rattle.fsck.specs.Names.{Names, sameNumber}
+use Rattle.fsck.specs.Names.{Names, Seen, seenTo}
 
 -- ---- two names with one number
 
@@ -92,6 +96,91 @@ module _ (t : List ℕ) (i p : ℕ) (e : p ≡ placeOfInode i) where
       (take-small 32 256 (drop (placeOfInode i) (exactly 512 t)) (omega arith)
       (λ k. rw (getD-drop (placeOfInode i) (exactly 512 t) k 0) (exactly-small 512 256 t (omega arith) b (placeOfInode i + k))))
 
+-- ---- bytes that are all zero
+
+zero-word : (xs : List ℕ) → allZero xs ≡ true → wordOf xs 0 ≡ 0
+zero-word xs h = rw (zero-at xs 7 h, zero-at xs 6 h, zero-at xs 5 h, zero-at xs 4 h, zero-at xs 3 h, zero-at xs 2 h, zero-at xs 1 h, zero-at xs 0 h)
+
+-- ---- numbers seen before
+
+-- whether number j is number i
+unfoldable sameNumber : List ℕ → ℕ → ℕ → Bool
+sameNumber numbers i j = eqb (getD numbers j 0) (getD numbers i 0)
+
+module _ (numbers : List ℕ) (x : ℕ) where
+  pub seen-first : (r : Bool) → r ≡ false → r ≡ seenTo 0 x numbers
+  unfolding seenTo
+  seen-first r e = e
+
+  pub seen-more : (j : ℕ) (r : Bool) → r ≡ seenTo j x numbers → (r || eqb (getD numbers j 0) x) ≡ seenTo (j + 1) x numbers
+  unfolding seenTo
+  seen-more j r e = rw (add-one j, e)
+
+  pub seen-end : (j n : ℕ) (r : Bool) → r ≡ seenTo j x numbers → j ≡ n → r ≡ seenTo n x numbers
+  seen-end j n r e h = rw (← h) e
+
+  seen-none : (n : ℕ) → ((j : ℕ) → j < n → eqb (getD numbers j 0) x ≡ false) → seenTo n x numbers ≡ false
+  unfolding seenTo
+  seen-none zero h = refl
+  seen-none (suc n) h = rw (seen-none n (λ j l. h j (omega arith)), h n (omega arith))
+
+  seen-all : (n : ℕ) → seenTo n x numbers ≡ false → (j : ℕ) → j < n → eqb (getD numbers j 0) x ≡ false
+  unfolding seenTo
+  seen-all zero e j h = absurd (omega arith)
+  seen-all (suc n) e j h = go (eqb j n) refl (seen-all n)
+    where
+      neither : (a b : Bool) → (a || b) ≡ false → (a ≡ false) × (b ≡ false)
+      neither false b q = (refl, q)
+      neither true b q = absurd (true≢false q)
+
+      p : (seenTo n x numbers ≡ false) × (eqb (getD numbers n 0) x ≡ false)
+      p = neither (seenTo n x numbers) (eqb (getD numbers n 0) x) e
+
+      go : (d : Bool) → eqb j n ≡ d → (seenTo n x numbers ≡ false → (k : ℕ) → k < n → eqb (getD numbers k 0) x ≡ false) → eqb (getD numbers j 0) x ≡ false
+      go true q ih = rw (eqb-true j n q) (p .1)
+      go false q ih = let ne = eqb-false j n q in ih (p .0) j (omega arith)
+
+-- ---- the table of remainders
+
+pub seen-start : (numbers seen : List ℕ) → seen ≡ replicate 1021 0 → Seen numbers seen 0
+seen-start numbers seen e = record { full = ap length e ∙ length-replicate {A = ℕ} 1021 0; told = λ j h. absurd (omega arith) }
+
+-- one more number
+pub seen-set : (numbers seen : List ℕ) (i x : ℕ) → Seen numbers seen i → Seen (set numbers i x) seen i
+seen-set numbers seen i x g = record { full = g .full; told = told }
+  where
+    told : (j : ℕ) → j < i → (getD (set numbers i x) j 0 ≡ 0 → ⊥) → getD seen (getD (set numbers i x) j 0 % 1021) 0 ≡ 1
+    told j h ne =
+        let e = getD-set-other numbers i j x 0 (λ z. omega arith) in
+        ap (λ (n : ℕ). getD seen (n % 1021) 0) e ∙ g .told j h (λ z. ne (e ∙ z))
+
+pub seen-add : (numbers seen : List ℕ) (i x : ℕ) → Seen numbers seen i → getD numbers i 0 ≡ x → Seen numbers (set seen (x % 1021) 1) (i + 1)
+seen-add numbers seen i x g e = record { full = simp length-set (g .full); told = told }
+  where
+    after : (k : ℕ) → getD seen k 0 ≡ 1 → getD (set seen (x % 1021) 1) k 0 ≡ 1
+    after k h = go (eqb k (x % 1021)) refl
+      where
+        go : (d : Bool) → eqb k (x % 1021) ≡ d → getD (set seen (x % 1021) 1) k 0 ≡ 1
+        go true q = rw (eqb-true k (x % 1021) q) (getD-set-same seen (x % 1021) 1 0 (omega (arith, g .full)))
+        go false q = getD-set-other seen (x % 1021) k 1 0 (eqb-false k (x % 1021) q) ∙ h
+
+    told : (j : ℕ) → j < i + 1 → (getD numbers j 0 ≡ 0 → ⊥) → getD (set seen (x % 1021) 1) (getD numbers j 0 % 1021) 0 ≡ 1
+    told j h ne = ⊎-elim
+        (λ z. ap (λ (n : ℕ). getD (set seen (x % 1021) 1) (n % 1021) 0) (ap (λ (k : ℕ). getD numbers k 0) z ∙ e) ∙ getD-set-same seen (x % 1021) 1 0 (omega (arith, g .full)))
+        (λ l. after (getD numbers j 0 % 1021) (g .told j l ne))
+        (eq-or-lt-of-le (let k : j ≤ i = omega arith in k))
+
+-- numbers that are zero
+pub seen-on : (v : Disk) (numbers seen : List ℕ) (n m : ℕ) → Seen numbers seen n → Names v numbers n → Seen numbers seen m
+seen-on v numbers seen n m g names = record { full = g .full; told = λ j h ne. ⊎-elim (λ l. g .told j l ne) (λ l. absurd (ne (names .rest j l))) (lt-or-le j n) }
+
+-- a number whose remainder was not seen
+pub seen-new : (numbers seen : List ℕ) (i x : ℕ) → Seen numbers seen i → (x ≡ 0 → ⊥) → getD seen (x % 1021) 0 ≡ 0 → false ≡ seenTo i x numbers
+seen-new numbers seen i x g ne z = sym (seen-none numbers x i (λ j h. ne-eqb (getD numbers j 0) x (λ e. clash j h e)))
+  where
+    clash : (j : ℕ) → j < i → getD numbers j 0 ≡ x → ⊥
+    clash j h e = let o = ap (λ (n : ℕ). getD seen (n % 1021) 0) (sym e) ∙ g .told j h (λ q. ne (sym e ∙ q)) in omega arith
+
 -- ---- the table of names
 
 module _ (v : Disk) (full : (b : ℕ) → length (v b) ≡ 512) where
@@ -100,12 +189,22 @@ module _ (v : Disk) (full : (b : ℕ) → length (v b) ≡ 512) where
   name-length j = simp (length-take, length-drop, full) (omega arith)
 
   pub names-start : (z : List ℕ) → z ≡ replicate 128 0 → Names v z 0
-  names-start z e = record { full = ap length e ∙ length-replicate {A = ℕ} 128 0; number = λ j h. absurd (omega arith); bytes = λ j h. absurd (omega arith) }
+  names-start z e = record {
+    full = ap length e ∙ length-replicate {A = ℕ} 128 0;
+    number = λ j h. absurd (omega arith);
+    bytes = λ j h. absurd (omega arith);
+    rest = λ j h. ap (λ (l : List ℕ). getD l j 0) e ∙ zero-byte 128 j;
+  }
 
   -- one more name
   pub names-more : (numbers t : List ℕ) (i x : ℕ) → Names v numbers i → i < 128 → exactly 512 t ≡ v (blockOfInode i)
       → x ≡ wordOf (take 8 (recordIn t i)) 0 → Below 256 (take 8 (recordIn t i)) → Names v (set numbers i x) (i + 1)
-  names-more numbers t i x n h e w b = record { full = simp length-set (n .full); number = number; bytes = bytes }
+  names-more numbers t i x n h e w b = record {
+    full = simp length-set (n .full);
+    number = number;
+    bytes = bytes;
+    rest = λ j k. getD-set-other numbers i j x 0 (λ z. omega arith) ∙ n .rest j (omega arith);
+  }
     where
       is-name : take 8 (recordIn t i) ≡ nameAt v i
       is-name = ap (take 8) (record-at v t i e)
@@ -124,6 +223,16 @@ module _ (v : Disk) (full : (b : ℕ) → length (v b) ≡ 512) where
           go true z = rw (eqb-true j i z, ← is-name) b
           go false z = let d = eqb-false j i z in n .bytes j (omega arith)
 
+  -- records without a name
+  pub names-on : (numbers : List ℕ) (n m : ℕ) → n ≤ m → Names v numbers n → ((j : ℕ) → n ≤ j → j < m → allZero (nameAt v j) ≡ true) → Names v numbers m
+  names-on numbers n m more g z = record { full = g .full; number = number; bytes = bytes; rest = λ j h. g .rest j (omega arith) }
+    where
+      number : (j : ℕ) → j < m → getD numbers j 0 ≡ wordOf (nameAt v j) 0
+      number j h = ⊎-elim (g .number j) (λ l. g .rest j l ∙ sym (zero-word (nameAt v j) (z j l h))) (lt-or-le j n)
+
+      bytes : (j : ℕ) → j < m → Below 256 (nameAt v j)
+      bytes j h = ⊎-elim (g .bytes j) (λ l k. omega (arith, zero-at (nameAt v j) k (z j l h))) (lt-or-le j n)
+
   module _ (numbers : List ℕ) (i : ℕ) (n : Names v numbers (i + 1)) (inside : i < 128) where
     -- a record without a name
     pub empty-by : eqb (getD numbers i 0) 0 ≡ isEmpty v i
@@ -138,24 +247,38 @@ module _ (v : Disk) (full : (b : ℕ) → length (v b) ≡ 512) where
         rw (n .number j (omega arith), n .number i (omega arith))
         (sym (word-same (nameAt v j) (nameAt v i) (name-length j) (name-length i) (n .bytes j (omega arith)) (n .bytes i (omega arith))))
 
-    module _ (r : Found) (q : r ≡ lowestTo i (sameNumber numbers i) 0) where
-      searched : lowestTo i (namedAt v (nameAt v i)) 0 ≡ r
-      searched = sym (q ∙ lowest-agree i (sameNumber numbers i) (namedAt v (nameAt v i)) 0 (λ j a h. agree j h))
+    -- the search among the numbers before, as a search among the names
+    searched : lowestTo i (namedAt v (nameAt v i)) 0 ≡ lowestTo i (sameNumber numbers i) 0
+    searched = sym (lowest-agree i (sameNumber numbers i) (namedAt v (nameAt v i)) 0 (λ j a h. agree j h))
 
-      before : (j : ℕ) → lowestTo i (namedAt v (nameAt v i)) 0 ≡ At j → j < i
-      unfolding lowestTo
-      before j h = omega (arith, lowest-some 0 (i - 0) (namedAt v (nameAt v i)) j (found-at _ j h) .below)
+    before : (j : ℕ) → lowestTo i (namedAt v (nameAt v i)) 0 ≡ At j → j < i
+    unfolding lowestTo
+    before j h = omega (arith, lowest-some 0 (i - 0) (namedAt v (nameAt v i)) j (found-at _ j h) .below)
 
-      -- a record before has the name, or none does
-      pub first-off : (j : ℕ) → r ≡ At j → firstOfName v i ≡ false
-      first-off j h =
-          let l = before j (searched ∙ h) in
-          let f = find-all v (nameAt v i) ∙ lowest-in i 128 (namedAt v (nameAt v i)) 0 (omega arith) (omega arith) j (searched ∙ h) in
-          ap (λ (o : Option ℕ). found o false (λ k. eqb k i)) (found-at (find v (nameAt v i)) j f) ∙ ne-eqb j i (λ z. omega arith)
+    hit : (j : ℕ) → lowestTo i (sameNumber numbers i) 0 ≡ At j → firstOfName v i ≡ false
+    hit j h =
+        let l = before j (searched ∙ h) in
+        let f = find-all v (nameAt v i) ∙ lowest-in i 128 (namedAt v (nameAt v i)) 0 (omega arith) (omega arith) j (searched ∙ h) in
+        ap (λ (o : Option ℕ). found o false (λ k. eqb k i)) (found-at (find v (nameAt v i)) j f) ∙ ne-eqb j i (λ z. omega arith)
 
-      pub first-on : r ≡ Nothing → firstOfName v i ≡ true
-      unfolding namedAt
-      first-on h =
-          let f = find-all v (nameAt v i) ∙ lowest-past i 128 (namedAt v (nameAt v i)) 0 (omega arith) (omega arith) (searched ∙ h)
-          ∙ lowest-hit 128 (namedAt v (nameAt v i)) i inside (same-self (nameAt v i)) in
-          ap (λ (o : Option ℕ). found o false (λ k. eqb k i)) (found-at (find v (nameAt v i)) i f) ∙ eq-eqb i i refl
+    miss : lowestTo i (sameNumber numbers i) 0 ≡ Nothing → firstOfName v i ≡ true
+    unfolding namedAt
+    miss h =
+        let f = find-all v (nameAt v i) ∙ lowest-past i 128 (namedAt v (nameAt v i)) 0 (omega arith) (omega arith) (searched ∙ h)
+        ∙ lowest-hit 128 (namedAt v (nameAt v i)) i inside (same-self (nameAt v i)) in
+        ap (λ (o : Option ℕ). found o false (λ k. eqb k i)) (found-at (find v (nameAt v i)) i f) ∙ eq-eqb i i refl
+
+    -- a record before has the name, or none does
+    module _ (r : Bool) (q : r ≡ seenTo i (getD numbers i 0) numbers) where
+      pub first-off : r ≡ true → firstOfName v i ≡ false
+      unfolding lowestTo sameNumber
+      first-off h = go (lowestTo i (sameNumber numbers i) 0) refl
+        where
+          go : (s : Found) → lowestTo i (sameNumber numbers i) 0 ≡ s → firstOfName v i ≡ false
+          go (At j) e = hit j e
+          go Nothing e =
+              absurd (true≢false (sym (sym q ∙ h) ∙ seen-none numbers (getD numbers i 0) i (λ j l. lowest-none 0 (i - 0) (sameNumber numbers i) (found-nothing _ e) j (omega arith) (omega arith))))
+
+      pub first-on : r ≡ false → firstOfName v i ≡ true
+      unfolding lowestTo sameNumber
+      first-on h = miss (ap foundOf (lowest-no 0 (i - 0) (sameNumber numbers i) (λ j a l. seen-all numbers (getD numbers i 0) i (sym q ∙ h) j (omega arith))))

@@ -1,6 +1,9 @@
 -- What is damaged, as the code tells it.
 use Prim.Native.Nat.{ℕ}
+use mathlib.Core.Bool.{Bool, not}
 use mathlib.Core.Option.{Option, none, some}
+use Rattle.spec.specs.Disk.{Disk}
+use Rattle.spec.specs.Sound.{inodeSound}
 use Rattle.fsck.specs.declared.Damage.{Damage}
 use Rattle.fsck.specs.declared.Damage.the-variants.{Inode, Block, Nothing}
 
@@ -9,3 +12,7 @@ abbrev pub damageOf : Option ℕ → Option ℕ → Damage
 damageOf (some i) b = Inode i
 damageOf none (some b) = Block b
 damageOf none none = Nothing
+
+-- record i is not sound
+unfoldable pub unsound : ℕ → Disk → ℕ → Bool
+unsound N v i = not (inodeSound N v i)

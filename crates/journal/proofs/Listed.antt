@@ -12,7 +12,7 @@ use Rattle.spec.specs.Disk.{isTarget, isTargetArea, areaOf}
 use Rattle.spec.specs.Journal.{areTargets}
 use Rattle.transaction.proofs.Laws.{Listed}
 use Rattle.journal.specs.Order.{sorted}
-use Rattle.journal.proofs.Every.{Every, every-at, every-weaken, all-every, every-all, Differ, differ-distinct}
+use Rattle.header.proofs.Every.{Every, every-at, every-weaken, all-every, every-all, Differ, differ-distinct}
 use Rattle.journal.proofs.Order.{Ascending, order-rises, order-every}
 
 -- within 33 to N-1

@@ -1,6 +1,6 @@
 // Runs the journal: headers with each fault, a commit and a recovery store by store, and what is not a log's to list.
 use block::DiskBlock;
-use journal::Fault;
+use header::Fault;
 use libc::STDOUT_FILENO;
 use spec::Advanced;
 use spec::Phase;
@@ -18,7 +18,7 @@ fn end_line() {
 
 // The lowest wrong record, how many targets are listed, and whether a log may list them, on a device of 64 blocks.
 fn show_header(head: &[u8]) {
-    match journal::header_fault(64, head) {
+    match header::header_fault(64, head) {
         Fault::At(i) => {
             io::write_all(STDOUT_FILENO, b"wrong");
             number(i as u64);
@@ -27,10 +27,10 @@ fn show_header(head: &[u8]) {
             io::write_all(STDOUT_FILENO, b"right");
         }
     }
-    let t = journal::targets_in(head);
+    let t = header::targets_in(head);
     io::write_all(STDOUT_FILENO, b", targets");
     number(t.count as u64);
-    if journal::are_targets(64, t) {
+    if header::are_targets(64, t) {
         io::write_all(STDOUT_FILENO, b" as a log may list");
     }
     end_line();

@@ -1,30 +1,34 @@
 -- Laws of marking. Assumes nothing.
-use Prim.Native.Nat.{ℕ, zero, suc, _+_, _-_, _/_, _%_, _^_, _<_, _≤_, min}
-use mathlib.Core.Path.{_≡_, refl, sym, ap, _∙_}
-use mathlib.Core.Bool.{Bool, true, false, cond, not, _&&_, _||_, Bool·beq, true≢false, and-false}
+use Prim.Native.Nat.{ℕ, zero, suc, _+_, _*_, _-_, _/_, _%_, _^_, _<_, _≤_, min, max}
+use mathlib.Core.Path.{_≡_, refl, sym, ap, ap₂, _∙_}
+use mathlib.Core.Bool.{Bool, true, false, cond, not, _&&_, _||_, Bool·beq, true≢false}
 use mathlib.Core.Logic.{⊎-elim}
-use mathlib.Core.List.{List, [], _∷_, map}
+use mathlib.Core.List.{List, [], _∷_, _++_, map, append-assoc}
 use mathlib.Core.Option.{none, some}
-use native.Mathlib.Nat.{zero-div}
+use native.Mathlib.Nat.{zero-div, eq-or-lt-of-le}
 use native.Mathlib.Numerals.{add-one}
 use native.Mathlib.Omega.{arith}
 use borrow.Author.Tests.{le-leb, lt-leb, eqb-true, eqb-false, eq-eqb, ne-eqb, ltb-true, ltb-false, lt-ltb, le-ltb, not-true}
 use lib.Dec.{eqb, leb, ltb}
-use lib.ListN.{length, getD, set, replicate, length-replicate}
+use lib.Bits.{bitAnd, bitOr, and-step, or-step, and-shr, or-shr}
+use lib.ListN.{length, getD, set, replicate, length-replicate, length-set, List·getD-eq-default}
 use lib.Seq.{getD-set-same, getD-set-other}
-use Rattle.spec.specs.Bytes.{exactly, occurs, upFrom, concat, lowest}
+use Rattle.spec.specs.Bytes.{exactly, all, occurs, upFrom, concat, lowest}
 use Rattle.spec.specs.Bitmap.{bitsOf}
 use Rattle.spec.specs.Disk.{Disk, isDataArea, areaOf, inData}
 use Rattle.spec.specs.declared.Area.the-variants.{Header, Log, Bitmap, Inodes, Data}
 use Rattle.spec.specs.Inode.{reachedFrom, reached}
 use Rattle.spec.specs.Sound.{blockSound, bitFault, blockFault}
+use Rattle.lists.specs.Counts.{upFrom-occurs}
+use Rattle.lists.specs.All.{all-at}
 use Rattle.bitmap.proofs.Laws.{length-bits, bit-at, bits-binary, occurs-append}
 use Rattle.block.proofs.Laws.{lt-or-le, length-exactly}
 use Rattle.inode.specs.declared.Found.{Found}
 use Rattle.inode.specs.declared.Found.the-variants.{Nothing}
 use Rattle.inode.specs.Records.{foundOf, lowestTo}
-use Rattle.inode.proofs.Laws.{lowest-past, lowest-agree}
-use Rattle.marks.specs.Marks.{bit, counted, Kept, runLeft, reachLeft, wrong, plain}
+use Rattle.inode.proofs.Laws.{lowest-agree}
+use Rattle.mkfs.specs.Table.{Cleared}
+use Rattle.marks.specs.Marks.{bit, counted, Kept, reachTo, wrong, rightTo}
 
 -- ---- within 42 to N-1
 
@@ -68,45 +72,70 @@ bit-zero : (t : List ℕ) (b : ℕ) → length t ≡ 512 → b < 4096 → getD t
 unfolding bit
 bit-zero t b l h e = bit-at t b 0 (omega arith) ∙ ap (λ (x : ℕ). x / 2 ^ (b % 8) % 2) e ∙ ap (λ (x : ℕ). x % 2) (zero-div (2 ^ (b % 8)))
 
--- every bit of 255 is 1
-ones : (r : ℕ) → r < 8 → 255 / 2 ^ r % 2 ≡ 1
-ones zero h = refl
-ones (suc zero) h = refl
-ones (suc (suc zero)) h = refl
-ones (suc (suc (suc zero))) h = refl
-ones (suc (suc (suc (suc zero)))) h = refl
-ones (suc (suc (suc (suc (suc zero))))) h = refl
-ones (suc (suc (suc (suc (suc (suc zero)))))) h = refl
-ones (suc (suc (suc (suc (suc (suc (suc zero))))))) h = refl
-ones (suc (suc (suc (suc (suc (suc (suc (suc r)))))))) h = absurd (omega arith)
-
-bit-one : (t : List ℕ) (b : ℕ) → length t ≡ 512 → b < 4096 → getD t (b / 8) 0 ≡ 255 → bit t b ≡ 1
+bit-past : (t : List ℕ) (x : ℕ) → length t ≡ 512 → 4096 ≤ x → bit t x ≡ 0
 unfolding bit
-bit-one t b l h e = bit-at t b 0 (omega arith) ∙ ap (λ (x : ℕ). x / 2 ^ (b % 8) % 2) e ∙ ones (b % 8) (omega arith)
+bit-past t x l h = List·getD-eq-default (bitsOf t) 0 (omega (arith, length-bits t))
 
--- bit b set
-module _ (t u : List ℕ) (b : ℕ) (full : length t ≡ 512) (inside : b < 4096) (e : bitsOf u ≡ set (bitsOf t) b 1) where
-  bit-set : bit u b ≡ 1
-  unfolding bit
-  bit-set = ap (λ (l : List ℕ). getD l b 0) e ∙ getD-set-same (bitsOf t) b 1 0 (omega (arith, length-bits t))
+-- bits of the or and the and of two numbers
+odd : (z d : ℕ) → d < 2 → (z * 2 + d) % 2 ≡ d
+odd z d h = omega arith
 
-  bit-other : (x : ℕ) → (x ≡ b → ⊥) → bit u x ≡ bit t x
-  unfolding bit
-  bit-other x ne = ap (λ (l : List ℕ). getD l x 0) e ∙ getD-set-other (bitsOf t) b x 1 0 ne
+or-bit : (x y k : ℕ) → bitOr x y / 2 ^ k % 2 ≡ max (x / 2 ^ k % 2) (y / 2 ^ k % 2)
+or-bit x y k = ap (λ (n : ℕ). n % 2) (or-shr x y k ∙ or-step (x / 2 ^ k) (y / 2 ^ k)) ∙ odd _ (max (x / 2 ^ k % 2) (y / 2 ^ k % 2)) (omega arith)
+
+and-bit : (x y k : ℕ) → bitAnd x y / 2 ^ k % 2 ≡ min (x / 2 ^ k % 2) (y / 2 ^ k % 2)
+and-bit x y k = ap (λ (n : ℕ). n % 2) (and-shr x y k ∙ and-step (x / 2 ^ k) (y / 2 ^ k)) ∙ odd _ (min (x / 2 ^ k % 2) (y / 2 ^ k % 2)) (omega arith)
+
+-- a byte with n ones from bit s on, as the code shifts it
+unfoldable pub mask : ℕ → ℕ → ℕ
+mask n s = 255 / 2 ^ (8 - n) * 2 ^ s % 256
+
+mask-right : ℕ → ℕ → ℕ → Bool
+mask-right n s k = eqb (mask n s / 2 ^ k % 2) (cond (leb s k && ltb k (s + n)) 1 0)
+
+masks-right : all (λ n. all (λ s. all (mask-right n s) (upFrom 0 8)) (upFrom 0 8)) (upFrom 0 9) ≡ true
+unfolding mask-right mask
+masks-right = refl
+
+mask-bit : (n s k : ℕ) → n ≤ 8 → s < 8 → k < 8 → mask n s / 2 ^ k % 2 ≡ cond (leb s k && ltb k (s + n)) 1 0
+unfolding mask-right
+mask-bit n s k hn hs hk =
+    let p = all-at (λ m. all (λ r. all (mask-right m r) (upFrom 0 8)) (upFrom 0 8)) (upFrom 0 9) n masks-right (upFrom-occurs n 0 9 (omega arith) (omega arith)) in
+    let q = all-at (λ r. all (mask-right n r) (upFrom 0 8)) (upFrom 0 8) s p (upFrom-occurs s 0 8 (omega arith) (omega arith)) in
+    let r = all-at (mask-right n s) (upFrom 0 8) k q (upFrom-occurs k 0 8 (omega arith) (omega arith)) in
+    eqb-true (mask n s / 2 ^ k % 2) (cond (leb s k && ltb k (s + n)) 1 0) r
+
+mask-low : (n s k : ℕ) → n ≤ 8 → s < 8 → k < s → mask n s / 2 ^ k % 2 ≡ 0
+mask-low n s k hn hs h = mask-bit n s k hn hs (omega arith) ∙ rw (lt-leb s k h)
+
+mask-in : (n s k : ℕ) → n ≤ 8 → s < 8 → s ≤ k → k < s + n → k < 8 → mask n s / 2 ^ k % 2 ≡ 1
+mask-in n s k hn hs h m l = mask-bit n s k hn hs l ∙ rw (le-leb s k h, lt-ltb k (s + n) m)
+
+mask-high : (n s k : ℕ) → n ≤ 8 → s < 8 → s + n ≤ k → k < 8 → mask n s / 2 ^ k % 2 ≡ 0
+mask-high n s k hn hs h l = mask-bit n s k hn hs l ∙ rw (le-leb s k (omega arith), le-ltb k (s + n) h)
+
+-- ---- a run of blocks, counted
+
+run-below : (x a m : ℕ) → x < a → occurs x (upFrom a m) ≡ 0
+run-below x a zero h = refl
+run-below x a (suc m) h = rw (ne-eqb a x (λ z. omega arith)) (ap (λ (k : ℕ). 0 + k) (run-below x (suc a) m (omega arith)))
+
+run-within : (x a m : ℕ) → a ≤ x → x < a + m → occurs x (upFrom a m) ≡ 1
+run-within x a zero l h = absurd (omega arith)
+run-within x a (suc m) l h = ⊎-elim
+    (λ e. rw (eq-eqb a x e) (ap (λ (k : ℕ). 1 + k) (run-below x (suc a) m (omega arith))))
+    (λ e. rw (ne-eqb a x (λ z. omega arith)) (ap (λ (k : ℕ). 0 + k) (run-within x (suc a) m e (omega arith))))
+    (eq-or-lt-of-le l)
+
+run-above : (x a m : ℕ) → a + m ≤ x → occurs x (upFrom a m) ≡ 0
+run-above x a zero h = refl
+run-above x a (suc m) h = rw (ne-eqb a x (λ z. omega arith)) (ap (λ (k : ℕ). 0 + k) (run-above x (suc a) m (omega arith)))
 
 -- ---- one block marked
-
-counted-same : (N b : ℕ) → inData N b ≡ true → counted N b (b ∷ []) ≡ 1
-unfolding counted
-counted-same N b h = rw (h, eq-eqb b b refl)
 
 no-count : (t : Bool) → _≡_ {A = ℕ} (cond t 0 0) 0
 no-count true = refl
 no-count false = refl
-
-counted-other : (N x b : ℕ) → (b ≡ x → ⊥) → counted N x (b ∷ []) ≡ 0
-unfolding counted
-counted-other N x b h = rw (ne-eqb b x h) (no-count (inData N x))
 
 counted-nil : (N x : ℕ) → counted N x [] ≡ 0
 unfolding counted
@@ -116,53 +145,102 @@ counted-out : (N x : ℕ) (bs : List ℕ) → inData N x ≡ false → counted N
 unfolding counted
 counted-out N x bs h = rw h
 
-module _ (N b : ℕ) (o t : List ℕ) where
-  -- a block that does not count
-  pub mark-out : (r : Bool) → r ≡ inData N b → not r ≡ true → Kept N o t [] o t (b ∷ [])
-  mark-out r e h = record { once = λ x. omega (arith, counted-nil N x, none-of x); twice = λ x. omega (arith, counted-nil N x, none-of x) }
-    where
-      none-of : (x : ℕ) → counted N x (b ∷ []) ≡ 0
-      none-of x = go (eqb b x) refl
-        where
-          go : (p : Bool) → eqb b x ≡ p → counted N x (b ∷ []) ≡ 0
-          go true q = counted-out N x (b ∷ []) (sym (ap (inData N) (eqb-true b x q)) ∙ sym e ∙ not-true r h)
-          go false q = counted-other N x b (eqb-false b x q)
+counted-none : (N x : ℕ) (bs : List ℕ) → occurs x bs ≡ 0 → counted N x bs ≡ 0
+unfolding counted
+counted-none N x bs h = rw h (no-count (inData N x))
 
-  module _ (inside : inData N b ≡ true) (most : N ≤ 4096) where
-    below : b < 4096
-    below = omega (arith, data-low N b inside .1)
+counted-in : (N x : ℕ) (bs : List ℕ) → inData N x ≡ true → counted N x bs ≡ occurs x bs
+unfolding counted
+counted-in N x bs h = rw h
 
-    -- one that is marked already
-    pub mark-again : (u : List ℕ) → length t ≡ 512 → eqb (bit o b) 1 ≡ true → bitsOf u ≡ set (bitsOf t) b 1 → Kept N o u [] o t (b ∷ [])
-    mark-again u l m e = record { once = λ x. go x (eqb b x) refl .0; twice = λ x. go x (eqb b x) refl .1 }
+-- a block that does not count
+pub mark-out : (N b : ℕ) (o t : List ℕ) (r : Bool) → r ≡ inData N b → not r ≡ true → Kept N o t [] o t (b ∷ [])
+mark-out N b o t r e h = record { once = λ x. omega (arith, counted-nil N x, none-of x); twice = λ x. omega (arith, counted-nil N x, none-of x) }
+  where
+    none-of : (x : ℕ) → counted N x (b ∷ []) ≡ 0
+    none-of x = go (eqb b x) refl
       where
-        go : (x : ℕ) (p : Bool) → eqb b x ≡ p
-            → (min 1 (bit o x + counted N x []) ≡ min 1 (bit o x + counted N x (b ∷ [])))
-            × (min 2 (bit o x + bit u x + counted N x []) ≡ min 2 (bit o x + bit t x + counted N x (b ∷ [])))
-        go x true q =
-            rw (← eqb-true b x q)
-            (let n = counted-nil N b in let k = counted-same N b inside in let w = eqb-true (bit o b) 1 m in let s = bit-set t u b l below e in
-            (omega arith, omega arith))
-        go x false q =
-            let n = counted-nil N x in let k = counted-other N x b (eqb-false b x q) in
-            let s = bit-other t u b l below e x (λ z. eqb-false b x q (sym z)) in
-            (omega arith, omega arith)
+        go : (p : Bool) → eqb b x ≡ p → counted N x (b ∷ []) ≡ 0
+        go true q = counted-out N x (b ∷ []) (sym (ap (inData N) (eqb-true b x q)) ∙ sym e ∙ not-true r h)
+        go false q = counted-none N x (b ∷ []) (rw q)
 
-    -- one that is not
-    pub mark-new : (u : List ℕ) → length o ≡ 512 → eqb (bit o b) 1 ≡ false → bitsOf u ≡ set (bitsOf o) b 1 → Kept N u t [] o t (b ∷ [])
-    mark-new u l m e = record { once = λ x. go x (eqb b x) refl .0; twice = λ x. go x (eqb b x) refl .1 }
-      where
-        go : (x : ℕ) (p : Bool) → eqb b x ≡ p
-            → (min 1 (bit u x + counted N x []) ≡ min 1 (bit o x + counted N x (b ∷ [])))
-            × (min 2 (bit u x + bit t x + counted N x []) ≡ min 2 (bit o x + bit t x + counted N x (b ∷ [])))
-        go x true q =
-            rw (← eqb-true b x q)
-            (let n = counted-nil N b in let k = counted-same N b inside in let w = eqb-false (bit o b) 1 m in let v = bit-lt o b in let s = bit-set o u b l below e in
-            (omega arith, omega arith))
-        go x false q =
-            let n = counted-nil N x in let k = counted-other N x b (eqb-false b x q) in
-            let s = bit-other o u b l below e x (λ z. eqb-false b x q (sym z)) in
-            (omega arith, omega arith)
+-- blocks marked whose bits lie in one byte
+module _ (o t : List ℕ) (b n : ℕ) (lo : length o ≡ 512) (lt : length t ≡ 512) (low : 42 ≤ b) (some : 0 < n) (few : b % 8 + n ≤ 8) (less : b < 4096) where
+  abbrev m : ℕ
+  m = mask n (b % 8)
+
+  -- the tables with byte b / 8 changed
+  abbrev o′ : List ℕ
+  o′ = set o (b / 8) (bitOr (getD o (b / 8) 0) m)
+
+  abbrev t′ : List ℕ
+  t′ = set t (b / 8) (bitOr (getD t (b / 8) 0) (bitAnd (getD o (b / 8) 0) m))
+
+  changed : (u : List ℕ) (y x : ℕ) → length u ≡ 512 → x / 8 ≡ b / 8 → bit (set u (b / 8) y) x ≡ y / 2 ^ (x % 8) % 2
+  unfolding bit
+  changed u y x l e =
+      bit-at (set u (b / 8) y) x 0 (simp length-set (omega arith)) ∙ ap (λ (j : ℕ). getD (set u (b / 8) y) j 0 / 2 ^ (x % 8) % 2) e
+      ∙ ap (λ (k : ℕ). k / 2 ^ (x % 8) % 2) (getD-set-same u (b / 8) y 0 (omega arith))
+
+  unchanged : (u : List ℕ) (y x : ℕ) → length u ≡ 512 → x < 4096 → (x / 8 ≡ b / 8 → ⊥) → bit (set u (b / 8) y) x ≡ bit u x
+  unfolding bit
+  unchanged u y x l h ne =
+      bit-at (set u (b / 8) y) x 0 (simp length-set (omega arith)) ∙ ap (λ (k : ℕ). k / 2 ^ (x % 8) % 2) (getD-set-other u (b / 8) (x / 8) y 0 ne)
+      ∙ sym (bit-at u x 0 (omega arith))
+
+  same-bit : (u : List ℕ) (y x : ℕ) → length u ≡ 512 → (x / 8 ≡ b / 8 → ⊥) → bit (set u (b / 8) y) x ≡ bit u x
+  same-bit u y x l ne = ⊎-elim (λ h. unchanged u y x l h ne) (λ h. bit-past (set u (b / 8) y) x (simp length-set l) h ∙ sym (bit-past u x l h)) (lt-or-le x 4096)
+
+  old-bit : (u : List ℕ) (x : ℕ) → length u ≡ 512 → x / 8 ≡ b / 8 → getD u (b / 8) 0 / 2 ^ (x % 8) % 2 ≡ bit u x
+  unfolding bit
+  old-bit u x l e = sym (bit-at u x 0 (omega arith) ∙ ap (λ (j : ℕ). getD u j 0 / 2 ^ (x % 8) % 2) e)
+
+  once-bit : (x : ℕ) → x / 8 ≡ b / 8 → bit o′ x ≡ max (bit o x) (m / 2 ^ (x % 8) % 2)
+  once-bit x e = changed o (bitOr (getD o (b / 8) 0) m) x lo e ∙ or-bit (getD o (b / 8) 0) m (x % 8) ∙ ap (λ (k : ℕ). max k (m / 2 ^ (x % 8) % 2)) (old-bit o x lo e)
+
+  twice-bit : (x : ℕ) → x / 8 ≡ b / 8 → bit t′ x ≡ max (bit t x) (min (bit o x) (m / 2 ^ (x % 8) % 2))
+  twice-bit x e =
+      changed t (bitOr (getD t (b / 8) 0) (bitAnd (getD o (b / 8) 0) m)) x lt e
+      ∙ or-bit (getD t (b / 8) 0) (bitAnd (getD o (b / 8) 0) m) (x % 8)
+      ∙ ap₂ max (old-bit t x lt e) (and-bit (getD o (b / 8) 0) m (x % 8) ∙ ap (λ (k : ℕ). min k (m / 2 ^ (x % 8) % 2)) (old-bit o x lo e))
+
+  -- what the marks of a block come to
+  abbrev Comes : ℕ → ℕ → Type 0
+  Comes N x = (min 1 (bit o′ x + counted N x []) ≡ min 1 (bit o x + counted N x (upFrom b n)))
+      × (min 2 (bit o′ x + bit t′ x + counted N x []) ≡ min 2 (bit o x + bit t x + counted N x (upFrom b n)))
+
+  comes : (N x k : ℕ) → x / 8 ≡ b / 8 → m / 2 ^ (x % 8) % 2 ≡ k → counted N x (upFrom b n) ≡ k → Comes N x
+  comes N x k e em ec =
+      let p = once-bit x e in let q = twice-bit x e in let z = counted-nil N x in let u = bit-lt o x in let v = bit-lt t x in
+      (omega arith, omega arith)
+
+  stays : (N x : ℕ) → (x / 8 ≡ b / 8 → ⊥) → counted N x (upFrom b n) ≡ 0 → Comes N x
+  stays N x ne ec =
+      let p = same-bit o (bitOr (getD o (b / 8) 0) m) x lo ne in let q = same-bit t (bitOr (getD t (b / 8) 0) (bitAnd (getD o (b / 8) 0) m)) x lt ne in let z = counted-nil N x in
+      (omega arith, omega arith)
+
+  module _ (N : ℕ) (inside : b + n ≤ N) where
+    below-run : (x : ℕ) → x < b → Comes N x
+    below-run x h =
+        let z = counted-none N x (upFrom b n) (run-below x b n h) in
+        ⊎-elim (λ e. stays N x (λ q. omega arith) z) (λ e. comes N x 0 (omega arith) (mask-low n (b % 8) (x % 8) (omega arith) (omega arith) (omega arith)) z) (lt-or-le (x / 8) (b / 8))
+
+    above-run : (x : ℕ) → b + n ≤ x → Comes N x
+    above-run x h =
+        let z = counted-none N x (upFrom b n) (run-above x b n h) in
+        ⊎-elim (λ e. stays N x (λ q. omega arith) z) (λ e. comes N x 0 (omega arith) (mask-high n (b % 8) (x % 8) (omega arith) (omega arith) (omega arith) (omega arith)) z) (lt-or-le (b / 8) (x / 8))
+
+    in-run : (x : ℕ) → b ≤ x → x < b + n → Comes N x
+    in-run x h k =
+        let z = counted-in N x (upFrom b n) (data-in N x (omega arith) (omega arith)) ∙ run-within x b n h k in
+        comes N x 1 (omega arith) (mask-in n (b % 8) (x % 8) (omega arith) (omega arith) (omega arith) (omega arith) (omega arith)) z
+
+    each : (x : ℕ) → Comes N x
+    each x = ⊎-elim (below-run x) (λ h. ⊎-elim (in-run x h) (above-run x) (lt-or-le x (b + n))) (lt-or-le x b)
+
+    pub byte-marked : (y z : ℕ) → y ≡ bitOr (getD o (b / 8) 0) m → z ≡ bitOr (getD t (b / 8) 0) (bitAnd (getD o (b / 8) 0) m)
+        → Kept N (set o (b / 8) y) (set t (b / 8) z) [] o t (upFrom b n)
+    byte-marked y z ey ez = rw (ey, ez) (record { once = λ x. each x .0; twice = λ x. each x .1 })
 
 -- ---- some of the blocks that are left marked
 
@@ -194,53 +272,86 @@ module _ (N : ℕ) (o t L o₀ t₀ L₀ : List ℕ) (k : Kept N o t L o₀ t₀
 
 -- ---- a run of blocks
 
-pub run-start : (a m : ℕ) → runLeft a 0 m ≡ upFrom a m
-unfolding runLeft
-run-start a m = let z : m - 0 ≡ m = omega arith in let y : a + 0 ≡ a = omega arith in rw (z, y)
+-- those within 42 to N-1 alone count
+pub run-start : (N a m b e : ℕ) (o t : List ℕ) → b ≡ max a 42 → e ≡ min (a + m) N → Kept N o t (upFrom b (e - b)) o t (upFrom a m)
+run-start N a m b e o t eb ee = record { once = λ x. rw (same x); twice = λ x. rw (same x) }
+  where
+    inner : (x : ℕ) → inData N x ≡ true → occurs x (upFrom b (e - b)) ≡ occurs x (upFrom a m)
+    inner x d =
+        let l = data-low N x d in
+        ⊎-elim (λ h. run-below x b (e - b) (omega arith) ∙ sym (run-below x a m h))
+        (λ h. ⊎-elim (λ k. run-within x b (e - b) (omega arith) (omega arith) ∙ sym (run-within x a m h k)) (λ k. run-above x b (e - b) (omega arith) ∙ sym (run-above x a m k)) (lt-or-le x (a + m)))
+        (lt-or-le x a)
 
-pub run-more : (a k m : ℕ) → k < m → Split (runLeft a k m) ((a + k) ∷ []) (runLeft a (k + 1) m)
-unfolding runLeft
-run-more a k m h x =
-    let z : m - k ≡ suc (m - (k + 1)) = omega arith in
-    let y : suc (a + k) ≡ a + (k + 1) = omega arith in
-    rw (z, y) (omega arith)
+    same : (x : ℕ) → counted N x (upFrom b (e - b)) ≡ counted N x (upFrom a m)
+    same x = go (inData N x) refl
+      where
+        go : (p : Bool) → inData N x ≡ p → counted N x (upFrom b (e - b)) ≡ counted N x (upFrom a m)
+        go true q = counted-in N x _ q ∙ inner x q ∙ sym (counted-in N x _ q)
+        go false q = counted-out N x _ q ∙ sym (counted-out N x _ q)
 
-pub run-end : (a k m : ℕ) → m ≤ k → runLeft a k m ≡ []
-unfolding runLeft
-run-end a k m h = let z : m - k ≡ 0 = omega arith in rw z
+run-append : (a n k : ℕ) → upFrom a (n + k) ≡ upFrom a n ++ upFrom (a + n) k
+run-append a zero k = let y : 0 + k ≡ k = omega arith in let z : a + 0 ≡ a = omega arith in rw (y, z)
+run-append a (suc n) k =
+    let y : suc n + k ≡ suc (n + k) = omega arith in let z : a + suc n ≡ suc a + n = omega arith in
+    rw (y, z) (ap (λ (l : List ℕ). a ∷ l) (run-append (suc a) n k))
+
+pub run-more : (b e n : ℕ) → b + n ≤ e → Split (upFrom b (e - b)) (upFrom b n) (upFrom (b + n) (e - (b + n)))
+run-more b e n h x =
+    let z : e - b ≡ n + (e - (b + n)) = omega arith in
+    ap (λ (k : ℕ). occurs x (upFrom b k)) z ∙ ap (occurs x) (run-append b n (e - (b + n))) ∙ occurs-append x (upFrom b n) (upFrom (b + n) (e - (b + n)))
+
+pub run-end : (b e : ℕ) → e ≤ b → upFrom b (e - b) ≡ []
+run-end b e h = let z : e - b ≡ 0 = omega arith in rw z
 
 -- ---- the records
 
--- the records from i on
-pub reach-start : (v : Disk) → reachLeft v 0 ≡ reached v
-unfolding reachLeft reached
+pub reach-start : (v : Disk) → reachTo v 128 0 ≡ reached v
+unfolding reachTo reached
 reach-start v = let z : 128 - 0 ≡ 128 = omega arith in ap (λ (k : ℕ). concat (map (reachedFrom v) (upFrom 0 k))) z
 
-pub reach-more : (v : Disk) (i : ℕ) → i < 128 → Split (reachLeft v i) (reachedFrom v i) (reachLeft v (i + 1))
-unfolding reachLeft
-reach-more v i h x =
-    let z : 128 - i ≡ suc (128 - (i + 1)) = omega arith in
-    rw (z, add-one i) (occurs-append x (reachedFrom v i) (concat (map (reachedFrom v) (upFrom (suc i) (128 - suc i)))))
+pub reach-more : (v : Disk) (e i : ℕ) → i < e → Split (reachTo v e i) (reachedFrom v i) (reachTo v e (i + 1))
+unfolding reachTo
+reach-more v e i h x =
+    let z : e - i ≡ suc (e - (i + 1)) = omega arith in
+    rw (z, add-one i) (occurs-append x (reachedFrom v i) (concat (map (reachedFrom v) (upFrom (suc i) (e - suc i)))))
 
-pub reach-end : (v : Disk) (i : ℕ) → 128 ≤ i → reachLeft v i ≡ []
-unfolding reachLeft
-reach-end v i h = let z : 128 - i ≡ 0 = omega arith in rw z
+concat-map : (f : ℕ → List ℕ) (xs ys : List ℕ) → concat (map f (xs ++ ys)) ≡ concat (map f xs) ++ concat (map f ys)
+concat-map f [] ys = refl
+concat-map f (x ∷ xs) ys = ap (λ (l : List ℕ). f x ++ l) (concat-map f xs ys) ∙ sym (append-assoc (f x) (concat (map f xs)) (concat (map f ys)))
+
+pub reach-on : (v : Disk) (e m i : ℕ) → i ≤ m → m ≤ e → Split (reachTo v e i) (reachTo v m i) (reachTo v e m)
+unfolding reachTo
+reach-on v e m i h k x =
+    let z : e - i ≡ (m - i) + (e - m) = omega arith in
+    let y : i + (m - i) ≡ m = omega arith in
+    ap (λ (n : ℕ). occurs x (concat (map (reachedFrom v) (upFrom i n)))) z
+    ∙ ap (λ (l : List ℕ). occurs x (concat (map (reachedFrom v) l))) (run-append i (m - i) (e - m) ∙ ap (λ (n : ℕ). upFrom i (m - i) ++ upFrom n (e - m)) y)
+    ∙ ap (occurs x) (concat-map (reachedFrom v) (upFrom i (m - i)) (upFrom m (e - m)))
+    ∙ occurs-append x (concat (map (reachedFrom v) (upFrom i (m - i)))) (concat (map (reachedFrom v) (upFrom m (e - m))))
+
+pub reach-end : (v : Disk) (e i : ℕ) → e ≤ i → reachTo v e i ≡ []
+unfolding reachTo
+reach-end v e i h = let z : e - i ≡ 0 = omega arith in rw z
+
+-- records that reach no block
+pub reach-none : (v : Disk) (e i : ℕ) → ((j : ℕ) → i ≤ j → j < e → reachedFrom v j ≡ []) → reachTo v e i ≡ []
+unfolding reachTo
+reach-none v e i h = go (e - i) i (λ j a b. h j a (omega arith))
+  where
+    go : (n i : ℕ) → ((j : ℕ) → i ≤ j → j < i + n → reachedFrom v j ≡ []) → concat (map (reachedFrom v) (upFrom i n)) ≡ []
+    go zero i h = refl
+    go (suc n) i h = rw (h i (omega arith) (omega arith)) (go n (suc i) (λ j a b. h j (omega arith) (omega arith)))
 
 -- ---- the bits compared
-
--- the test of one bit as the code makes it
-module _ (N : ℕ) (o t bits : List ℕ) (b : ℕ) (r x : Bool) (e : r ≡ inData N b) (ex : x ≡ eqb (bit bits b) 1) where
-  pub wrong-in : (y z : Bool) → r ≡ true → y ≡ eqb (bit t b) 1 → z ≡ eqb (bit o b) 1 → (y || not (Bool·beq z x)) ≡ wrong N o t bits b
-  unfolding wrong
-  wrong-in y z h ey ez = let q : inData N b ≡ true = sym e ∙ h in rw (q, ex, ey, ez)
-
-  pub wrong-out : r ≡ false → not x ≡ wrong N o t bits b
-  unfolding wrong
-  wrong-out h = let q : inData N b ≡ false = sym e ∙ h in rw (q, ex)
 
 beq-same : (a : Bool) → Bool·beq a a ≡ true
 beq-same true = refl
 beq-same false = refl
+
+beq-true : (a : Bool) → not (Bool·beq true a) ≡ not a
+beq-true true = refl
+beq-true false = refl
 
 -- no number passes
 lowest-off : (a n : ℕ) → lowest a n (λ k. false) ≡ none
@@ -251,74 +362,42 @@ found-off : (m i : ℕ) → lowestTo m (λ k. false) i ≡ Nothing
 unfolding lowestTo
 found-off m i = ap foundOf (lowest-off i (m - i))
 
--- what whole bytes say
-record Plain (N : ℕ) (o t bits : List ℕ) (b : ℕ) : Type 0 where
-  low : 42 ≤ b
-  high : b + 7 < N
-  whole : b % 8 ≡ 0
-  same : getD o (b / 8) 0 ≡ getD bits (b / 8) 0
-  single : getD t (b / 8) 0 ≡ 0
+-- whole bytes compared
+module _ (o t bits : List ℕ) where
+  pub right-none : (r : Bool) → r ≡ true → r ≡ rightTo 0 o t bits
+  unfolding rightTo
+  right-none r e = e
 
-plain-says : (N : ℕ) (o t bits : List ℕ) (b : ℕ) → b < N → plain N o t bits b ≡ true → Plain N o t bits b
-unfolding plain
-plain-says N o t bits b l h =
-    let g : inData N b && inData N (b + 7) && eqb (b % 8) 0 && eqb (getD o (b / 8) 0) (getD bits (b / 8) 0) && eqb (getD t (b / 8) 0) 0 ≡ true = rw (lt-leb N b l) at h in
-    let p = and-true (inData N b && inData N (b + 7) && eqb (b % 8) 0 && eqb (getD o (b / 8) 0) (getD bits (b / 8) 0)) (eqb (getD t (b / 8) 0) 0) g in
-    let q = and-true (inData N b && inData N (b + 7) && eqb (b % 8) 0) (eqb (getD o (b / 8) 0) (getD bits (b / 8) 0)) (p .0) in
-    let r = and-true (inData N b && inData N (b + 7)) (eqb (b % 8) 0) (q .0) in
-    let s = and-true (inData N b) (inData N (b + 7)) (r .0) in
-    record {
-      low = data-low N b (s .0) .0;
-      high = data-low N (b + 7) (s .1) .1;
-      whole = eqb-true (b % 8) 0 (r .1);
-      same = eqb-true (getD o (b / 8) 0) (getD bits (b / 8) 0) (q .1);
-      single = eqb-true (getD t (b / 8) 0) 0 (p .1);
-    }
+  pub right-more : (k : ℕ) (r : Bool) → r ≡ rightTo k o t bits → r && (eqb (getD o k 0) (getD bits k 0) && eqb (getD t k 0) 0) ≡ rightTo (k + 1) o t bits
+  unfolding rightTo
+  right-more k r e = rw (add-one k, e)
 
-above-says : (N : ℕ) (o t bits : List ℕ) (b : ℕ) → N ≤ b → plain N o t bits b ≡ true → (b % 8 ≡ 0) × (getD bits (b / 8) 0 ≡ 255)
-unfolding plain
-above-says N o t bits b l h =
-    let g : eqb (b % 8) 0 && eqb (getD bits (b / 8) 0) 255 ≡ true = rw (le-leb N b l) at h in
-    let p = and-true (eqb (b % 8) 0) (eqb (getD bits (b / 8) 0) 255) g in
-    (eqb-true (b % 8) 0 (p .0), eqb-true (getD bits (b / 8) 0) 255 (p .1))
+  pub right-end : (k : ℕ) (r : Bool) → r ≡ rightTo k o t bits → k ≡ 512 → r ≡ rightTo 512 o t bits
+  right-end k r e h = rw (← h) e
 
--- a block behind the device holds no data
-data-out : (N x : ℕ) → N ≤ x → inData N x ≡ false
-unfolding inData
-data-out N x h = rw (le-ltb x N h) (and-false (isDataArea (areaOf x)))
+  right-says : (n k : ℕ) → k < n → rightTo n o t bits ≡ true → (getD o k 0 ≡ getD bits k 0) × (getD t k 0 ≡ 0)
+  unfolding rightTo
+  right-says zero k h e = absurd (omega arith)
+  right-says (suc n) k h e = go (eqb k n) refl (right-says n k)
+    where
+      p : (rightTo n o t bits ≡ true) × (eqb (getD o n 0) (getD bits n 0) && eqb (getD t n 0) 0 ≡ true)
+      p = and-true (rightTo n o t bits) (eqb (getD o n 0) (getD bits n 0) && eqb (getD t n 0) 0) e
 
--- eight bits at once
-module _ (N : ℕ) (o t bits : List ℕ) (b : ℕ) (most : N ≤ 4096) (less : b < 4096) (lo : length o ≡ 512) (lt : length t ≡ 512) (lb : length bits ≡ 512)
-    (h : plain N o t bits b ≡ true) where
-  right-in : b < N → (k : ℕ) → b ≤ k → k < b + 8 → wrong N o t bits k ≡ false
-  unfolding wrong
-  right-in a k l m =
-      let p = plain-says N o t bits b a h in
-      let z : b / 8 ≡ k / 8 = omega arith in
-      let c : k < 4096 = omega arith in
-      let e : getD o (k / 8) 0 ≡ getD bits (k / 8) 0 = rw (← z) (p .same) in
-      let f : getD t (k / 8) 0 ≡ 0 = rw (← z) (p .single) in
-      rw (data-in N k (omega arith) (omega arith), bit-same o bits k lo lb c e, bit-zero t k lt c f, beq-same (eqb (bit bits k) 1))
+      go : (d : Bool) → eqb k n ≡ d → (k < n → rightTo n o t bits ≡ true → (getD o k 0 ≡ getD bits k 0) × (getD t k 0 ≡ 0)) → (getD o k 0 ≡ getD bits k 0) × (getD t k 0 ≡ 0)
+      go true q ih =
+          let r = and-true (eqb (getD o n 0) (getD bits n 0)) (eqb (getD t n 0) 0) (p .1) in
+          rw (eqb-true k n q) (eqb-true (getD o n 0) (getD bits n 0) (r .0), eqb-true (getD t n 0) 0 (r .1))
+      go false q ih = let ne = eqb-false k n q in ih (omega arith) (p .0)
 
-  right-above : N ≤ b → (k : ℕ) → b ≤ k → k < b + 8 → wrong N o t bits k ≡ false
-  unfolding wrong
-  right-above a k l m =
-      let p = above-says N o t bits b a h in
-      let w = p .0 in
-      let z : b / 8 ≡ k / 8 = omega arith in
-      let f : getD bits (k / 8) 0 ≡ 255 = rw (← z) (p .1) in
-      rw (data-out N k (omega arith), bit-one bits k lb (omega arith) f)
+  module _ (lo : length o ≡ 512) (lt : length t ≡ 512) (lb : length bits ≡ 512) where
+    right-bit : rightTo 512 o t bits ≡ true → (b : ℕ) → b < 4096 → wrong o t bits b ≡ false
+    unfolding wrong
+    right-bit h b l =
+        let p = right-says 512 (b / 8) (omega arith) h in
+        rw (bit-same o bits b lo lb l (p .0), bit-zero t b lt l (p .1), beq-same (eqb (bit bits b) 1))
 
-  pub plain-within : b + 8 ≤ 4096
-  plain-within = ⊎-elim (λ a. let p = plain-says N o t bits b a h in omega arith) (λ a. let p = above-says N o t bits b a h in let w = p .0 in omega arith) (lt-or-le b N)
-
-  right : (k : ℕ) → b ≤ k → k < b + 8 → wrong N o t bits k ≡ false
-  right = ⊎-elim right-in right-above (lt-or-le b N)
-
-  pub plain-skip : lowestTo 4096 (wrong N o t bits) b ≡ lowestTo 4096 (wrong N o t bits) (b + 8)
-  plain-skip =
-      lowest-past (b + 8) 4096 (wrong N o t bits) b (omega arith) plain-within
-      (lowest-agree (b + 8) (wrong N o t bits) (λ k. false) b right ∙ found-off (b + 8) b)
+    pub all-right : rightTo 512 o t bits ≡ true → lowestTo 4096 (wrong o t bits) 0 ≡ Nothing
+    all-right h = lowest-agree 4096 (wrong o t bits) (λ k. false) 0 (λ k a l. right-bit h k l) ∙ found-off 4096 0
 
 -- ---- the marks of all records and the bitmap
 
@@ -359,33 +438,48 @@ zero-byte zero i = refl
 zero-byte (suc n) zero = refl
 zero-byte (suc n) (suc i) = zero-byte n i
 
-module _ (N : ℕ) (z o t reach bm : List ℕ) (blank : z ≡ replicate 512 0) (full : length bm ≡ 512) (k : Kept N o t [] z z reach) where
+-- `once` begins with zeros from 42 to N-1 and ones elsewhere, `twice` with zeros
+module _ (N n : ℕ) (y z o t reach bm : List ℕ) (most : n ≡ max 42 N) (start : Cleared y n) (blank : z ≡ replicate 512 0) (full : length bm ≡ 512) (k : Kept N o t [] y z reach) where
   blank-bit : (b : ℕ) → b < 4096 → bit z b ≡ 0
   blank-bit b h = bit-zero z b (ap length blank ∙ length-replicate {A = ℕ} 512 0) h (ap (λ (l : List ℕ). getD l (b / 8) 0) blank ∙ zero-byte 512 (b / 8))
 
-  wrong-is : (b : ℕ) → b < 4096 → wrong N o t bm b ≡ not (blockSound N reach b (bit bm b))
+  start-in : (b : ℕ) → inData N b ≡ true → bit y b ≡ 0
+  unfolding bit
+  start-in b q = let l = data-low N b q in start .zero-bit b (l .0) (omega arith)
+
+  start-out : (b : ℕ) → b < 4096 → inData N b ≡ false → bit y b ≡ 1
+  unfolding bit
+  start-out b h q =
+      ⊎-elim (start .low b) (λ l. start .high b l (⊎-elim (λ m. absurd (true≢false (sym (data-in N b l m) ∙ q))) (λ m. omega arith) (lt-or-le b N)) h) (lt-or-le b 42)
+
+  wrong-is : (b : ℕ) → b < 4096 → wrong o t bm b ≡ not (blockSound N reach b (bit bm b))
   unfolding wrong counted
   wrong-is b h = go (inData N b) refl
     where
-      go : (p : Bool) → inData N b ≡ p → wrong N o t bm b ≡ not (blockSound N reach b (bit bm b))
+      go : (p : Bool) → inData N b ≡ p → wrong o t bm b ≡ not (blockSound N reach b (bit bm b))
       go true q =
-          let e = rw (q, blank-bit b h) at (k .once b) in
-          let f = rw (q, blank-bit b h) at (k .twice b) in
+          let e = rw (q, start-in b q) at (k .once b) in
+          let f = rw (q, start-in b q, blank-bit b h) at (k .twice b) in
           rw q (marks-say (bit o b) (bit t b) (bit bm b) (occurs b reach) (bit-lt o b) (bit-lt t b) (bit-lt bm b) (omega arith) (omega arith))
-      go false q = rw q
+      go false q =
+          let e = rw (q, start-out b h q) at (k .once b) in
+          let f = rw (q, start-out b h q, blank-bit b h) at (k .twice b) in
+          let a : bit o b ≡ 1 = let l = bit-lt o b in omega arith in
+          let c : bit t b ≡ 0 = omega arith in
+          rw (q, a, c) (beq-true (eqb (bit bm b) 1))
 
-  pub fault-is : (r : Found) → r ≡ lowestTo 4096 (wrong N o t bm) 0 → r ≡ foundOf (bitFault N reach 0 (bitsOf bm))
+  pub fault-is : (r : Found) → r ≡ lowestTo 4096 (wrong o t bm) 0 → r ≡ foundOf (bitFault N reach 0 (bitsOf bm))
   unfolding lowestTo bit
   fault-is r e =
       let l : length (bitsOf bm) ≡ 4096 = omega (arith, length-bits bm) in
-      e ∙ lowest-agree 4096 (wrong N o t bm) (λ b. not (blockSound N reach b (bit bm b))) 0 (λ b p h. wrong-is b h)
-      ∙ ap (λ (n : ℕ). foundOf (lowest 0 n (λ b. not (blockSound N reach b (bit bm b))))) (sym l)
+      e ∙ lowest-agree 4096 (wrong o t bm) (λ b. not (blockSound N reach b (bit bm b))) 0 (λ b p h. wrong-is b h)
+      ∙ ap (λ (i : ℕ). foundOf (lowest 0 i (λ b. not (blockSound N reach b (bit bm b))))) (sym l)
       ∙ sym (ap foundOf (bits-lowest N reach (bit bm) (bitsOf bm) 0 (λ j h. ap (bit bm) (let y : j ≡ 0 + j = omega arith in y))))
 
 -- the whole test of a disk, with its bitmap lent
-pub disk-fault : (N : ℕ) (v : Disk) (z o t bm lent : List ℕ) (r : Found) → z ≡ replicate 512 0 → Kept N o t [] z z (reached v)
-    → exactly 512 lent ≡ v 33 → bm ≡ exactly 512 lent → r ≡ lowestTo 4096 (wrong N o t bm) 0 → r ≡ foundOf (blockFault N v)
+pub disk-fault : (N n : ℕ) (v : Disk) (y z o t bm lent : List ℕ) (r : Found) → n ≡ max 42 N → Cleared y n → z ≡ replicate 512 0 → Kept N o t [] y z (reached v)
+    → exactly 512 lent ≡ v 33 → bm ≡ exactly 512 lent → r ≡ lowestTo 4096 (wrong o t bm) 0 → r ≡ foundOf (blockFault N v)
 unfolding blockFault
-disk-fault N v z o t bm lent r blank k l e h =
-    fault-is N z o t (reached v) bm blank (ap length e ∙ length-exactly 512 lent) k r h
+disk-fault N n v y z o t bm lent r most start blank k l e h =
+    fault-is N n y z o t (reached v) bm most start blank (ap length e ∙ length-exactly 512 lent) k r h
     ∙ ap (λ (x : List ℕ). foundOf (bitFault N (reached v) 0 (bitsOf x))) (e ∙ l)

@@ -1,22 +1,22 @@
 -- Laws of an empty store. Assumes nothing.
-use Prim.Native.Nat.{ℕ, zero, suc, _+_, _*_, _-_, _/_, _%_, _<_, _≤_}
+use Prim.Native.Nat.{ℕ, zero, suc, _+_, _*_, _-_, _/_, _%_, _^_, _<_, _≤_}
 use mathlib.Core.Path.{_≡_, refl, sym, ap, ap₂, _∙_, fun-ext}
-use mathlib.Core.Bool.{Bool, true, false, _&&_}
-use mathlib.Core.List.{List, [], _∷_, _++_, append-assoc}
+use mathlib.Core.List.{List, [], _∷_, _++_}
 use native.Mathlib.Omega.{arith}
-use native.Mathlib.Nat.{sub-zero, zero-sub, suc-sub-suc}
+use mathlib.Core.Logic.{⊎-elim}
+use native.Mathlib.Nat.{sub-zero, zero-sub, suc-sub-suc, zero-div, eq-or-lt-of-le}
 use native.Mathlib.Numerals.{add-one}
-use borrow.Author.Tests.{eqb-true, leb-true}
-use lib.Dec.{eqb, leb}
-use lib.ListN.{length, take, drop, getD, set, replicate, length-append, length-replicate, replicate-append-replicate, length-set}
-use lib.Seq.{set-at, take-suc-set, take-all}
+use lib.ListN.{length, take, drop, getD, set, replicate, length-append, length-replicate, replicate-append-replicate, length-set, getD-replicate, List·getD-append}
+use lib.Seq.{take-suc-set, take-all, ext-getD, getD-set-same, getD-set-other, getD-append-add}
 use Rattle.spec.specs.Bytes.{zeros, exactly}
-use Rattle.spec.specs.Disk.{Disk, blocksOf, isAllowed, sliceOf, withBlock}
+use Rattle.spec.specs.Disk.{Disk, blocksOf, sliceOf, withBlock}
 use Rattle.spec.specs.Bitmap.{bitsOf, bytesOf}
 use Rattle.spec.specs.Calls.{emptyBits, emptyDisk}
 use Rattle.bitmap.specs.Words.{Table}
-use Rattle.bitmap.proofs.Laws.{bytes-bits}
+use Rattle.bitmap.proofs.Laws.{length-bits, bit-at, bytes-bits}
+use Rattle.block.proofs.Laws.{lt-or-le}
 use Rattle.block.specs.Stores.{storedIn}
+use Rattle.mkfs.specs.Table.{Cleared}
 
 -- ---- zeros
 
@@ -58,47 +58,92 @@ ones (suc n) =
     some : ℕ → List ℕ
     some k = replicate k 1
 
--- so many ones, zeros, ones
-unfoldable pub stretch : ℕ → ℕ → ℕ → List ℕ
-stretch a k m = replicate a 1 ++ (replicate k 0 ++ replicate m 1)
+pub cleared-start : Cleared (replicate 512 255) 42
+cleared-start = record { full = length-replicate {A = ℕ} 512 255; low = λ x h. one x (omega arith); zero-bit = λ x h k. absurd (omega arith); high = λ x l h k. one x k }
+  where
+    one : (x : ℕ) → x < 4096 → getD (bitsOf (replicate 512 255)) x 0 ≡ 1
+    one x h = ap (λ (l : List ℕ). getD l x 0) (ones 512) ∙ getD-replicate 4096 x 1 0 h
 
--- the first of the last ones made zero
-stretch-next : (a k m : ℕ) → set (stretch a k (suc m)) (a + k) 0 ≡ stretch a (k + 1) m
-unfolding stretch
-stretch-next a k m =
-    ap (λ (x : List ℕ). set x (a + k) 0) (sym (append-assoc (replicate a 1) (replicate k 0) (1 ∷ replicate m 1)))
-    ∙ set-at (replicate a 1 ++ replicate k 0) 1 (replicate m 1) 0 (a + k) (simp (length-append, length-replicate))
-    ∙ append-assoc (replicate a 1) (replicate k 0) (0 ∷ replicate m 1)
-    ∙ ap (λ (x : List ℕ). replicate a 1 ++ x)
-    (sym (append-assoc (replicate k 0) (0 ∷ []) (replicate m 1)) ∙ ap (λ (x : List ℕ). x ++ replicate m 1) (replicate-append-replicate k 1 0))
+pub cleared-on : (t : List ℕ) (a b : ℕ) → Cleared t a → a ≡ b → Cleared t b
+cleared-on t a b c e = rw (← e) c
 
--- zeros from 42 to b - 1, ones elsewhere
-unfoldable pub upTo : ℕ → List ℕ
-upTo b = stretch 42 (b - 42) (4096 - b)
+-- one more bit
+pub cleared-bit : (t u : List ℕ) (b : ℕ) → Cleared t b → 42 ≤ b → b < 4096 → length u ≡ 512 → bitsOf u ≡ set (bitsOf t) b 0 → Cleared u (b + 1)
+cleared-bit t u b c l h full e = record {
+  full = full;
+  low = λ x k. other x (λ z. omega arith) ∙ c .low x k;
+  zero-bit = λ x k m. ⊎-elim (λ q. rw q here) (λ q. other x (λ z. omega arith) ∙ c .zero-bit x k q) (eq-or-lt-of-le (omega arith));
+  high = λ x k m n. other x (λ z. omega arith) ∙ c .high x k (omega arith) n;
+}
+  where
+    here : getD (bitsOf u) b 0 ≡ 0
+    here = ap (λ (l : List ℕ). getD l b 0) e ∙ getD-set-same (bitsOf t) b 0 0 (omega (arith, length-bits t, c .full))
 
-upTo-is : (b : ℕ) → upTo b ≡ stretch 42 (b - 42) (4096 - b)
-unfolding upTo
-upTo-is b = refl
+    other : (x : ℕ) → (x ≡ b → ⊥) → getD (bitsOf u) x 0 ≡ getD (bitsOf t) x 0
+    other x ne = ap (λ (l : List ℕ). getD l x 0) e ∙ getD-set-other (bitsOf t) b x 0 0 ne
 
-pub upTo-start : bitsOf (replicate 512 255) ≡ upTo 42
-unfolding upTo stretch
-upTo-start = ones 512 ∙ sym (replicate-append-replicate 42 4054 1)
+-- eight more bits
+pub cleared-byte : (t : List ℕ) (i : ℕ) → Cleared t (8 * i) → 6 ≤ i → i < 512 → Cleared (set t i 0) (8 * (i + 1))
+cleared-byte t i c l h = record {
+  full = full;
+  low = λ x k. other x (omega arith) (λ z. omega arith) ∙ c .low x k;
+  zero-bit = λ x k m. ⊎-elim (λ q. other x (omega arith) (λ z. omega arith) ∙ c .zero-bit x k q) (λ q. here x (omega arith) (omega arith)) (lt-or-le x (8 * i));
+  high = λ x k m n. other x n (λ z. omega arith) ∙ c .high x k (omega arith) n;
+}
+  where
+    full : length (set t i 0) ≡ 512
+    full = simp length-set (c .full)
 
-pub upTo-next : (b : ℕ) → 42 ≤ b → b < 4096 → set (upTo b) b 0 ≡ upTo (b + 1)
-upTo-next b h k =
-    let m = 4096 - (b + 1) in
-    let e : 4096 - b ≡ suc m = omega arith in
-    let f : b ≡ 42 + (b - 42) = omega arith in
-    let g : b - 42 + 1 ≡ b + 1 - 42 = omega arith in
-    ap (λ (x : List ℕ). set x b 0) (upTo-is b)
-    ∙ ap₂ (λ (n i : ℕ). set (stretch 42 (b - 42) n) i 0) e f
-    ∙ stretch-next 42 (b - 42) m
-    ∙ ap (λ (n : ℕ). stretch 42 n m) g
-    ∙ sym (upTo-is (b + 1))
+    here : (x : ℕ) → x < 4096 → x / 8 ≡ i → getD (bitsOf (set t i 0)) x 0 ≡ 0
+    here x k e =
+        bit-at (set t i 0) x 0 (omega (arith, full)) ∙ ap (λ (j : ℕ). getD (set t i 0) j 0 / 2 ^ (x % 8) % 2) e
+        ∙ ap (λ (y : ℕ). y / 2 ^ (x % 8) % 2) (getD-set-same t i 0 0 (omega (arith, c .full))) ∙ ap (λ (y : ℕ). y % 2) (zero-div (2 ^ (x % 8)))
 
-pub upTo-table : (t : List ℕ) (n : ℕ) → Table t → bitsOf t ≡ upTo n → t ≡ bytesOf (emptyBits n)
-unfolding upTo stretch emptyBits
-upTo-table t n g e = sym (bytes-bits t g) ∙ ap bytesOf e
+    other : (x : ℕ) → x < 4096 → (x / 8 ≡ i → ⊥) → getD (bitsOf (set t i 0)) x 0 ≡ getD (bitsOf t) x 0
+    other x k ne =
+        bit-at (set t i 0) x 0 (omega (arith, full)) ∙ ap (λ (y : ℕ). y / 2 ^ (x % 8) % 2) (getD-set-other t i (x / 8) 0 0 ne)
+        ∙ sym (bit-at t x 0 (omega (arith, c .full)))
+
+-- the bits of an empty store, one by one
+module _ (n : ℕ) (l : 42 ≤ n) (h : n ≤ 4096) where
+  abbrev ones-first : List ℕ
+  ones-first = replicate 42 1
+
+  abbrev rest : List ℕ
+  rest = replicate (n - 42) 0 ++ replicate (4096 - n) 1
+
+  rest-at : (x : ℕ) → 42 ≤ x → getD (emptyBits n) x 0 ≡ getD rest (x - 42) 0
+  unfolding emptyBits
+  rest-at x k = let e : x ≡ 42 + (x - 42) = omega arith in ap (λ (y : ℕ). getD (ones-first ++ rest) y 0) e ∙ getD-append-add ones-first rest (x - 42) 0
+
+  empty-low : (x : ℕ) → x < 42 → getD (emptyBits n) x 0 ≡ 1
+  unfolding emptyBits
+  empty-low x k = List·getD-append ones-first rest 0 x k ∙ getD-replicate 42 x 1 0 k
+
+  empty-zero : (x : ℕ) → 42 ≤ x → x < n → getD (emptyBits n) x 0 ≡ 0
+  empty-zero x k m =
+      let q : x - 42 < n - 42 = omega arith in
+      rest-at x k ∙ List·getD-append (replicate (n - 42) 0) (replicate (4096 - n) 1) 0 (x - 42) (omega (arith, length-replicate {A = ℕ} (n - 42) 0)) ∙ getD-replicate (n - 42) (x - 42) 0 0 q
+
+  empty-high : (x : ℕ) → n ≤ x → x < 4096 → getD (emptyBits n) x 0 ≡ 1
+  empty-high x k m =
+      let e : x - 42 ≡ length (replicate {A = ℕ} (n - 42) 0) + (x - n) = omega (arith, length-replicate {A = ℕ} (n - 42) 0) in
+      rest-at x (omega arith) ∙ ap (λ (y : ℕ). getD rest y 0) e ∙ getD-append-add (replicate (n - 42) 0) (replicate (4096 - n) 1) (x - n) 0
+      ∙ getD-replicate (4096 - n) (x - n) 1 0 (omega arith)
+
+  empty-length : length (emptyBits n) ≡ 4096
+  unfolding emptyBits
+  empty-length = length-append ones-first rest ∙ rw (length-append {A = ℕ} (replicate (n - 42) 0) (replicate (4096 - n) 1), length-replicate {A = ℕ} (n - 42) 0, length-replicate {A = ℕ} (4096 - n) 1) (omega arith)
+
+  pub cleared-table : (t : List ℕ) → Table t → Cleared t n → t ≡ bytesOf (emptyBits n)
+  cleared-table t g c =
+      sym (bytes-bits t g)
+      ∙ ap bytesOf (ext-getD 0 (bitsOf t) (emptyBits n) (omega (arith, length-bits t, c .full, empty-length)) (λ x k. at x (omega (arith, length-bits t, c .full))))
+    where
+      at : (x : ℕ) → x < 4096 → getD (bitsOf t) x 0 ≡ getD (emptyBits n) x 0
+      at x k =
+          ⊎-elim (λ a. c .low x a ∙ sym (empty-low x a))
+          (λ a. ⊎-elim (λ b. c .zero-bit x a b ∙ sym (empty-zero x a b)) (λ b. c .high x a b k ∙ sym (empty-high x b k)) (lt-or-le x n)) (lt-or-le x 42)
 
 -- ---- the device
 

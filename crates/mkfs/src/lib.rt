@@ -11,6 +11,10 @@ ghost use lib.ListN.{length, replicate};
 ghost use Rattle.spec.specs.Disk.{isAllowed, sliceOf};
 ghost use Rattle.spec.specs.Bitmap.{bytesOf};
 ghost use Rattle.spec.specs.Calls.{emptyBits, emptyDisk};
+ghost use Rattle.mkfs.specs.Table.{Cleared};
+
+// The first block whose bit begins a byte of zeros.
+const WHOLE: u32 = 48;
 
 // All bytes zero.
 fn clear(bytes: &mut [u8])
@@ -23,17 +27,46 @@ fn clear(bytes: &mut [u8])
     }
 }
 
-// The bitmap of an empty store of n blocks: zeros from 42 to n-1, ones elsewhere.
-fn empty_table(n: u32) -> [u8; 512]
-    requires { ⌜ (42 ≤ n) × (n ≤ 4096) ⌝ }
-    ensures { λ t. ⌜ t ≡ bytesOf (emptyBits n) ⌝ }
+// Bits up to `end` become 0, one at a time.
+fn clear_bits(t: &mut [u8; 512], from: u32, end: u32)
+    requires { ⌜ (42 ≤ from) × (from ≤ end) × (end ≤ 4096) × Cleared (now t) from ⌝ }
+    ensures { λ _. ⌜ Cleared (now (t .exit)) end ⌝ }
 {
-    let mut t = [255u8; 512];
-    let mut b: u32 = 42;
-    while b < n {
-        clear_bit(&mut t, b);
+    let mut b = from;
+    while b < end {
+        clear_bit(t, b);
+        known(*t);
         b += 1;
     }
+}
+
+// And whole bytes up to one.
+fn clear_bytes(t: &mut [u8; 512], from: usize, end: usize)
+    requires { ⌜ (6 ≤ from) × (from ≤ end) × (end ≤ 512) × Cleared (now t) (8 * from) ⌝ }
+    ensures { λ _. ⌜ Cleared (now (t .exit)) (8 * end) ⌝ }
+{
+    let mut i = from;
+    while i < end {
+        t[i] = 0;
+        i += 1;
+    }
+}
+
+// The bitmap of an empty store of n blocks: zeros from 42 to n-1, ones elsewhere.
+pub fn empty_table(n: u32) -> [u8; 512]
+    requires { ⌜ (42 ≤ n) × (n ≤ 4096) ⌝ }
+    ensures { λ t. ⌜ (t ≡ bytesOf (emptyBits n)) × Cleared t n ⌝ }
+{
+    let mut t = [255u8; 512];
+    if n < WHOLE {
+        clear_bits(&mut t, 42, n);
+        known(t);
+        return t;
+    }
+    clear_bits(&mut t, 42, WHOLE);
+    let bytes = n / 8;
+    clear_bytes(&mut t, 6, bytes as usize);
+    clear_bits(&mut t, 8 * bytes, n);
     known(t);
     t
 }

@@ -10,10 +10,10 @@ use lib.ListN.{length, take, drop, length-take, length-drop}
 use Rattle.spec.specs.Disk.{Slice, blocksOf, isAllowed, sliceOf}
 use Rattle.spec.specs.Sound.{volumeSound}
 use Rattle.spec.specs.Journal.{headerFault, targetsIn}
-use Rattle.journal.specs.declared.Fault.{Fault}
-use Rattle.journal.specs.declared.Fault.the-variants.{At, Nothing}
-use Rattle.journal.specs.declared.Targets.{Targets}
-use Rattle.journal.specs.Header.{faultOf, Holds}
+use Rattle.header.specs.declared.Fault.{Fault}
+use Rattle.header.specs.declared.Fault.the-variants.{At, Nothing}
+use Rattle.header.specs.declared.Targets.{Targets}
+use Rattle.header.specs.Header.{faultOf, Holds}
 use Rattle.block.proofs.Laws.{allowed-says, block-is, exactly-all}
 use Rattle.spec.specs.declared.Session.{Session}
 use Rattle.spec.specs.declared.Phase.{Phase}

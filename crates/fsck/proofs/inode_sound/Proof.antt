@@ -1,10 +1,10 @@
-use mathlib.Core.Path.{ap, sym, _∙_}
+use mathlib.Core.Path.{sym, _∙_}
 use borrow.Author.Tests.{eq-eqb, ne-eqb}
 use lib.ListN.{getD}
 use Rattle.spec.specs.Disk.{blocksOf}
 use Rattle.block.proofs.Laws.{block-length}
 use Rattle.fsck.proofs.Names.{empty-by, first-off, first-on}
-use Rattle.fsck.proofs.Shape.{rest-zero, inode-empty, inode-off, inode-on}
+use Rattle.fsck.proofs.Records.{rest-zero, inode-empty, inode-off, inode-on}
 use borrow.Author.Needs.{needs}
 use Rattle.fsck.proofs.inode_sound.Statement.{statement}
 use Rattle.fsck.proofs.inode_sound.Tie as tie
@@ -18,12 +18,6 @@ element-copy-out-if1 c = search needs
 mul-at : tie.Need-mul-at
 mul-at c = search needs
 
-table-block-requires : tie.Need-table-block-requires
-table-block-requires c κs = search needs
-
-block-at-requires : tie.Need-block-at-requires
-block-at-requires c κs = search needs
-
 add-clear-in : tie.Need-add-clear-in
 add-clear-in c = search needs
 
@@ -34,29 +28,23 @@ clear-in-requires : tie.Need-clear-in-requires
 clear-in-requires c κs = search needs
 
 returns : tie.Need-returns
-returns c = let a = c .before .before .before .before .before .before .args in let p = c .before .before .before .before .before .before .pre in let v = blocksOf (a .device .now) in let x = getD (a .numbers .now) (a .i) 0 in
-    let e = empty-by v (block-length (a .device .now)) (a .numbers .now) (a .i) (p .2) (p .1) in let h = eq-eqb x 0 (c .before .before .before .if1 .taken) in
-    inode-empty _ v (a .i) _ e _ _ _ h (rest-zero v _ (a .i) _ (c .before .block-at .ensures ∙ ap v (c .before .before .table-block .ensures)) (sym e ∙ h) (c .clear-in .ensures))
+returns c = let s = c .before .before .before .before .before in let a = s .args in let p = s .pre in let v = blocksOf (a .device .now) in let x = getD (a .numbers .now) (a .i) 0 in
+    let e = empty-by v (block-length (a .device .now)) (a .numbers .now) (a .i) (p .2) (p .1) in let h = eq-eqb x 0 (c .before .if1 .taken) in
+    inode-empty _ v (a .i) _ e _ _ _ h (rest-zero v _ (a .i) _ (p .4) (sym e ∙ h) (c .clear-in .ensures))
 
-earlier-requires : tie.Need-earlier-requires
-earlier-requires c κs = search needs
+is-repeated-requires : tie.Need-is-repeated-requires
+is-repeated-requires c κs = search needs
 
-enum-told : tie.Need-enum-told
-enum-told c = search needs
-
-enum-told-2 : tie.Need-enum-told-2
-enum-told-2 c = search needs
+returns-2 : tie.Need-returns-2
+returns-2 c = let s = c .before .before .before .before .before .before in let a = s .args in let p = s .pre in let v = blocksOf (a .device .now) in let x = getD (a .numbers .now) (a .i) 0 in let f = block-length (a .device .now) in
+    inode-off _ v (a .i) _ (empty-by v f (a .numbers .now) (a .i) (p .2) (p .1)) (ne-eqb x 0 (c .before .before .if1 .left)) _ _ _ (first-off v f (a .numbers .now) (a .i) (p .2) (p .1) _ (c .before .is-repeated .ensures) (c .if2 .taken))
 
 file-sound-requires : tie.Need-file-sound-requires
 file-sound-requires c κs = search needs
 
-returns-2 : tie.Need-returns-2
-returns-2 c = let a = c .before .before .before .before .before .before .args in let p = c .before .before .before .before .before .before .pre in let v = blocksOf (a .device .now) in let x = getD (a .numbers .now) (a .i) 0 in let f = block-length (a .device .now) in
-    inode-off _ v (a .i) _ (empty-by v f (a .numbers .now) (a .i) (p .2) (p .1)) (ne-eqb x 0 (c .before .before .before .if1 .left)) _ _ _ (first-off v f (a .numbers .now) (a .i) (p .2) (p .1) _ (c .before .before .earlier .ensures) _ (c .enum-told .given .1))
-
 returns-3 : tie.Need-returns-3
-returns-3 c = let a = c .before .before .before .before .before .before .before .before .before .args in let p = c .before .before .before .before .before .before .before .before .before .pre in let v = blocksOf (a .device .now) in let x = getD (a .numbers .now) (a .i) 0 in let f = block-length (a .device .now) in
-    inode-on _ v (a .i) _ (empty-by v f (a .numbers .now) (a .i) (p .2) (p .1)) (ne-eqb x 0 (c .before .before .before .before .before .before .if1 .left)) _ _ _ _ _ (first-on v f (a .numbers .now) (a .i) (p .2) (p .1) _ (c .before .before .before .before .before .earlier .ensures) (c .before .before .before .enum-told2 .given .1)) (c .file-sound .ensures)
+returns-3 c = let s = c .before .before .before .before .before .before .before .before .before in let a = s .args in let p = s .pre in let v = blocksOf (a .device .now) in let x = getD (a .numbers .now) (a .i) 0 in let f = block-length (a .device .now) in
+    inode-on _ v (a .i) _ (empty-by v f (a .numbers .now) (a .i) (p .2) (p .1)) (ne-eqb x 0 (c .before .before .before .before .before .if1 .left)) _ _ _ _ _ (first-on v f (a .numbers .now) (a .i) (p .2) (p .1) _ (c .before .before .before .before .is-repeated .ensures) (c .before .before .before .if2 .left)) (c .file-sound .ensures)
 
 pub inode-sound-spec : {M : Type 1} → statement M
 inode-sound-spec =
@@ -65,15 +53,11 @@ inode-sound-spec =
     mul-if1
     element-copy-out-if1
     mul-at
-    table-block-requires
-    block-at-requires
     add-clear-in
     add-clear-in-2
     clear-in-requires
     returns
-    earlier-requires
-    enum-told
-    enum-told-2
-    file-sound-requires
+    is-repeated-requires
     returns-2
+    file-sound-requires
     returns-3)

@@ -1,6 +1,6 @@
 use Rattle.listing.proofs.Laws.{recover-is}
 use Rattle.spec.specs.Disk.{blocksOf}
-use Rattle.journal.proofs.Steps.{recovers}
+use Rattle.header.proofs.Loops.{recovers}
 use Rattle.text.proofs.Laws.{written-as}
 use borrow.Author.Needs.{needs}
 use Rattle.listing.proofs.put_recover.Statement.{statement}

@@ -4,16 +4,16 @@ use native.Mathlib.Omega.{arith}
 use Rattle.inode.specs.Records.{lowestTo}
 use Rattle.inode.proofs.Laws.{lowest-hit, lowest-miss, lowest-none}
 use Rattle.marks.specs.Marks.{wrong}
-use Rattle.marks.proofs.Laws.{plain-skip, plain-within}
+use Rattle.marks.proofs.Laws.{all-right}
 use borrow.Author.Needs.{needs}
 use Rattle.marks.proofs.lowest_wrong.Statement.{statement}
 use Rattle.marks.proofs.lowest_wrong.Tie as tie
 
 abbrev Inv-loop : tie.InvT-loop
-Inv-loop once twice bitmap blocks b₀ b = (b ≤ 4096) × (lowestTo 4096 (wrong blocks once twice bitmap) 0 ≡ lowestTo 4096 (wrong blocks once twice bitmap) b)
+Inv-loop once twice bitmap b₀ b = (b ≤ 4096) × (lowestTo 4096 (wrong once twice bitmap) 0 ≡ lowestTo 4096 (wrong once twice bitmap) b)
 
 abbrev μ-loop : tie.MeasureT-loop
-μ-loop once twice bitmap blocks b₀ b = 4096 - b
+μ-loop once twice bitmap b₀ b = 4096 - b
 
 known-requires : tie.Need-known-requires Inv-loop μ-loop
 known-requires c κs = search needs
@@ -24,11 +24,23 @@ known-requires-2 c κs = search needs
 known-requires-3 : tie.Need-known-requires-3 Inv-loop μ-loop
 known-requires-3 c κs = search needs
 
+are-right-requires : tie.Need-are-right-requires Inv-loop μ-loop
+are-right-requires c κs = search needs
+
+returns : tie.Need-returns Inv-loop μ-loop
+returns c = sym (all-right _ _ _ (c .before .before .before .before .before .before .known .ensures .full) (c .before .before .before .before .known2 .ensures .full) (c .before .before .known3 .ensures .full) (sym (c .before .are-right .ensures) ∙ c .if1 .taken))
+
 loop-holds : tie.Need-loop-holds Inv-loop μ-loop
 loop-holds c = (omega arith, refl)
 
-is-plain-requires : tie.Need-is-plain-requires Inv-loop μ-loop
-is-plain-requires c κs = search needs
+is-wrong-requires : tie.Need-is-wrong-requires Inv-loop μ-loop
+is-wrong-requires c κs = search needs
+
+cast-t10 : tie.Need-cast-t10 Inv-loop μ-loop
+cast-t10 c = search needs
+
+returns-2 : tie.Need-returns-2 Inv-loop μ-loop
+returns-2 c = sym (c .before .before .before .loop .inv .1 ∙ lowest-hit _ _ _ (omega arith) (sym (c .before .is-wrong .ensures) ∙ c .if2 .taken))
 
 add-b : tie.Need-add-b Inv-loop μ-loop
 add-b c = search needs
@@ -37,31 +49,10 @@ loop-less : tie.Need-loop-less Inv-loop μ-loop
 loop-less c = search needs
 
 loop-again : tie.Need-loop-again Inv-loop μ-loop
-loop-again c = (
-  plain-within _ _ _ _ _ (c .before .before .before .before .before .before .before .before .before .before .pre) (c .before .before .loop-test .taken) (c .before .before .before .before .before .before .before .before .known .ensures .full) (c .before .before .before .before .before .before .known2 .ensures .full) (c .before .before .before .before .known3 .ensures .full) (sym (c .before .is-plain .ensures) ∙ c .if1 .taken),
-  c .before .before .before .loop .inv .1 ∙ plain-skip _ _ _ _ _ (c .before .before .before .before .before .before .before .before .before .before .pre) (c .before .before .loop-test .taken) (c .before .before .before .before .before .before .before .before .known .ensures .full) (c .before .before .before .before .before .before .known2 .ensures .full) (c .before .before .before .before .known3 .ensures .full) (sym (c .before .is-plain .ensures) ∙ c .if1 .taken),
-)
+loop-again c = (omega arith, c .before .before .before .loop .inv .1 ∙ lowest-miss _ _ _ (omega arith) (sym (c .before .is-wrong .ensures) ∙ c .if2 .left))
 
-is-wrong-requires : tie.Need-is-wrong-requires Inv-loop μ-loop
-is-wrong-requires c κs = search needs
-
-cast-t11 : tie.Need-cast-t11 Inv-loop μ-loop
-cast-t11 c = search needs
-
-returns : tie.Need-returns Inv-loop μ-loop
-returns c = sym (c .before .before .before .before .before .loop .inv .1 ∙ lowest-hit _ _ _ (omega arith) (sym (c .before .is-wrong .ensures) ∙ c .if2 .taken))
-
-add-b-2 : tie.Need-add-b-2 Inv-loop μ-loop
-add-b-2 c = search needs
-
-loop-less-2 : tie.Need-loop-less-2 Inv-loop μ-loop
-loop-less-2 c = search needs
-
-loop-again-2 : tie.Need-loop-again-2 Inv-loop μ-loop
-loop-again-2 c = (omega arith, c .before .before .before .before .before .loop .inv .1 ∙ lowest-miss _ _ _ (omega arith) (sym (c .before .is-wrong .ensures) ∙ c .if2 .left))
-
-returns-2 : tie.Need-returns-2 Inv-loop μ-loop
-returns-2 c = sym (c .before .loop .inv .1 ∙ lowest-none _ _ _ (omega arith))
+returns-3 : tie.Need-returns-3 Inv-loop μ-loop
+returns-3 c = sym (c .before .loop .inv .1 ∙ lowest-none _ _ _ (omega arith))
 
 pub lowest-wrong-spec : {M : Type 1} → statement M
 lowest-wrong-spec =
@@ -72,15 +63,13 @@ lowest-wrong-spec =
     known-requires
     known-requires-2
     known-requires-3
+    are-right-requires
+    returns
     loop-holds
-    is-plain-requires
+    is-wrong-requires
+    cast-t10
+    returns-2
     add-b
     loop-less
     loop-again
-    is-wrong-requires
-    cast-t11
-    returns
-    add-b-2
-    loop-less-2
-    loop-again-2
-    returns-2)
+    returns-3)

@@ -1,55 +1,50 @@
-use mathlib.Core.List.{List}
-use Prim.Native.Nat.{ℕ}
-use Prim.Native.Nat.{_≤_, _-_}
-use mathlib.Core.Path.{_≡_, refl, _∙_, ap}
 use native.Mathlib.Omega.{arith}
-use lib.ListN.{length, set}
-use Rattle.spec.specs.Bitmap.{bitsOf}
-use Rattle.mkfs.proofs.Laws.{upTo, upTo-start, upTo-next, upTo-table}
+use Rattle.mkfs.proofs.Laws.{cleared-start, cleared-table}
 use borrow.Author.Needs.{needs}
 use Rattle.mkfs.proofs.empty_table.Statement.{statement}
 use Rattle.mkfs.proofs.empty_table.Tie as tie
 
-abbrev Inv-loop : tie.InvT-loop
-Inv-loop n t₀ b₀ t b = (42 ≤ b) × (b ≤ n) × (n ≤ 4096) × (bitsOf t ≡ upTo b)
+clear-bits-requires : tie.Need-clear-bits-requires
+clear-bits-requires c κs = (omega arith, omega arith, omega arith, cleared-start)
 
-abbrev μ-loop : tie.MeasureT-loop
-μ-loop n t₀ b₀ t b = n - b
-
-loop-holds : tie.Need-loop-holds Inv-loop μ-loop
-loop-holds c = (omega arith, omega arith, omega arith, upTo-start)
-
-clear-bit-requires : tie.Need-clear-bit-requires Inv-loop μ-loop
-clear-bit-requires c κs = search needs
-
-add-b : tie.Need-add-b Inv-loop μ-loop
-add-b c = search needs
-
-loop-less : tie.Need-loop-less Inv-loop μ-loop
-loop-less c = search needs
-
-loop-again : tie.Need-loop-again Inv-loop μ-loop
-loop-again c =
-    (omega arith, omega arith, omega arith, c .clear-bit .ensures ∙ ap (λ (x : List ℕ). set x (c .before .before .before .loop .b) 0) (c .before .before .before .loop .inv .3) ∙ upTo-next (c .before .before .before .loop .b) (omega arith) (omega arith))
-
-known-requires : tie.Need-known-requires Inv-loop μ-loop
+known-requires : tie.Need-known-requires
 known-requires c κs = search needs
 
-returns : tie.Need-returns Inv-loop μ-loop
-returns c =
-    let e : c .before .before .loop .b ≡ c .before .before .before .args .n = omega arith in
-    upTo-table _ _ (c .known .ensures) (c .before .before .loop .inv .3 ∙ ap upTo e)
+returns : tie.Need-returns
+returns c = (cleared-table _ (c .before .before .before .before .pre .0) (c .before .before .before .before .pre .1) _ (c .known .ensures) (c .before .clear-bits .ensures), c .before .clear-bits .ensures)
+
+clear-bits-requires-2 : tie.Need-clear-bits-requires-2
+clear-bits-requires-2 c κs = (omega arith, omega arith, omega arith, cleared-start)
+
+cast-clear-bytes : tie.Need-cast-clear-bytes
+cast-clear-bytes c = search needs
+
+clear-bytes-requires : tie.Need-clear-bytes-requires
+clear-bytes-requires c κs = search needs
+
+mul-clear-bits : tie.Need-mul-clear-bits
+mul-clear-bits c = search needs
+
+clear-bits-requires-3 : tie.Need-clear-bits-requires-3
+clear-bits-requires-3 c κs = search needs
+
+known-requires-2 : tie.Need-known-requires-2
+known-requires-2 c κs = search needs
+
+returns-2 : tie.Need-returns-2
+returns-2 c = let p = c .before .before .before .before .before .before .before .before .pre in (cleared-table _ (p .0) (p .1) _ (c .known2 .ensures) (c .before .clear-bits3 .ensures), c .before .clear-bits3 .ensures)
 
 pub empty-table-spec : {M : Type 1} → statement M
 empty-table-spec =
     tie.close
     (tie.spec
-    Inv-loop
-    μ-loop
-    loop-holds
-    clear-bit-requires
-    add-b
-    loop-less
-    loop-again
+    clear-bits-requires
     known-requires
-    returns)
+    returns
+    clear-bits-requires-2
+    cast-clear-bytes
+    clear-bytes-requires
+    mul-clear-bits
+    clear-bits-requires-3
+    known-requires-2
+    returns-2)

@@ -28,7 +28,7 @@ same-length c = search needs
 
 returns : tie.Need-returns
 returns c =
-    made _ _ _ _ _ (c .before .before .before .before .before .before .before .before .clear .ensures) (c .before .before .before .before .before .empty-table .ensures) (c .before .before .store-block .ensures)
+    made _ _ _ _ _ (c .before .before .before .before .before .before .before .before .clear .ensures) (c .before .before .before .before .before .empty-table .ensures .0) (c .before .before .store-block .ensures)
 
 pub make-empty-spec : {M : Type 1} → statement M
 make-empty-spec =

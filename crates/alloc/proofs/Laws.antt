@@ -10,7 +10,7 @@ use lib.ListN.{length, take, drop, getD, set, length-append, length-take, length
 use lib.Seq.{set-out, take-all, take-take, take-suc-set, getD-take, drop-cons, take-append-seam, drop-append-seam}
 use Rattle.spec.specs.Bytes.{upFrom, place}
 use Rattle.spec.specs.Disk.{Disk}
-use Rattle.spec.specs.Bitmap.{bitsOf, freeBits, mark, pick, picks}
+use Rattle.spec.specs.Bitmap.{bitsOfByte, bitsOf, freeBits, mark, pick, picks}
 use Rattle.spec.specs.declared.Extent.{Extent}
 use Rattle.spec.specs.Inode.{dataOf, blockOfInode, runs}
 use Rattle.block.proofs.Laws.{lt-or-le}
@@ -27,7 +27,6 @@ use Rattle.runs.specs.declared.Runs.{Runs}
 use Rattle.runs.specs.Push.{Holds, Small, Pushed}
 use Rattle.runs.proofs.Laws.{pushed-blocks}
 use Rattle.lists.specs.Bits.{length-picks, mark-append}
-use Rattle.alloc.specs.declared.Kept.{Kept}
 use Rattle.alloc.specs.declared.Nodes.{Nodes}
 use Rattle.alloc.specs.Parts.{dataAt, nodesAt, Picked, KeptOf, GaveBack, HeldNodes, TookNodes}
 
@@ -74,6 +73,33 @@ up-more b (suc k) = let e : suc b + k ≡ b + suc k = omega arith in ap (λ (l :
 
 pub run-more : (bits x y : List ℕ) (b k : ℕ) → x ≡ mark 0 (upFrom b k) bits → y ≡ set x (b + k) 0 → y ≡ mark 0 (upFrom b (k + 1)) bits
 run-more bits x y b k e h = h ∙ rw (e, add-one k, up-more b k, mark-more 0 (upFrom b k) (b + k) bits)
+
+up-append : (b k n : ℕ) → upFrom b (k + n) ≡ upFrom b k ++ upFrom (b + k) n
+up-append b zero n = let e : 0 + n ≡ n = omega arith in rw (e, add-zero b)
+up-append b (suc k) n = let e : suc b + k ≡ b + suc k = omega arith in let f : suc k + n ≡ suc (k + n) = omega arith in rw f (ap (λ (l : List ℕ). b ∷ l) (up-append (suc b) k n ∙ rw e))
+
+pub run-byte : (bits x y : List ℕ) (b k i : ℕ) → x ≡ mark 0 (upFrom b k) bits → 8 * i ≡ b + k → y ≡ mark 0 (upFrom (8 * i) 8) x → y ≡ mark 0 (upFrom b (k + 8)) bits
+run-byte bits x y b k i e q h = h ∙ rw (q, e, up-append b k 8) (sym (mark-append 0 (upFrom b k) (upFrom (b + k) 8) bits))
+
+-- a byte of the table cleared
+set-behind : (xs ys : List ℕ) (n k v : ℕ) → n ≡ length xs + k → set (xs ++ ys) n v ≡ xs ++ set ys k v
+set-behind [] ys n k v e = let z : n ≡ k = omega arith in rw z
+set-behind (x ∷ xs) ys zero k v e = absurd (omega arith)
+set-behind (x ∷ xs) ys (suc n) k v e = ap (λ (l : List ℕ). x ∷ l) (set-behind xs ys n k v (omega arith))
+
+mark-behind : (v : ℕ) (xs ys : List ℕ) (a b n : ℕ) → a ≡ length xs + b → mark v (upFrom a n) (xs ++ ys) ≡ xs ++ mark v (upFrom b n) ys
+unfolding mark
+mark-behind v xs ys a b zero e = refl
+mark-behind v xs ys a b (suc n) e =
+    ap (mark v (upFrom (suc a) n)) (set-behind xs ys a b v e) ∙ mark-behind v xs (set ys b v) (suc a) (suc b) n (omega arith)
+
+pub byte-cleared : (t : List ℕ) (i : ℕ) → i < length t → bitsOf (set t i 0) ≡ mark 0 (upFrom (8 * i) 8) (bitsOf t)
+unfolding bitsOf mark
+byte-cleared [] i h = absurd (omega arith)
+byte-cleared (x ∷ t) zero h = refl
+byte-cleared (x ∷ t) (suc i) h =
+    let e : 8 * suc i ≡ 8 + 8 * i = omega arith in
+    rw e (ap (λ (l : List ℕ). bitsOfByte x ++ l) (byte-cleared t i (omega arith)) ∙ sym (mark-behind 0 (bitsOfByte x) (bitsOf t) (8 + 8 * i) (8 * i) 8 refl))
 
 -- ---- the blocks of a stretch, piece by piece
 
@@ -148,11 +174,11 @@ keep-more v tb all c q n k e d s u p =
       small = p .small n (k .small) (s .first) (s .some);
     }
 
-pub keep-end : (v : Disk) (tb wanted : ℕ) (blocks : List ℕ) (c : Scan) (q : Kept) → Keeping v tb (take wanted blocks) c (q .runs) (q .count) → pending v tb c ≡ [] → KeptOf blocks wanted q
-keep-end v tb wanted blocks c q k e =
+pub keep-end : (v : Disk) (tb wanted : ℕ) (blocks : List ℕ) (c : Scan) (q : Runs) (n : ℕ) → Keeping v tb (take wanted blocks) c q n → pending v tb c ≡ [] → KeptOf blocks wanted q n
+keep-end v tb wanted blocks c q n k e =
     record {
-      holds = rw (← pass-all v tb (take wanted blocks) c (q .count) (k .passed) e) (k .holds);
-      count = pass-count v tb (take wanted blocks) c (q .count) (k .passed) e;
+      holds = rw (← pass-all v tb (take wanted blocks) c n (k .passed) e) (k .holds);
+      count = pass-count v tb (take wanted blocks) c n (k .passed) e;
       few = omega (arith, k .passed .room);
       small = k .small;
     }

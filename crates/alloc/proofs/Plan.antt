@@ -30,10 +30,9 @@ use Rattle.lists.specs.Bits.{length-picks, mark-append}
 use Rattle.lists.specs.Extents.{runs-counts}
 use Rattle.runs.proofs.Laws.{listed-is}
 use Rattle.alloc.specs.declared.Draft.{Draft}
-use Rattle.alloc.specs.declared.Kept.{Kept}
 use Rattle.alloc.specs.declared.Nodes.{Nodes}
 use Rattle.alloc.specs.Parts.{dataAt, nodesAt, KeptOf, TookData, HeldNodes, TookNodes, GaveBack, nodesHeld}
-use Rattle.alloc.specs.Draft.{resizedAt, tableOf, Drafted}
+use Rattle.alloc.specs.Draft.{resizedAt, tableOf, treeIn, Drafted}
 
 -- ---- at most one level
 
@@ -130,45 +129,46 @@ module _ (v : Disk) (i wanted : ℕ) where
   unfolding fits resizedAt
   fits-is = refl
 
-  refused-as : (d : Draft) (r : Refusal) → d .verdict ≡ Bad r → fits (bitsOf (v 33)) (dataOf v (inodeAt v i)) (levelsOf v (inodeAt v i)) wanted ≡ refuse r → Drafted v i wanted d
-  refused-as d r e f = record { verdict = rw e f; tree = λ q. absurd (not-fine r (sym e ∙ q)) }
+  refused-as : (table first count : List ℕ) (d : Draft) (r : Refusal) → d .verdict ≡ Bad r
+      → fits (bitsOf (v 33)) (dataOf v (inodeAt v i)) (levelsOf v (inodeAt v i)) wanted ≡ refuse r → Drafted v i wanted table first count d
+  refused-as table first count d r e f = record { verdict = rw e f; tree = λ q. absurd (not-fine r (sym e ∙ q)) }
     where
       not-fine : (r : Refusal) → Bad r ≡ Fine → ⊥
       not-fine r q = let z : _≡_ {A = ℕ} 0 1 = cc in omega arith
 
 -- ---- the plan, as far as it has come
 
-pub kept-few : (blocks : List ℕ) (wanted : ℕ) (kept : Kept) → KeptOf blocks wanted kept → kept .count ≤ wanted
-kept-few blocks wanted kept k = omega (arith, k .count, length-take wanted blocks)
+pub kept-few : (blocks : List ℕ) (wanted : ℕ) (q : Runs) (m : ℕ) → KeptOf blocks wanted q m → m ≤ wanted
+kept-few blocks wanted q m k = omega (arith, k .count, length-take wanted blocks)
 
 few-data : (v : Disk) (i : ℕ) → length (dataAt v i) ≤ 2048
 unfolding dataOf
 few-data v i = simp length-take (omega arith)
 
-all-held : (blocks : List ℕ) (wanted : ℕ) (kept : Kept) (t u : List ℕ) (n : ℕ) → KeptOf blocks wanted kept → GaveBack (drop wanted blocks) t u n → kept .count + n ≡ length blocks
-all-held blocks wanted kept t u n k g = omega (arith, k .count, g .many, length-take wanted blocks, length-drop wanted blocks)
+all-held : (blocks : List ℕ) (wanted : ℕ) (kept : Runs) (m : ℕ) (t u : List ℕ) (n : ℕ) → KeptOf blocks wanted kept m → GaveBack (drop wanted blocks) t u n → m + n ≡ length blocks
+all-held blocks wanted kept m t u n k g = omega (arith, k .count, g .many, length-take wanted blocks, length-drop wanted blocks)
 
-pub held-few : (v : Disk) (i wanted : ℕ) (kept : Kept) (t u : List ℕ) (n : ℕ) → KeptOf (dataAt v i) wanted kept → GaveBack (drop wanted (dataAt v i)) t u n → kept .count + n ≤ 2048
-held-few v i wanted kept t u n k g = omega (arith, all-held (dataAt v i) wanted kept t u n k g, few-data v i)
+pub held-few : (v : Disk) (i wanted : ℕ) (kept : Runs) (m : ℕ) (t u : List ℕ) (n : ℕ) → KeptOf (dataAt v i) wanted kept m → GaveBack (drop wanted (dataAt v i)) t u n → m + n ≤ 2048
+held-few v i wanted kept m t u n k g = omega (arith, all-held (dataAt v i) wanted kept m t u n k g, few-data v i)
 
--- the table as it was, what is free, what the file keeps, what it takes
-pub record Begun (v : Disk) (i wanted : ℕ) (t₀ : List ℕ) (free : ℕ) (kept : Kept) (fresh : ℕ) : Type 0 where
+-- the table as it was, what is free, what the file keeps (m blocks), what it takes
+pub record Begun (v : Disk) (i wanted : ℕ) (t₀ : List ℕ) (free : ℕ) (kept : Runs) (m fresh : ℕ) : Type 0 where
   pub table : t₀ ≡ v 33
   pub isFree : free ≡ freeBits (bitsOf t₀)
   pub few : free ≤ 4096
-  pub keeps : KeptOf (dataAt v i) wanted kept
-  pub isFresh : fresh ≡ wanted - kept .count
+  pub keeps : KeptOf (dataAt v i) wanted kept m
+  pub isFresh : fresh ≡ wanted - m
 
 -- data blocks taken, nodes counted
-pub record Chosen (v : Disk) (i : ℕ) (t₀ : List ℕ) (free : ℕ) (kept : Kept) (fresh : ℕ) (t₁ : List ℕ) (q : Runs) (held : Nodes) (nodes lack : ℕ) : Type 0 where
+pub record Chosen (v : Disk) (i : ℕ) (t₀ : List ℕ) (free : ℕ) (kept : Runs) (m fresh : ℕ) (t₁ : List ℕ) (q : Runs) (held : Nodes) (nodes lack : ℕ) : Type 0 where
   pub fit : fresh ≤ free
-  pub took : TookData t₀ t₁ kept fresh q
+  pub took : TookData t₀ t₁ kept m fresh q
   pub holds : HeldNodes (nodesAt v i) held
   pub isNodes : nodes ≡ nodesFor (q .len)
   pub most : 128 * nodes ≤ q .len + 127
   pub isLack : lack ≡ nodes - held .len
 
-module _ (v : Disk) (i wanted : ℕ) (t₀ : List ℕ) (free : ℕ) (kept : Kept) (fresh : ℕ) (b : Begun v i wanted t₀ free kept fresh) where
+module _ (v : Disk) (i wanted : ℕ) (t₀ : List ℕ) (free : ℕ) (kept : Runs) (m fresh : ℕ) (b : Begun v i wanted t₀ free kept m fresh) where
   newly : wanted - length (dataAt v i) ≡ fresh
   newly = omega (arith, b .isFresh, b .keeps .count, length-take wanted (dataAt v i))
 
@@ -176,12 +176,12 @@ module _ (v : Disk) (i wanted : ℕ) (t₀ : List ℕ) (free : ℕ) (kept : Kept
   free-is = sym (b .isFree ∙ ap (λ (t : List ℕ). freeBits (bitsOf t)) (b .table))
 
   -- 16 by the data blocks alone
-  pub no-space : free < fresh → (d : Draft) → d .verdict ≡ Bad NoSpace → Drafted v i wanted d
-  no-space h d e =
-      refused-as v i wanted d NoSpace e
+  pub no-space : free < fresh → (table first count : List ℕ) (d : Draft) → d .verdict ≡ Bad NoSpace → Drafted v i wanted table first count d
+  no-space h table first count d e =
+      refused-as v i wanted table first count d NoSpace e
       (fits-is v i wanted ∙ rw (lt-leb (wanted - length (dataAt v i)) (freeBits (bitsOf (v 33))) (omega (arith, newly, free-is))))
 
-  module _ (t₁ : List ℕ) (q : Runs) (held : Nodes) (nodes lack : ℕ) (s : Chosen v i t₀ free kept fresh t₁ q held nodes lack) where
+  module _ (t₁ : List ℕ) (q : Runs) (held : Nodes) (nodes lack : ℕ) (s : Chosen v i t₀ free kept m fresh t₁ q held nodes lack) where
     data-is : resizedAt v i wanted .newData ≡ picks (bitsOf t₀) fresh
     data-is = new-data v i wanted ∙ rw (newly, ← b .table)
 
@@ -210,9 +210,9 @@ module _ (v : Disk) (i wanted : ℕ) (t₀ : List ℕ) (free : ℕ) (kept : Kept
     both = rw (data-is, nodes-are, length-picks (bitsOf t₀) fresh, length-picks (bitsOf t₁) lack)
 
     -- 16 by data blocks and extent blocks
-    pub no-space-nodes : free < fresh + lack → (d : Draft) → d .verdict ≡ Bad NoSpace → Drafted v i wanted d
-    no-space-nodes h d e =
-        refused-as v i wanted d NoSpace e
+    pub no-space-nodes : free < fresh + lack → (table first count : List ℕ) (d : Draft) → d .verdict ≡ Bad NoSpace → Drafted v i wanted table first count d
+    no-space-nodes h table first count d e =
+        refused-as v i wanted table first count d NoSpace e
         (fits-is v i wanted ∙ rw (first-test, both, free-is, lt-leb (fresh + lack) free h))
 
     module _ (room : fresh + lack ≤ free) where
@@ -220,21 +220,21 @@ module _ (v : Disk) (i wanted : ℕ) (t₀ : List ℕ) (free : ℕ) (kept : Kept
       second-test = rw (both, free-is) (le-leb (fresh + lack) free room)
 
       -- 17
-      pub too-many : 512 < q .len → (d : Draft) → d .verdict ≡ Bad TooManyExtents → Drafted v i wanted d
-      too-many h d e =
-          refused-as v i wanted d TooManyExtents e
+      pub too-many : 512 < q .len → (table first count : List ℕ) (d : Draft) → d .verdict ≡ Bad TooManyExtents → Drafted v i wanted table first count d
+      too-many h table first count d e =
+          refused-as v i wanted table first count d TooManyExtents e
           (fits-is v i wanted ∙ rw (first-test, second-test, len-is, lt-leb (q .len) 512 h))
 
       module _ (low : q .len ≤ 512) (node t₂ t₃ t₄ : List ℕ) (adds : TookNodes t₁ t₂ held nodes node) (dropped : ℕ)
           (back : GaveBack (drop wanted (dataAt v i)) t₂ t₃ dropped) (leaves : bitsOf t₄ ≡ mark 0 (drop nodes (nodesHeld held)) (bitsOf t₃)) (bytes : Table t₄) where
         abbrev tree : Tree
-        tree = record { table = t₄; runs = q; node = node; nodes = nodes; before = held .len; held = kept .count + dropped }
+        tree = record { table = t₄; runs = q; node = node; nodes = nodes; before = held .len; held = m + dropped }
 
-        all-data : kept .count + dropped ≡ length (dataAt v i)
-        all-data = all-held (dataAt v i) wanted kept t₂ t₃ dropped (b .keeps) back
+        all-data : m + dropped ≡ length (dataAt v i)
+        all-data = all-held (dataAt v i) wanted kept m t₂ t₃ dropped (b .keeps) back
 
         extents-listed : listed q ≡ resizedAt v i wanted .extents
-        extents-listed = listed-is q (resizedAt v i wanted .extents) (kept .count + fresh) runs-are (s .took .small) low
+        extents-listed = listed-is q (resizedAt v i wanted .extents) (m + fresh) runs-are (s .took .small) low
 
         levels-built : levelsIn tree ≡ resizedAt v i wanted .levels
         unfolding levelsIn nodesIn
@@ -296,7 +296,8 @@ module _ (v : Disk) (i wanted : ℕ) (t₀ : List ℕ) (free : ℕ) (kept : Kept
               held = omega (arith, all-data, few-data v i);
             }
 
-        pub drafted : Drafted v i wanted (record { verdict = Fine; tree = tree })
+        pub drafted : Drafted v i wanted t₄ (q .first) (q .count)
+            (record { verdict = Fine; end = record { len = q .len; next = q .next }; node = node; nodes = nodes; before = held .len; held = m + dropped })
         drafted =
             record {
               verdict = fits-is v i wanted ∙ rw (first-test, second-test, len-is, le-leb (q .len) 512 low);

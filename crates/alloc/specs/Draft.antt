@@ -13,6 +13,7 @@ use Rattle.checks.specs.declared.Checked.{Checked}
 use Rattle.checks.specs.declared.Checked.the-variants.{Fine, Bad}
 use Rattle.runs.specs.declared.Tree.{Tree}
 use Rattle.runs.specs.Runs.{listed, levelsIn, Bounded}
+use Rattle.runs.specs.Push.{columns}
 pub use Rattle.alloc.specs.declared.Draft.{Draft}
 
 -- the tree of record i with so many data blocks
@@ -36,6 +37,11 @@ abbrev pub resultWith : Checked → plan.Tree → Result plan.Tree
 resultWith Fine t = accept t
 resultWith (Bad r) t = refuse r
 
-pub record Drafted (v : Disk) (i wanted : ℕ) (d : Draft) : Type 0 where
+-- the tree of a draft, its bitmap and its extents in lent columns
+abbrev pub treeIn : List ℕ → List ℕ → List ℕ → Draft → Tree
+treeIn table first count d =
+    record { table = table; runs = columns first count (d .end); node = d .node; nodes = d .nodes; before = d .before; held = d .held }
+
+pub record Drafted (v : Disk) (i wanted : ℕ) (table first count : List ℕ) (d : Draft) : Type 0 where
   pub verdict : fits (bitsOf (v 33)) (dataOf v (inodeAt v i)) (levelsOf v (inodeAt v i)) wanted ≡ resultWith (d .verdict) (resizedAt v i wanted)
-  pub tree : d .verdict ≡ Fine → Built v i wanted (d .tree)
+  pub tree : d .verdict ≡ Fine → Built v i wanted (treeIn table first count d)

@@ -8,7 +8,6 @@ use Rattle.spec.specs.Bitmap.{bitsOf, freeBits, mark, pick, picks}
 use Rattle.spec.specs.Inode.{inodeAt, dataOf, nodesOf, runs}
 use Rattle.runs.specs.declared.Runs.{Runs}
 use Rattle.runs.specs.Push.{Holds, Small}
-use Rattle.alloc.specs.declared.Kept.{Kept}
 use Rattle.alloc.specs.declared.Nodes.{Nodes}
 
 -- the data blocks and the nodes of record i
@@ -26,24 +25,24 @@ pub record Picked (before after : List ℕ) (b : ℕ) : Type 0 where
   pub fewer : freeBits (bitsOf after) + 1 ≡ freeBits (bitsOf before)
   pub below : freeBits (take (64 * (b / 64)) (bitsOf after)) ≡ 0
 
--- the first `wanted` of some blocks
-pub record KeptOf (blocks : List ℕ) (wanted : ℕ) (q : Kept) : Type 0 where
-  pub holds : Holds (q .runs) (runs (take wanted blocks))
-  pub count : q .count ≡ length (take wanted blocks)
-  pub few : q .count ≤ 2048
-  pub small : Small (q .runs) (q .count)
+-- the extents of the first `wanted` of some blocks, and how many blocks they are
+pub record KeptOf (blocks : List ℕ) (wanted : ℕ) (q : Runs) (n : ℕ) : Type 0 where
+  pub holds : Holds q (runs (take wanted blocks))
+  pub count : n ≡ length (take wanted blocks)
+  pub few : n ≤ 2048
+  pub small : Small q n
 
 -- the bits of some blocks made 0, and how many blocks they are
 pub record GaveBack (blocks before after : List ℕ) (n : ℕ) : Type 0 where
   pub many : n ≡ length blocks
   pub bits : bitsOf after ≡ mark 0 blocks (bitsOf before)
 
--- n picks behind the blocks kept
-pub record TookData (before after : List ℕ) (kept : Kept) (n : ℕ) (q : Runs) : Type 0 where
+-- n picks behind m blocks kept
+pub record TookData (before after : List ℕ) (kept : Runs) (m n : ℕ) (q : Runs) : Type 0 where
   pub bits : bitsOf after ≡ mark 1 (picks (bitsOf before) n) (bitsOf before)
   pub free : freeBits (bitsOf after) + n ≡ freeBits (bitsOf before)
-  pub holds : (blocks : List ℕ) → Holds (kept .runs) (runs blocks) → Holds q (runs (blocks ++ picks (bitsOf before) n))
-  pub small : Small q (kept .count + n)
+  pub holds : (blocks : List ℕ) → Holds kept (runs blocks) → Holds q (runs (blocks ++ picks (bitsOf before) n))
+  pub small : Small q (m + n)
 
 abbrev pub nodesHeld : Nodes → List ℕ
 nodesHeld q = take (q .len) (q .node)

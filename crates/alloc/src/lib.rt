@@ -5,8 +5,6 @@ use bitmap::free_count;
 use bitmap::known;
 use bitmap::lowest_free_from;
 use bitmap::set_bit;
-use block::DiskBlock;
-use block::copy_of;
 use checks::Checked;
 use extents::Piece;
 use extents::next_piece;
@@ -17,38 +15,39 @@ use inode::next;
 use inode::start;
 use inode::table_block;
 use runs::End;
-use runs::Runs;
-use runs::Tree;
-use runs::no_runs;
 use runs::push;
 use spec::Limits;
 use spec::Refusal;
 use spec::Session;
-use transaction::view_block;
 ghost use mathlib.Core.Path.{_≡_};
-ghost use Prim.Native.Nat.{_+_, _*_, _-_, _<_, _≤_};
+ghost use mathlib.Core.Bool.{true};
+ghost use Prim.Native.Nat.{_+_, _*_, _-_, _%_, _<_, _≤_};
 ghost use lib.ListN.{take, drop, set};
 ghost use Rattle.spec.specs.Bytes.{upFrom};
 ghost use Rattle.spec.specs.Bitmap.{bitsOf, freeBits, mark};
 ghost use Rattle.spec.specs.Inode.{nodesFor};
 ghost use Rattle.spec.specs.Transaction.{view, stateOf};
 ghost use Rattle.checks.specs.declared.Checked.the-variants.{Bad};
-ghost use Rattle.runs.specs.Push.{Small};
+ghost use Rattle.runs.specs.Push.{Small, columns, noEnd};
 ghost use Rattle.alloc.specs.Parts.{dataAt, nodesAt, Picked, KeptOf, GaveBack, TookData, HeldNodes, TookNodes};
 ghost use Rattle.alloc.specs.Draft.{Drafted};
 
 // "a file size of at most 1,048,576"
 const MAX_FILE_BLOCKS: usize = 2048;
 
-// 16, 17, or the tree after the change.
+// 16, 17, or the tree after the change: its extents and the bitmap stand in what was lent.
 pub struct Draft {
     pub verdict: Checked,
-    pub tree: Tree,
+    pub end: End,
+    pub node: [u32; 4],
+    pub nodes: usize,
+    pub before: usize,
+    pub held: usize,
 }
 
-// Data blocks that a file keeps: their extents, and how many they are.
+// Data blocks that a file keeps: where their extents end, and how many blocks they are.
 pub struct Kept {
-    pub runs: Runs,
+    pub end: End,
     pub count: usize,
 }
 
@@ -82,6 +81,28 @@ fn release(t: &mut [u8; 512], b: u32)
     }
 }
 
+// The eight blocks of byte i of the table given back.
+fn release_byte(t: &mut [u8; 512], i: usize)
+    requires { ⌜ i < 512 ⌝ }
+    ensures { λ _. ⌜ bitsOf (now (t .exit)) ≡ mark 0 (upFrom (8 * i) 8) (bitsOf (now (t .entry))) ⌝ }
+{
+    known(*t);
+    t[i] = 0;
+}
+
+// Whether a byte of the table begins at block b, and at least its eight blocks are left.
+fn is_byte(b: u32, left: u32) -> bool
+    ensures { λ r. ⌜ (r ≡ true → (b % 8 ≡ 0) × (8 ≤ left) × (b < 4096)) ⌝ }
+{
+    if b % 8 != 0 {
+        return false;
+    }
+    if left < 8 {
+        return false;
+    }
+    b < 4096
+}
+
 // n blocks from b on given back.
 fn release_run(t: &mut [u8; 512], b: u32, n: u32)
     requires { ⌜ (b < 131072) × (n ≤ 2048) ⌝ }
@@ -89,40 +110,45 @@ fn release_run(t: &mut [u8; 512], b: u32, n: u32)
 {
     let mut k: u32 = 0;
     while k < n {
-        release(t, b + k);
-        k += 1;
+        let at = b + k;
+        if is_byte(at, n - k) {
+            release_byte(t, (at / 8) as usize);
+            k += 8;
+        } else {
+            release(t, at);
+            k += 1;
+        }
     }
 }
 
-// The first `wanted` data blocks of record i.
-fn keep<'a>(device: &'a [u8], work: &'a [u8], s: Session, i: usize, wanted: usize) -> Kept
-    requires { ⌜ i < 128 ⌝ }
-    ensures { λ q. ⌜ KeptOf (dataAt (view (stateOf s (now (device .entry)) (now (work .entry)))) i) wanted q ⌝ }
+// The extents of the first `wanted` data blocks of record i, into two columns.
+fn keep<'a>(
+    first: &mut [u32; 512],
+    count: &mut [u32; 512],
+    device: &'a [u8],
+    work: &'a [u8],
+    s: Session,
+    i: usize,
+    wanted: usize,
+) -> Kept
+    requires { ⌜ (i < 128) × Small (columns (now first) (now count) noEnd) 0 ⌝ }
+    ensures { λ q. ⌜ KeptOf (dataAt (view (stateOf s (now (device .entry)) (now (work .entry)))) i) wanted
+        (columns (now (first .exit)) (now (count .exit)) (q .end)) (q .count) ⌝ }
 {
     let tb = table_block(i);
     let mut scan = stretch(device, work, s, i, 0, wanted);
-    let mut first = [0u32; 512];
-    let mut count = [0u32; 512];
     let mut end = End { len: 0, next: 0 };
     let mut n: usize = 0;
     loop {
         match next_piece(device, work, s, tb, scan) {
             Piece::Blocks(e, then) => {
-                let more = push(&mut first, &mut count, end, e.first, e.count);
+                let more = push(first, count, end, e.first, e.count);
                 end = more;
                 n += e.count as usize;
                 scan = then;
             }
             Piece::End => {
-                return Kept {
-                    runs: Runs {
-                        first: first,
-                        count: count,
-                        len: end.len,
-                        next: end.next,
-                    },
-                    count: n,
-                };
+                return Kept { end: end, count: n };
             }
         }
     }
@@ -158,32 +184,28 @@ fn give_back<'a>(
 }
 
 // n blocks picked in turn, behind those that the file keeps.
-fn take_data(t: &mut [u8; 512], kept: Kept, n: usize) -> Runs
-    requires { ⌜ Small (kept .runs) (kept .count) × (kept .count ≤ 2048) × (n ≤ freeBits (bitsOf (now t))) × (n ≤ 4096) ⌝ }
-    ensures { λ q. ⌜ TookData (now (t .entry)) (now (t .exit)) kept n q ⌝ }
+fn take_data(
+    t: &mut [u8; 512],
+    first: &mut [u32; 512],
+    count: &mut [u32; 512],
+    kept: Kept,
+    n: usize,
+) -> End
+    requires { ⌜ Small (columns (now first) (now count) (kept .end)) (kept .count) × (kept .count ≤ 2048) × (n ≤ freeBits (bitsOf (now t))) × (n ≤ 4096) ⌝ }
+    ensures { λ q. ⌜ TookData (now (t .entry)) (now (t .exit)) (columns (now (first .entry)) (now (count .entry)) (kept .end)) (kept .count) n
+        (columns (now (first .exit)) (now (count .exit)) q) ⌝ }
 {
-    let r = kept.runs;
-    let mut first = r.first;
-    let mut count = r.count;
-    let mut end = End {
-        len: r.len,
-        next: r.next,
-    };
+    let mut end = kept.end;
     let mut from: usize = 0;
     let mut k: usize = 0;
     while k < n {
         let b = pick(t, from);
-        let more = push(&mut first, &mut count, end, b, 1);
+        let more = push(first, count, end, b, 1);
         end = more;
         from = (b / 64) as usize;
         k += 1;
     }
-    Runs {
-        first: first,
-        count: count,
-        len: end.len,
-        next: end.next,
-    }
+    end
 }
 
 // The nodes of record i. A cursor with no leaf slots left steps from node to node.
@@ -271,57 +293,57 @@ fn minus(a: usize, b: usize) -> usize
 fn refused(why: Refusal) -> Draft
     ensures { λ d. ⌜ d .verdict ≡ Bad why ⌝ }
 {
-    let none = no_runs();
-    let tree = Tree {
-        table: [0u8; 512],
-        runs: none,
+    let end = End { len: 0, next: 0 };
+    Draft {
+        verdict: Checked::Bad(why),
+        end: end,
         node: [0u32; 4],
         nodes: 0,
         before: 0,
         held: 0,
-    };
-    Draft {
-        verdict: Checked::Bad(why),
-        tree: tree,
     }
 }
 
 // The tree of record i with so many data blocks, or 16 or 17.
-pub fn draft_of<'a>(device: &'a [u8], work: &'a [u8], s: Session, i: usize, wanted: usize) -> Draft
-    requires { ⌜ (i < 128) × (wanted ≤ 8388608) ⌝ }
-    ensures { λ d. ⌜ Drafted (view (stateOf s (now (device .entry)) (now (work .entry)))) i wanted d ⌝ }
+pub fn draft_of<'a>(
+    table: &mut [u8; 512],
+    first: &mut [u32; 512],
+    count: &mut [u32; 512],
+    device: &'a [u8],
+    work: &'a [u8],
+    s: Session,
+    i: usize,
+    wanted: usize,
+) -> Draft
+    requires { ⌜ (i < 128) × (wanted ≤ 8388608) × (now table ≡ view (stateOf s (now device) (now work)) 33) × Small (columns (now first) (now count) noEnd) 0 ⌝ }
+    ensures { λ d. ⌜ Drafted (view (stateOf s (now (device .entry)) (now (work .entry)))) i wanted (now (table .exit)) (now (first .exit)) (now (count .exit)) d ⌝ }
 {
-    let mut table = copy_of(view_block(device, work, s, DiskBlock(33)));
-    let free = free_count(&table);
-    let kept = keep(device, work, s, i, wanted);
+    let free = free_count(table);
+    let kept = keep(first, count, device, work, s, i, wanted);
     let fresh = wanted - kept.count;
     if free < fresh {
         return refused(Refusal::NoSpace);
     }
-    let runs = take_data(&mut table, kept, fresh);
+    let end = take_data(table, first, count, kept, fresh);
     let held = held_nodes(device, work, s, i);
-    let nodes = nodes_for(runs.len);
+    let nodes = nodes_for(end.len);
     let lacking = minus(nodes, held.len);
     if free < fresh + lacking {
         return refused(Refusal::NoSpace);
     }
-    if Limits::MAX_EXTENTS < runs.len {
+    if Limits::MAX_EXTENTS < end.len {
         return refused(Refusal::TooManyExtents);
     }
-    let node = take_nodes(&mut table, held, nodes);
-    let dropped = give_back(&mut table, device, work, s, i, wanted);
-    give_nodes(&mut table, held, nodes);
-    known(table);
-    let tree = Tree {
-        table: table,
-        runs: runs,
+    let node = take_nodes(table, held, nodes);
+    let dropped = give_back(table, device, work, s, i, wanted);
+    give_nodes(table, held, nodes);
+    known(*table);
+    Draft {
+        verdict: Checked::Fine,
+        end: end,
         node: node,
         nodes: nodes,
         before: held.len,
         held: kept.count + dropped,
-    };
-    Draft {
-        verdict: Checked::Fine,
-        tree: tree,
     }
 }

@@ -1,17 +1,18 @@
 -- Laws of the content of a block by its tag. Assumes nothing.
 use Prim.Native.Nat.{ℕ, _+_, _*_, _-_, _<_, _≤_}
-use mathlib.Core.Path.{_≡_, refl, _∙_}
+use mathlib.Core.Path.{_≡_, refl, sym, ap, _∙_}
 use mathlib.Core.List.{List}
 use native.Mathlib.Omega.{arith}
 use borrow.Author.Tests.{eq-eqb, ne-eqb, lt-ltb, le-ltb}
 use lib.ListN.{take, drop}
 use Rattle.spec.specs.Bytes.{patch}
+use Rattle.spec.specs.Disk.{Disk}
 use Rattle.spec.specs.Inode.{placeOfInode, nodeBytes}
 use Rattle.spec.specs.Plan.{newContent}
 use Rattle.runs.specs.Runs.{listed}
 use Rattle.content.specs.Content.{withRecord, nodeContent, dataContent}
 use Rattle.change.specs.declared.Change.{Change}
-use Rattle.change.specs.Contents.{contentOf}
+use Rattle.change.specs.Contents.{contentOf, contentIn}
 
 -- the ways of `content`
 module _ (i : ℕ) (c : Change) (x : ℕ) (bytes : List ℕ) (tag : ℕ) (old q : List ℕ) where
@@ -30,6 +31,22 @@ module _ (i : ℕ) (c : Change) (x : ℕ) (bytes : List ℕ) (tag : ℕ) (old q 
   pub tag-data : (tag ≡ 0 → ⊥) → (tag ≡ 1 → ⊥) → 6 ≤ tag → q ≡ dataContent (c .tree .held) (c .old) (c .size) x bytes (tag - 6) old → q ≡ contentOf i c x bytes tag old
   unfolding contentOf
   tag-data g h l e = e ∙ rw (ne-eqb tag 0 g, ne-eqb tag 1 h, le-ltb tag 6 l)
+
+-- the contents that are compared before anything is staged
+module _ (v : Disk) (i : ℕ) (c : Change) (x : ℕ) (bytes : List ℕ) where
+  pub bitmap-told : contentIn v i c x bytes 33 0 ≡ c .tree .table
+  unfolding contentIn contentOf
+  bitmap-told = refl
+
+  pub record-told : (b : ℕ) → contentIn v i c x bytes b 1 ≡ withRecord i (c .record) (v b)
+  unfolding contentIn contentOf
+  record-told b = refl
+
+  pub node-told : (b j : ℕ) (q : List ℕ) → j < 4 → q ≡ nodeContent (c .tree .runs) j → contentIn v i c x bytes b (2 + j) ≡ q
+  unfolding contentIn
+  node-told b j q h e =
+      let z : 2 + j - 2 ≡ j = omega arith in
+      sym (tag-node i c x bytes (2 + j) (v b) q (λ k. omega arith) (λ k. omega arith) (omega arith) (e ∙ ap (nodeContent (c .tree .runs)) (sym z)))
 
 -- what each tag stands for
 module _ (i : ℕ) (c : Change) (x : ℕ) (bytes : List ℕ) (old : List ℕ) where

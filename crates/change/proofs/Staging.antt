@@ -129,13 +129,13 @@ module _ (i : ℕ) (c : Change) (x : ℕ) (bytes : List ℕ) (goal : State) (s :
     pub stage-room : spot s (getD bs k 0) < 32
     stage-room = going-room i c x bytes goal s device work (getD bs k 0) (getD ts k 0) (drop (k + 1) (take n bs)) (drop (k + 1) (take n ts)) here
 
-    pub stage-step : (t : State) (old new : List ℕ) → old ≡ view (stateOf s device work) (getD bs k 0) → new ≡ contentOf i c x bytes (getD ts k 0) old
-        → t ≡ withStaging (stateOf s device work) (stage (stagedOf (stateOf s device work)) (put (getD bs k 0) new))
+    pub stage-step : (t : State)
+        → t ≡ withStaging (stateOf s device work) (stage (stagedOf (stateOf s device work)) (put (getD bs k 0) (contentOf i c x bytes (getD ts k 0) (view (stateOf s device work) (getD bs k 0)))))
         → Going i c x bytes goal t (drop (k + 1) (take n bs)) (drop (k + 1) (take n ts))
     unfolding contentIn
-    stage-step t old new eo en et =
-        going-step i c x bytes goal (stateOf s device work) t (getD bs k 0) (getD ts k 0) (drop (k + 1) (take n bs)) (drop (k + 1) (take n ts)) new here
-        (en ∙ ap (contentOf i c x bytes (getD ts k 0)) eo) et
+    stage-step t et =
+        going-step i c x bytes goal (stateOf s device work) t (getD bs k 0) (getD ts k 0) (drop (k + 1) (take n bs)) (drop (k + 1) (take n ts))
+        (contentOf i c x bytes (getD ts k 0) (view (stateOf s device work) (getD bs k 0))) here refl et
 
   pub stage-end : n ≤ k → (q : Session) → q ≡ withStaged s (stagedIn s) → stateOf q device work ≡ goal
   stage-end h q e =

@@ -5,7 +5,7 @@ use mathlib.Core.Bool.{Bool, true, false, cond}
 use mathlib.Core.List.{List, [], _∷_, _++_, map}
 use mathlib.Core.Logic.{_⊎_, inl, inr}
 use native.Mathlib.Omega.{arith}
-use native.Mathlib.Nat.{sub-zero}
+use native.Mathlib.Nat.{add-zero, sub-zero}
 use native.Mathlib.Numerals.{add-one}
 use lib.ListN.{length, take, drop, getD, length-take, drop-of-length-le}
 use lib.Seq.{drop-cons, getD-take, drop-drop}
@@ -40,13 +40,6 @@ module _ (f : ℕ → ℕ → List ℕ) (v : Disk) (a : Agenda) (b tag : ℕ) (w
       → Lists f q (ascending (withChanged v (f b tag) b ws))
   unfolding withChanged ascending
   changed-is q p g = let z : same (f b tag) (v b) ≡ false = sym e ∙ p in rw z (g h)
-
--- the test of a block's content, from what the code compares
-pub same-as : (f : ℕ → ℕ → List ℕ) (v : Disk) (i : ℕ) (c : Change) (x : ℕ) (bytes : List ℕ) (b tag : ℕ) (new old : List ℕ) (r : Bool) → old ≡ v b
-    → new ≡ contentOf i c x bytes tag old → f ≡ contentIn v i c x bytes → r ≡ same new old → r ≡ same (f b tag) (v b)
-unfolding contentIn
-same-as f v i c x bytes b tag new old r eo en ef er =
-    er ∙ ap₂ same (en ∙ ap (contentOf i c x bytes tag) eo ∙ sym (ap (λ (g : ℕ → ℕ → List ℕ). g b tag) ef)) eo
 
 -- ---- data blocks
 
@@ -111,6 +104,31 @@ module _ (v : Disk) (i : ℕ) (c : Change) (x : ℕ) (bytes : List ℕ) where
   pub data-none : (p : ℕ) → length (blocksIn (listed (c .tree .runs))) ≤ p → dataStores v c x bytes p ≡ []
   unfolding dataStores
   data-none p h = let n : length (blocksIn (listed (c .tree .runs))) - p ≡ 0 = omega arith in rw n
+
+  -- d places at which nothing is staged
+  pub data-gap : (d m : ℕ) → ((p : ℕ) → m ≤ p → p < m + d → isStaged (c .tree .held) (c .old) (c .size) x bytes p ≡ false)
+      → dataStores v c x bytes m ≡ dataStores v c x bytes (m + d)
+  data-gap zero m h = ap (dataStores v c x bytes) (sym (add-zero m))
+  data-gap (suc d) m h =
+      one (lt-or-le m (length (blocksIn (listed (c .tree .runs))))) (data-gap d (m + 1) (λ p a b. h p (omega arith) (omega arith)))
+    where
+      one : (m < length (blocksIn (listed (c .tree .runs)))) ⊎ (length (blocksIn (listed (c .tree .runs))) ≤ m)
+          → dataStores v c x bytes (m + 1) ≡ dataStores v c x bytes (m + 1 + d) → dataStores v c x bytes m ≡ dataStores v c x bytes (m + suc d)
+      one (inl l) g =
+          let z : m + 1 + d ≡ m + suc d = omega arith in
+          data-skip m (getD (blocksIn (listed (c .tree .runs))) m 0) l refl (h m (omega arith) (omega arith)) ∙ g ∙ ap (dataStores v c x bytes) z
+      one (inr l) g = data-none m l ∙ sym (data-none (m + suc d) (omega arith))
+
+  pub gap-lists : (a : Agenda) (m n : ℕ) → m ≤ n → ((p : ℕ) → m ≤ p → p < n → isStaged (c .tree .held) (c .old) (c .size) x bytes p ≡ false)
+      → Lists (contentIn v i c x bytes) a (ascending (dataStores v c x bytes n)) → Lists (contentIn v i c x bytes) a (ascending (dataStores v c x bytes m))
+  gap-lists a m n h g l =
+      let z : m + (n - m) ≡ n = omega arith in
+      rw (data-gap (n - m) m (λ p q r. g p q (omega arith)) ∙ ap (dataStores v c x bytes) z) l
+
+  -- the same, told by the numbers of a change
+  pub run-gap : (held old size : ℕ) → Numbers c held old size → (a : Agenda) (m n : ℕ) → m ≤ n → ((p : ℕ) → m ≤ p → p < n → isStaged held old size x bytes p ≡ false)
+      → Lists (contentIn v i c x bytes) a (ascending (dataStores v c x bytes n)) → Lists (contentIn v i c x bytes) a (ascending (dataStores v c x bytes m))
+  run-gap held old size e a m n h g l = gap-lists a m n h (λ p q r. sym (staged-by c held old size x bytes p false e (sym (g p q r)))) l
 
   -- a full agenda lists more stores as well
   pub data-over : (a : Agenda) → 32 < a .len → (d m : ℕ) → Lists (contentIn v i c x bytes) a (ascending (dataStores v c x bytes (m + d)))
@@ -246,10 +264,10 @@ module _ (v : Disk) (i : ℕ) (c : Change) (x : ℕ) (bytes : List ℕ) where
   pub nodes-start : (a : Agenda) → Lists (contentIn v i c x bytes) a (ascending (dataStores v c x bytes 0)) → Lists (contentIn v i c x bytes) a (ascending (nodeStores v c x bytes (c .tree .nodes)))
   nodes-start a l = rw nodes-none l
 
-  pub record-lists : (a : Agenda) (b : ℕ) → b ≡ blockOfInode i
-      → Lists (contentIn v i c x bytes) a (ascending (withChanged v (contentIn v i c x bytes b 1) b (nodeStores v c x bytes 0)))
+  pub record-lists : (a : Agenda)
+      → Lists (contentIn v i c x bytes) a (ascending (withChanged v (contentIn v i c x bytes (blockOfInode i) 1) (blockOfInode i) (nodeStores v c x bytes 0)))
       → Lists (contentIn v i c x bytes) a (ascending (recordStores v i c x bytes))
-  record-lists a b e l = rw (record-changed, ← e) l
+  record-lists a l = rw record-changed l
 
   pub change-lists : (a : Agenda) → Lists (contentIn v i c x bytes) a (ascending (withChanged v (contentIn v i c x bytes 33 0) 33 (recordStores v i c x bytes)))
       → Lists (contentIn v i c x bytes) a (ascending (changeStores v i c x bytes))

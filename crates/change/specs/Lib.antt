@@ -1,2 +1,3 @@
 pub mod Change
 pub mod Contents
+pub mod Window

@@ -4,12 +4,15 @@ use agenda::fits;
 use agenda::insert;
 use agenda::nothing;
 use block::DiskBlock;
+use block::block_in;
+use block::copy;
 use block::copy_of;
-use block::same_block;
-use content::data_content;
+use block::store_block;
 use content::is_staged;
+use content::lay_data;
+use content::lay_record;
 use content::node_content;
-use content::with_record;
+use inode::inode_block;
 use inode::table_block;
 use runs::End;
 use runs::Tree;
@@ -18,23 +21,32 @@ use spec::Finished;
 use spec::Limits;
 use spec::Refusal;
 use spec::Session;
-use transaction::stage;
+use transaction::Place;
+use transaction::spot;
+use transaction::staged_at;
 use transaction::staged_count;
 use transaction::view_block;
+use transaction::with_block;
 ghost use mathlib.Core.Path.{_≡_};
 ghost use mathlib.Core.List.{List, []};
-ghost use Prim.Native.Nat.{ℕ, _+_, _-_, _<_, _≤_};
+ghost use Prim.Native.Nat.{ℕ, _+_, _*_, _-_, _/_, _<_, _≤_};
 ghost use lib.ListN.{length, take, getD};
 ghost use Rattle.spec.specs.Answers.{doneOf};
-ghost use Rattle.spec.specs.Disk.{Disk};
-ghost use Rattle.spec.specs.Inode.{counts};
+ghost use Rattle.spec.specs.Bytes.{exactly, same};
+ghost use Rattle.spec.specs.Disk.{Disk, sliceOf};
+ghost use Rattle.spec.specs.Inode.{counts, blockOfInode};
 ghost use Rattle.spec.specs.Session.{stagedIn, withStaged};
-ghost use Rattle.spec.specs.Transaction.{BlockStore, view, stateOf, ascending, stageEach, stagedOf, withStaging};
+ghost use Rattle.spec.specs.Transaction.{BlockStore, view, stateOf, ascending, put, stage, stageEach, stagedOf, withStaging};
+ghost use Rattle.block.specs.Stores.{storedIn};
+ghost use Rattle.transaction.specs.Places.{spot};
+ghost use Rattle.inode.specs.Records.{bytesIn};
+ghost use Rattle.content.specs.Content.{withRecord};
 ghost use Rattle.spec.specs.Calls.{left, settle, outcome, staging};
 ghost use Rattle.runs.specs.Runs.{Bounded, listed};
 ghost use Rattle.runs.specs.Push.{columns};
 ghost use Rattle.agenda.specs.Agenda.{Lists, storesBy, Rising};
 ghost use Rattle.change.specs.Change.{Change, changeStores};
+ghost use Rattle.change.specs.Window.{Outside};
 ghost use Rattle.change.specs.Contents.{contentOf, contentIn, withChanged, dataStores, nodeStores, placeOf, changeOf, Numbers, IsBlock};
 
 // A change of a file: its tree and the bitmap, the bytes of its record, its size before and after.
@@ -68,8 +80,9 @@ const FIRST_DATA: u32 = 6;
 
 const BITMAP_BLOCK: u32 = 33;
 
-// The content to stage, by the tag, from the block's old content.
-fn content<'a>(
+// A block's content by its tag, from its old content.
+fn edit_block<'a>(
+    block: &mut [u8],
     i: usize,
     table: &'a [u8; 512],
     first: &'a [u32; 512],
@@ -78,68 +91,171 @@ fn content<'a>(
     x: usize,
     bytes: &[u8],
     tag: u32,
-    old: [u8; 512],
-) -> [u8; 512]
-    requires { ⌜ (o .end .len ≤ 512) × (x + length (now bytes) ≤ 1048576) ⌝ }
-    ensures { λ q. ⌜ q ≡ contentOf i (changeOf (now (table .entry)) (now (first .entry)) (now (count .entry)) o) x (now (bytes .entry)) tag old ⌝ }
+)
+    requires { ⌜ (length (now block) ≡ 512) × (o .end .len ≤ 512) × (x + length (now bytes) ≤ 1048576) ⌝ }
+    ensures { λ _. ⌜ now (block .exit) ≡ contentOf i (changeOf (now (table .entry)) (now (first .entry)) (now (count .entry)) o) x (now (bytes .entry)) tag (now (block .entry)) ⌝ }
 {
     if tag == BITMAP {
-        return *table;
+        // A slice made of an array tells the proof its length.
+        let bits: &[u8] = table;
+        copy(bits, block);
+        return;
     }
     if tag == RECORD {
         let new = o.bytes;
-        return with_record(old, i, new);
+        lay_record(block, i, new);
+        return;
     }
     if tag < FIRST_DATA {
         let end = o.end;
-        return node_content(first, count, end, (tag - FIRST_NODE) as usize);
+        let node = node_content(first, count, end, (tag - FIRST_NODE) as usize);
+        let slots: &[u8] = &node;
+        copy(slots, block);
+        return;
     }
-    data_content(
-        o.held,
-        o.old,
-        o.size,
-        x,
-        bytes,
-        (tag - FIRST_DATA) as usize,
-        old,
-    )
+    let p = (tag - FIRST_DATA) as usize;
+    lay_data(block, o.held, o.old, o.size, x, bytes, p);
 }
 
-// The working copy of block b.
-fn block_now<'a>(device: &'a [u8], work: &'a [u8], s: Session, b: u32) -> [u8; 512]
-    ensures { λ q. ⌜ q ≡ view (stateOf s (now (device .entry)) (now (work .entry))) b ⌝ }
+// Whether two slices of one length are equal. No byte ends the loop early, so it compiles to vector code.
+fn same_bytes(a: &[u8], b: &[u8]) -> bool
+    requires { ⌜ length (now a) ≡ length (now b) ⌝ }
+    ensures { λ r. ⌜ r ≡ same (now (a .entry)) (now (b .entry)) ⌝ }
 {
-    copy_of(view_block(device, work, s, DiskBlock(b)))
+    let mut equal = true;
+    let mut k: usize = 0;
+    while k < b.len() {
+        equal = equal & (a[k] == b[k]);
+        k += 1;
+    }
+    equal
 }
 
-// Block b on the agenda, where its content changes.
-fn add_changed<'a>(
+// Whether these bytes stand at a place of a block, which may be cut short.
+pub fn same_at(block: &[u8], at: usize, bytes: &[u8]) -> bool
+    requires { ⌜ at + length (now bytes) ≤ 512 ⌝ }
+    ensures { λ r. ⌜ r ≡ same (bytesIn (now (block .entry)) at (length (now (bytes .entry)))) (now (bytes .entry)) ⌝ }
+{
+    let end = at + bytes.len();
+    if end <= block.len() {
+        return same_bytes(&block[at..end], bytes);
+    }
+    let padded = copy_of(block);
+    let whole: &[u8] = &padded;
+    same_bytes(&whole[at..end], bytes)
+}
+
+// Block b on the agenda, where this content is another than that of the working copy.
+fn add_block<'a>(
+    device: &'a [u8],
+    work: &'a [u8],
+    s: Session,
+    a: Agenda,
+    b: u32,
+    tag: u32,
+    new: &[u8; 512],
+) -> Agenda
+    requires { ⌜ a .len ≤ 33 ⌝ }
+    ensures { λ q. ⌜ ((f : ℕ → ℕ → List ℕ) (ws : List BlockStore) → f b tag ≡ now (new .entry) → Lists f a (ascending ws)
+        → Lists f q (ascending (withChanged (view (stateOf s (now (device .entry)) (now (work .entry)))) (f b tag) b ws))) × (q .len ≤ 33) ⌝ }
+{
+    let bytes: &[u8] = new;
+    if same_at(view_block(device, work, s, DiskBlock(b)), 0, bytes) {
+        return a;
+    }
+    insert(a, b, tag)
+}
+
+// The block of record i on the agenda, where the record's bytes change.
+fn add_record<'a>(
     device: &'a [u8],
     work: &'a [u8],
     s: Session,
     a: Agenda,
     i: usize,
-    table: &'a [u8; 512],
-    first: &'a [u32; 512],
-    count: &'a [u32; 512],
-    o: Outline,
-    x: usize,
-    bytes: &[u8],
-    b: u32,
-    tag: u32,
+    new: [u8; 32],
 ) -> Agenda
-    requires { ⌜ (a .len ≤ 33) × (o .end .len ≤ 512) × (x + length (now bytes) ≤ 1048576) ⌝ }
+    requires { ⌜ (a .len ≤ 33) × (i < 128) ⌝ }
     ensures { λ q. ⌜ ((f : ℕ → ℕ → List ℕ) (ws : List BlockStore)
-        → f ≡ contentIn (view (stateOf s (now (device .entry)) (now (work .entry)))) i (changeOf (now (table .entry)) (now (first .entry)) (now (count .entry)) o) x (now (bytes .entry))
-        → Lists f a (ascending ws)
-        → Lists f q (ascending (withChanged (view (stateOf s (now (device .entry)) (now (work .entry)))) (f b tag) b ws))) × (q .len ≤ 33) ⌝ }
+        → f (blockOfInode i) 1 ≡ withRecord i new (view (stateOf s (now (device .entry)) (now (work .entry))) (blockOfInode i)) → Lists f a (ascending ws)
+        → Lists f q (ascending (withChanged (view (stateOf s (now (device .entry)) (now (work .entry)))) (f (blockOfInode i) 1) (blockOfInode i) ws))) × (q .len ≤ 33) ⌝ }
 {
-    let old = block_now(device, work, s, b);
-    let new = content(i, table, first, count, o, x, bytes, tag, old);
-    if same_block(&new, &old) {
+    let bytes: &[u8] = &new;
+    if same_at(inode_block(device, work, s, i), 32 * (i % 16), bytes) {
         return a;
     }
-    insert(a, b, tag)
+    insert(a, table_block(i), RECORD)
+}
+
+// The lower of two numbers.
+fn least(a: usize, b: usize) -> usize
+    ensures { λ r. ⌜ (r ≤ a) × (r ≤ b) ⌝ }
+{
+    if a < b { a } else { b }
+}
+
+// The first place of a file that holds data, at most `held`.
+fn first_data(held: usize, x: usize, n: usize) -> usize
+    ensures { λ r. ⌜ (r ≤ held) × (0 < n → r ≤ x / 512) ⌝ }
+{
+    if n == 0 {
+        return held;
+    }
+    least(held, x / Limits::BLOCK_SIZE)
+}
+
+// The place of the last kept block, at most `held`.
+fn first_kept(held: usize, old: usize, size: usize) -> usize
+    ensures { λ r. ⌜ (r ≤ held) × (size < old → r ≤ size / 512) ⌝ }
+{
+    if old <= size {
+        return held;
+    }
+    least(held, size / Limits::BLOCK_SIZE)
+}
+
+// The higher of two numbers.
+fn most(a: usize, b: usize) -> usize
+    ensures { λ r. ⌜ (a ≤ r) × (b ≤ r) ⌝ }
+{
+    if a < b { b } else { a }
+}
+
+// The place behind the last kept block, 0 where the file is not shortened.
+fn kept_end(old: usize, size: usize) -> usize
+    ensures { λ r. ⌜ (size < old → size / 512 < r) ⌝ }
+{
+    if old <= size {
+        return 0;
+    }
+    size / Limits::BLOCK_SIZE + 1
+}
+
+// The place behind the data, which ends at this byte.
+fn data_end(end: usize) -> usize
+    requires { ⌜ end ≤ 1048576 ⌝ }
+    ensures { λ r. ⌜ end ≤ 512 * r ⌝ }
+{
+    (end + (Limits::BLOCK_SIZE - 1)) / Limits::BLOCK_SIZE
+}
+
+// Of the places of a file's blocks below `low`, and of those from `high` on that were held before, none is staged.
+pub struct Window {
+    pub low: usize,
+    pub high: usize,
+}
+
+fn window_of(held: usize, old: usize, size: usize, x: usize, bytes: &[u8]) -> Window
+    requires { ⌜ x + length (now bytes) ≤ 1048576 ⌝ }
+    ensures { λ w. ⌜ Outside held old size x (now (bytes .entry)) w ⌝ }
+{
+    let n = bytes.len();
+    let low = least(first_data(held, x, n), first_kept(held, old, size));
+    let high = most(data_end(x + n), kept_end(old, size));
+    Window {
+        low: low,
+        high: high,
+    }
 }
 
 // Data block p of the file, which is block b, on the agenda where it is staged.
@@ -164,9 +280,21 @@ fn add_place(
     a
 }
 
+// From place at + j of the file on to `high`, if that is lower.
+fn down_to(high: usize, at: usize, j: u32) -> u32
+    requires { ⌜ (high ≤ at + j) × (at + j < 9007199254740992) ⌝ }
+    ensures { λ r. ⌜ (r ≤ j) × (high ≤ at + r) ⌝ }
+{
+    if high <= at {
+        return 0;
+    }
+    (high - at) as u32
+}
+
 // n blocks of the file, from the last to the first; the first is block `first` and data block `at` of the file.
 fn add_run(
     a: Agenda,
+    w: Window,
     held: usize,
     old: usize,
     size: usize,
@@ -176,7 +304,7 @@ fn add_run(
     n: u32,
     at: usize,
 ) -> Agenda
-    requires { ⌜ (a .len ≤ 33) × (x + length (now bytes) ≤ 1048576) × (first < 131072) × (at + n ≤ 8192) ⌝ }
+    requires { ⌜ (a .len ≤ 33) × (x + length (now bytes) ≤ 1048576) × (first < 131072) × (at + n ≤ 8192) × Outside held old size x (now bytes) w ⌝ }
     ensures { λ q. ⌜ ((v : Disk) (i : ℕ) (c : Change) → Numbers c held old size → ((j : ℕ) → j < n → IsBlock c (at + j) (first + j))
         → Lists (contentIn v i c x (now (bytes .entry))) a (ascending (dataStores v c x (now (bytes .entry)) (at + n)))
         → Lists (contentIn v i c x (now (bytes .entry))) q (ascending (dataStores v c x (now (bytes .entry)) at))) × (q .len ≤ 33) ⌝ }
@@ -189,7 +317,15 @@ fn add_run(
             return out;
         }
         j -= 1;
-        out = add_place(out, held, old, size, x, bytes, at + (j as usize), first + j);
+        let p = at + (j as usize);
+        if p < w.low {
+            return out;
+        }
+        if (w.high <= p) & (p < held) {
+            j = down_to(w.high, at, j);
+        } else {
+            out = add_place(out, held, old, size, x, bytes, p, first + j);
+        }
     }
     out
 }
@@ -228,6 +364,7 @@ fn add_data<'a>(
         (ascending (dataStores v (changeOf (now (table .entry)) (now (first .entry)) (now (count .entry)) o) x (now (bytes .entry)) 0))) × (q .len ≤ 33) ⌝ }
 {
     let end = o.end;
+    let w = window_of(o.held, o.old, o.size, x, bytes);
     let mut out = nothing();
     let mut k = end.len;
     let mut at = total(count, end);
@@ -235,8 +372,11 @@ fn add_data<'a>(
         k -= 1;
         let b = first[k];
         let n = count[k];
+        let behind = at;
         at -= wide(n);
-        out = add_run(out, o.held, o.old, o.size, x, bytes, b, n, at);
+        if (w.low < behind) & ((at < w.high) | (o.held < behind)) {
+            out = add_run(out, w, o.held, o.old, o.size, x, bytes, b, n, at);
+        }
     }
     out
 }
@@ -275,21 +415,9 @@ fn add_node<'a>(
     let b = node_at(node, j);
     let tag = FIRST_NODE + (j as u32);
     if j < o.before {
-        return add_changed(
-            device,
-            work,
-            s,
-            a,
-            i,
-            table,
-            first,
-            count,
-            o,
-            x,
-            bytes,
-            b,
-            tag,
-        );
+        let end = o.end;
+        let new = node_content(first, count, end, j);
+        return add_block(device, work, s, a, b, tag, &new);
     }
     insert(a, b, tag)
 }
@@ -343,41 +471,86 @@ fn agenda_of<'a>(
 {
     let data = add_data(table, first, count, o, x, bytes);
     let nodes = add_nodes(device, work, s, data, i, table, first, count, o, x, bytes);
+    let new = o.bytes;
+    let record = add_record(device, work, s, nodes, i, new);
+    add_block(device, work, s, record, BITMAP_BLOCK, BITMAP, table)
+}
+
+// Block b of some bytes becomes the first 512 of others, zeros past their end.
+fn store_copy(bytes: &mut [u8], b: DiskBlock, from: &[u8])
+    requires { ⌜ 512 * b .0 + 512 ≤ length (now bytes) ⌝ }
+    ensures { λ _. ⌜ sliceOf (now (bytes .exit)) ≡ storedIn (sliceOf (now (bytes .entry))) (b .0) (exactly 512 (now (from .entry))) ⌝ }
+{
+    if from.len() == Limits::BLOCK_SIZE {
+        let at = Limits::BLOCK_SIZE * (b.0 as usize);
+        let end = at + Limits::BLOCK_SIZE;
+        copy(from, &mut bytes[at..end]);
+        return;
+    }
+    let x = copy_of(from);
+    store_block(bytes, b, &x);
+}
+
+// The image that block b has or gets becomes its working copy: it is that already where b is staged.
+fn load_image(device: &[u8], work: &mut [u8], s: Session, b: DiskBlock)
+    requires { ⌜ (length (now work) ≡ 16384) × (spot s (b .0) < 32) ⌝ }
+    ensures { λ _. ⌜ sliceOf (now (work .exit))
+        ≡ storedIn (sliceOf (now (work .entry))) (spot s (b .0)) (view (stateOf s (now (device .entry)) (now (work .entry))) (b .0)) ⌝ }
+{
+    match staged_at(s, b) {
+        Place::At(_) => {}
+        Place::Nothing => {
+            let n = staged_count(s);
+            store_copy(work, DiskBlock(n as u32), block_in(device, b));
+        }
+    }
+}
+
+// Block b staged with the content of its tag, which is made in its image.
+fn stage_block<'a>(
+    device: &'a [u8],
+    work: &mut [u8],
+    s: Session,
+    i: usize,
+    table: &'a [u8; 512],
+    first: &'a [u32; 512],
+    count: &'a [u32; 512],
+    o: Outline,
+    x: usize,
+    bytes: &[u8],
+    b: u32,
+    tag: u32,
+) -> Session
+    requires { ⌜ (length (now work) ≡ 16384) × (spot s b < 32) × (o .end .len ≤ 512) × (x + length (now bytes) ≤ 1048576) ⌝ }
+    ensures { λ q. ⌜ stateOf q (now (device .entry)) (now (work .exit))
+        ≡ withStaging (stateOf s (now (device .entry)) (now (work .entry))) (stage (stagedOf (stateOf s (now (device .entry)) (now (work .entry))))
+        (put b (contentOf i (changeOf (now (table .entry)) (now (first .entry)) (now (count .entry)) o) x (now (bytes .entry)) tag
+        (view (stateOf s (now (device .entry)) (now (work .entry))) b)))) ⌝ }
+{
+    load_image(device, work, s, DiskBlock(b));
+    let at = Limits::BLOCK_SIZE * spot(s, DiskBlock(b));
+    let end = at + Limits::BLOCK_SIZE;
+    edit_block(&mut work[at..end], i, table, first, count, o, x, bytes, tag);
+    with_block(s, DiskBlock(b))
+}
+
+// The block of record i staged with these bytes of the record.
+pub fn stage_record(device: &[u8], work: &mut [u8], s: Session, i: usize, new: [u8; 32]) -> Session
+    requires { ⌜ (length (now work) ≡ 16384) × (i < 128) × (spot s (blockOfInode i) < 32) ⌝ }
+    ensures { λ q. ⌜ stateOf q (now (device .entry)) (now (work .exit))
+        ≡ withStaging (stateOf s (now (device .entry)) (now (work .entry))) (stage (stagedOf (stateOf s (now (device .entry)) (now (work .entry))))
+        (put (blockOfInode i) (withRecord i new (view (stateOf s (now (device .entry)) (now (work .entry))) (blockOfInode i))))) ⌝ }
+{
     let b = table_block(i);
-    let record = add_changed(
-        device,
-        work,
-        s,
-        nodes,
-        i,
-        table,
-        first,
-        count,
-        o,
-        x,
-        bytes,
-        b,
-        RECORD,
-    );
-    add_changed(
-        device,
-        work,
-        s,
-        record,
-        i,
-        table,
-        first,
-        count,
-        o,
-        x,
-        bytes,
-        BITMAP_BLOCK,
-        BITMAP,
-    )
+    load_image(device, work, s, DiskBlock(b));
+    let at = Limits::BLOCK_SIZE * spot(s, DiskBlock(b));
+    let end = at + Limits::BLOCK_SIZE;
+    lay_record(&mut work[at..end], i, new);
+    with_block(s, DiskBlock(b))
 }
 
 // A count past the array is read as the array's length.
-fn settled(s: Session) -> Session
+pub fn settled(s: Session) -> Session
     ensures { λ q. ⌜ q ≡ withStaged s (stagedIn s) ⌝ }
 {
     let mut q = s;
@@ -414,9 +587,21 @@ fn stage_all<'a>(
     let mut k: usize = 0;
     while k < n {
         let b = blocks[k];
-        let old = block_now(device, work, t, b);
-        let new = content(i, table, first, count, o, x, bytes, tags[k], old);
-        t = stage(work, t, DiskBlock(b), &new);
+        let u = stage_block(
+            device,
+            work,
+            t,
+            i,
+            table,
+            first,
+            count,
+            o,
+            x,
+            bytes,
+            b,
+            tags[k],
+        );
+        t = u;
         k += 1;
     }
     settled(t)

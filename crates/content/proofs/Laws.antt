@@ -5,15 +5,15 @@ use mathlib.Core.Bool.{Bool, true, false, cond, _&&_, true≢false}
 use mathlib.Core.Logic.{_⊎_, inl, inr}
 use mathlib.Core.List.{List, [], _∷_, _++_, append-assoc, append-nil}
 use native.Mathlib.Omega.{arith}
-use native.Mathlib.Nat.{add-zero, sub-zero}
+use native.Mathlib.Nat.{add-zero}
 use native.Mathlib.Numerals.{add-one}
 use borrow.Author.Tests.{eqb-true, le-leb, lt-leb, lt-ltb, le-ltb}
 use lib.Dec.{eqb, leb, ltb}
-use lib.ListN.{length, take, drop, getD, set, length-set, length-append, take-append-drop, drop-of-length-le}
+use lib.ListN.{length, take, drop, getD, set, length-set, length-take, length-append, take-append-drop, drop-of-length-le}
 use lib.Seq.{paste, paste-zero, paste-suc, take-suc-set, drop-set-lt, take-all, drop-cons, append-snoc}
 use Rattle.block.proofs.Steps.{set-exactly}
 use Rattle.spec.specs.Bytes.{exactly, zeros}
-use Rattle.block.proofs.Laws.{lt-or-le}
+use Rattle.block.proofs.Laws.{lt-or-le, exactly-all, exactly-nil}
 use Rattle.spec.specs.declared.Extent.{Extent}
 use Rattle.spec.specs.Inode.{extent, bytesOfSlots}
 use Rattle.spec.specs.Plan.{overlay, isLastKept}
@@ -178,9 +178,50 @@ module _ (x : ℕ) (bytes : List ℕ) (p : ℕ) (old : List ℕ) where
         behind (inl m) = over-past x bytes (512 * p + k) (drop k old) (omega arith)
         behind (inr m) = rw (drop-of-length-le old {i = k} (omega (arith, h .whole)))
 
-pub cut-is : (n : ℕ) (old q : List ℕ) → q ≡ exactly 512 (take (n - 0) old) → q ≡ cutTo n old
+-- ---- a block cleared from a place on
+
+exactly-more : (k : ℕ) (xs : List ℕ) → length xs ≤ k → exactly (suc k) xs ≡ exactly k xs ++ (0 ∷ [])
+exactly-more zero [] h = refl
+exactly-more zero (x ∷ xs) h = absurd (omega arith)
+exactly-more (suc k) [] h = ap (λ (l : List ℕ). 0 ∷ l) (exactly-more k [] (omega arith))
+exactly-more (suc k) (x ∷ xs) h = ap (λ (l : List ℕ). x ∷ l) (exactly-more k xs (omega arith))
+
+-- the first n bytes are as they were, those from there to k are zero
+pub record ClearedTo (n : ℕ) (old q : List ℕ) (k : ℕ) : Type 0 where
+  pub low : n ≤ k
+  pub high : k ≤ 512
+  pub long : length q ≡ 512
+  pub front : take k q ≡ exactly k (take n old)
+
+pub clear-start : (n : ℕ) (old : List ℕ) → length old ≡ 512 → n ≤ 512 → ClearedTo n old old n
+clear-start n old l h =
+    let m : length (take n old) ≡ n = simp length-take (omega arith) in
+    record { low = omega arith; high = h; long = l; front = sym (exactly-all n (take n old) m) }
+
+module _ (n : ℕ) (old q : List ℕ) (k : ℕ) (c : ClearedTo n old q k) where
+  pub clear-more : k < length q → ClearedTo n old (set q k 0) (k + 1)
+  clear-more h =
+      let low = c .low in
+      let long = c .long in
+      let m : length (take n old) ≤ k = simp length-take (omega arith) in
+      record {
+        low = omega arith;
+        high = omega arith;
+        long = length-set q k 0 ∙ c .long;
+        front = rw (add-one k) (take-suc-set q k 0 h ∙ ap (λ (l : List ℕ). l ++ (0 ∷ [])) (c .front) ∙ sym (exactly-more k (take n old) m));
+      }
+
+  pub clear-end : length q ≤ k → q ≡ cutTo n old
+  unfolding cutTo
+  clear-end h =
+      let high = c .high in
+      let long = c .long in
+      let e : k ≡ 512 = omega arith in
+      sym (take-all k q h) ∙ c .front ∙ ap (λ (m : ℕ). exactly m (take n old)) e
+
+pub cut-none : (old q : List ℕ) → q ≡ cutTo 0 old → q ≡ zeros 512
 unfolding cutTo
-cut-is n old q e = e ∙ ap (λ (m : ℕ). exactly 512 (take m old)) (sub-zero n)
+cut-none old q e = e ∙ exactly-nil 512
 
 -- the size of the last kept block
 last-kept : (oldSize size p : ℕ) → isLastKept oldSize size p ≡ true → size - 512 * p ≡ size % 512
@@ -193,9 +234,9 @@ last-kept oldSize size p h = go (ltb size oldSize) (eqb (size % 512) 0) (eqb p (
     go false b false ea eb ec = let z : false ≡ true = rw ea at h in absurd (true≢false (sym z))
 
 module _ (held oldSize size p : ℕ) (old : List ℕ) where
-  pub kept-new : held ≤ p → zeros 512 ≡ keptContent held oldSize size p old
+  pub kept-new : held ≤ p → (q : List ℕ) → q ≡ zeros 512 → q ≡ keptContent held oldSize size p old
   unfolding keptContent
-  kept-new h = rw (le-leb held p h)
+  kept-new h q e = e ∙ rw (le-leb held p h)
 
   pub kept-cut : p < held → isLastKept oldSize size p ≡ true → (q : List ℕ) → q ≡ cutTo (size % 512) old → q ≡ keptContent held oldSize size p old
   unfolding keptContent cutTo

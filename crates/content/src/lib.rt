@@ -1,5 +1,4 @@
 // The content of a block after a change: a file record's block, a node, a data block.
-use block::copy_of;
 use runs::End;
 use spec::Extent;
 use spec::Limits;
@@ -15,18 +14,17 @@ ghost use Rattle.runs.specs.Runs.{Bounded, listed, levelsIn};
 ghost use Rattle.runs.specs.Push.{columns};
 ghost use Rattle.content.specs.Content.{treeOf, withRecord, nodeContent, countsBelow, slotsAbove, laidOver, cutTo, keptContent, dataContent};
 
-// The block of file record i with the record's bytes replaced.
-pub fn with_record(old: [u8; 512], i: usize, new: [u8; 32]) -> [u8; 512]
-    ensures { λ q. ⌜ q ≡ withRecord i new old ⌝ }
+// The bytes of file record i replaced in its block.
+pub fn lay_record(block: &mut [u8], i: usize, new: [u8; 32])
+    requires { ⌜ length (now block) ≡ 512 ⌝ }
+    ensures { λ _. ⌜ now (block .exit) ≡ withRecord i new (now (block .entry)) ⌝ }
 {
     let at = 32 * (i % 16);
-    let mut q = old;
     let mut k: usize = 0;
     while k < 32 {
-        q[at + k] = new[k];
+        block[at + k] = new[k];
         k += 1;
     }
-    q
 }
 
 // How many of so many extents stand in node j.
@@ -236,20 +234,18 @@ fn within(start: usize, at: usize) -> usize
 }
 
 // The data from place x of the file on, laid over the file's block p.
-fn lay_over(old: [u8; 512], x: usize, bytes: &[u8], p: usize) -> [u8; 512]
-    requires { ⌜ (p < 4294967296) × (x + length (now bytes) ≤ 1048576) ⌝ }
-    ensures { λ q. ⌜ q ≡ laidOver x (now (bytes .entry)) p old ⌝ }
+fn lay_over(block: &mut [u8], x: usize, bytes: &[u8], p: usize)
+    requires { ⌜ (length (now block) ≡ 512) × (p < 4294967296) × (x + length (now bytes) ≤ 1048576) ⌝ }
+    ensures { λ _. ⌜ now (block .exit) ≡ laidOver x (now (bytes .entry)) p (now (block .entry)) ⌝ }
 {
     let start = Limits::BLOCK_SIZE * p;
     let from = within(start, x);
     let end = within(start, x + bytes.len());
-    let mut q = old;
     let mut k = from;
     while k < end {
-        q[k] = bytes[start + k - x];
+        block[k] = bytes[start + k - x];
         k += 1;
     }
-    q
 }
 
 // "on shortening to a size not divisible by 512, the last kept block"
@@ -276,40 +272,45 @@ pub fn is_staged(held: usize, was: usize, size: usize, x: usize, bytes: &[u8], p
     (held <= p) | holds_data(x, bytes, p) | is_last_kept(was, size, p)
 }
 
-// The first n bytes, and zeros.
-fn cut_to(old: [u8; 512], n: usize) -> [u8; 512]
-    requires { ⌜ n ≤ 512 ⌝ }
-    ensures { λ q. ⌜ q ≡ cutTo n old ⌝ }
+// The bytes of a block from place n on made zero.
+fn clear_from(block: &mut [u8], n: usize)
+    requires { ⌜ (length (now block) ≡ 512) × (n ≤ 512) ⌝ }
+    ensures { λ _. ⌜ now (block .exit) ≡ cutTo n (now (block .entry)) ⌝ }
 {
-    let bytes: &[u8] = &old;
-    copy_of(&bytes[0..n])
+    let mut k = n;
+    while k < block.len() {
+        block[k] = 0;
+        k += 1;
+    }
 }
 
 // Block p of the file before the data is laid over it: a new one is zeros, in the last kept one the bytes from the size on are.
-fn kept_content(held: usize, was: usize, size: usize, p: usize, old: [u8; 512]) -> [u8; 512]
-    ensures { λ q. ⌜ q ≡ keptContent held was size p old ⌝ }
+fn clear_block(block: &mut [u8], held: usize, was: usize, size: usize, p: usize)
+    requires { ⌜ length (now block) ≡ 512 ⌝ }
+    ensures { λ _. ⌜ now (block .exit) ≡ keptContent held was size p (now (block .entry)) ⌝ }
 {
     if held <= p {
-        return [0u8; 512];
+        clear_from(block, 0);
+        return;
     }
     if is_last_kept(was, size, p) {
-        return cut_to(old, size % Limits::BLOCK_SIZE);
+        clear_from(block, size % Limits::BLOCK_SIZE);
     }
-    old
 }
 
-// Block p of the file after the change.
-pub fn data_content(
+// Block p of the file as the change leaves it.
+pub fn lay_data(
+    block: &mut [u8],
     held: usize,
     was: usize,
     size: usize,
     x: usize,
     bytes: &[u8],
     p: usize,
-    old: [u8; 512],
-) -> [u8; 512]
-    requires { ⌜ (p < 4294967296) × (x + length (now bytes) ≤ 1048576) ⌝ }
-    ensures { λ q. ⌜ q ≡ dataContent held was size x (now (bytes .entry)) p old ⌝ }
+)
+    requires { ⌜ (length (now block) ≡ 512) × (p < 4294967296) × (x + length (now bytes) ≤ 1048576) ⌝ }
+    ensures { λ _. ⌜ now (block .exit) ≡ dataContent held was size x (now (bytes .entry)) p (now (block .entry)) ⌝ }
 {
-    lay_over(kept_content(held, was, size, p, old), x, bytes, p)
+    clear_block(block, held, was, size, p);
+    lay_over(block, x, bytes, p);
 }

@@ -14,6 +14,10 @@ use Rattle.runs.specs.declared.End.{End}
 abbrev pub columns : List ℕ → List ℕ → End → Runs
 columns first count end = record { first = first; count = count; len = end .len; next = end .next }
 
+-- no extents
+abbrev pub noEnd : End
+noEnd = record { len = 0; next = 0 }
+
 -- the columns of a list of extents
 unfoldable pub firsts : List Extent → List ℕ
 firsts es = map (λ e. e .first) es

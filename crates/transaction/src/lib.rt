@@ -57,7 +57,7 @@ pub fn view_block<'a>(device: &'a [u8], work: &'a [u8], s: Session, b: DiskBlock
 }
 
 // The place among the images that block b has or gets.
-fn spot(s: Session, b: DiskBlock) -> usize
+pub fn spot(s: Session, b: DiskBlock) -> usize
     ensures { λ i. ⌜ i ≡ spot s (b .0) ⌝ }
 {
     match staged_at(s, b) {
@@ -67,7 +67,7 @@ fn spot(s: Session, b: DiskBlock) -> usize
 }
 
 // The session with block b staged.
-fn with_block(s: Session, b: DiskBlock) -> Session
+pub fn with_block(s: Session, b: DiskBlock) -> Session
     requires { ⌜ spot s (b .0) < 32 ⌝ }
     ensures { λ q. ⌜ q ≡ withStaged s (blocksWith s (b .0)) ⌝ }
 {

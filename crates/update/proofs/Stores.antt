@@ -16,7 +16,6 @@ use Rattle.spec.specs.Inode.{inodeAt, dataOf, levelsOf, nodesOf, inodeWith, byt
 use Rattle.spec.specs.Transaction.{BlockStore, put}
 use Rattle.spec.specs.Plan as plan
 use Rattle.spec.specs.Plan.{Edit, edit, ifChanged, storesOf, inodeEdit, bitmapEdit, nodeEdits, levelEdits, dataEdits, lowestLevel, surplus, resized, fits, creates, removes, renames, rewrites}
-use Rattle.block.proofs.Laws.{same-self}
 use Rattle.lists.specs.Extents.{runs-blocks}
 use Rattle.inode.proofs.Laws.{drop-take}
 use Rattle.runs.specs.declared.Tree.{Tree}
@@ -25,8 +24,9 @@ use Rattle.spec.specs.Answers.{accept}
 use Rattle.checks.specs.declared.Checked.{Checked}
 use Rattle.checks.specs.declared.Checked.the-variants.{Fine, Bad}
 use Rattle.alloc.specs.declared.Draft.{Draft}
-use Rattle.alloc.specs.Draft.{resizedAt, tableOf, Built, resultWith, Drafted}
+use Rattle.alloc.specs.Draft.{resizedAt, tableOf, Built, resultWith, treeIn, Drafted}
 use Rattle.change.specs.declared.Change.{Change}
+use Rattle.content.specs.Content.{withRecord}
 use Rattle.change.specs.Change.{changeStores}
 use Rattle.update.specs.Records.{recordStores}
 
@@ -96,8 +96,8 @@ accept-fine : (c : Checked) (t u : plan.Tree) → accept u ≡ resultWith c t �
 accept-fine Fine t u e = refl
 accept-fine (Bad r) t u e = cc
 
-pub emptied-fits : (v : Disk) (i : ℕ) (d : Draft) → Drafted v i 0 d → Built v i 0 (d .tree)
-emptied-fits v i d h =
+pub emptied-fits : (v : Disk) (i : ℕ) (table first count : List ℕ) (d : Draft) → Drafted v i 0 table first count d → Built v i 0 (treeIn table first count d)
+emptied-fits v i table first count d h =
     h .tree (accept-fine (d .verdict) _ _ (sym (emptied-accepts (bitsOf (v 33)) (dataOf v (inodeAt v i)) (levelsOf v (inodeAt v i))) ∙ h .verdict))
 
 -- the levels of a tree as code holds it: none, or one
@@ -130,20 +130,23 @@ module _ (v : Disk) where
           let q : same (h (v b)) (v b) ≡ false = ap (λ (z : List ℕ). same z (v b)) (sym e) ∙ p in
           rw (p, q) (ap₂ (λ (z : List ℕ) (ws : List BlockStore). put b z ∷ ws) e t)
 
-  -- one that changes nothing
-  stores-same : (b : ℕ) (y : List ℕ) (xs : List Edit) → y ≡ v b → storesOf v (ifChanged v (edit b (λ old. y)) ++ xs) ≡ storesOf v xs
-  stores-same b y xs e = rw (e, same-self (v b))
-
   -- ---- changes of the record, and of bitmap and record
+
+  -- the record's block, or nothing
+  module _ (i : ℕ) (bytes : List ℕ) where
+    pub record-same : same (withRecord i bytes (v (blockOfInode i))) (v (blockOfInode i)) ≡ true → recordStores v i bytes ≡ []
+    unfolding recordStores withRecord
+    record-same h = rw h
+
+    pub record-other : same (withRecord i bytes (v (blockOfInode i))) (v (blockOfInode i)) ≡ false
+        → recordStores v i bytes ≡ put (blockOfInode i) (withRecord i bytes (v (blockOfInode i))) ∷ []
+    unfolding recordStores withRecord
+    record-other h = rw h
 
   module _ (i : ℕ) (c : Change) (x : ℕ) (bytes : List ℕ) (nodes : nodesIn (c .tree) ≡ []) (extents : listed (c .tree .runs) ≡ []) where
     both-alone : storesOf v (ifChanged v (edit 33 (λ old. c .tree .table)) ++ ifChanged v (inodeEdit i (c .record))) ≡ changeStores v i c x bytes
     unfolding changeStores blocksIn
     both-alone = rw (nodes, extents, append-nil (ifChanged v (inodeEdit i (c .record))))
-
-    pub record-alone : c .tree .table ≡ v 33 → recordStores v i (c .record) ≡ changeStores v i c x bytes
-    unfolding recordStores
-    record-alone h = sym (stores-same 33 (c .tree .table) (ifChanged v (inodeEdit i (c .record))) h) ∙ both-alone
 
   pub create-stores : (i : ℕ) (name bytes : List ℕ) → bytes ≡ bytesOfInode (inodeWith name 0 [] []) → creates v i name ≡ recordStores v i bytes
   unfolding creates recordStores

@@ -6,21 +6,27 @@ use block::copy_of;
 use block::load;
 use change::Outline;
 use change::apply;
+use change::same_at;
+use change::settled;
+use change::stage_record;
 use checks::Checked;
+use checks::done;
 use checks::refused;
 use content::record_bytes;
 use inode::inode_block;
 use inode::name_of;
 use inode::size_of;
+use inode::table_block;
 use lookup::Looked;
 use lookup::look_up;
 use lookup::look_up_new;
 use lookup::look_up_pair;
 use lookup::look_up_sized;
-use runs::End;
 use spec::Finished;
 use spec::Limits;
+use spec::Refusal;
 use spec::Session;
+use transaction::spot;
 use transaction::view_block;
 ghost use mathlib.Core.Path.{_≡_};
 ghost use Prim.Native.Nat.{_+_, _<_, _≤_, max};
@@ -45,31 +51,14 @@ fn change_record(
         (staging (stateOf session (now (device .entry)) (now (work .entry)))
         (recordStores (view (stateOf session (now (device .entry)) (now (work .entry)))) i bytes)) ⌝ }
 {
-    let table = copy_of(view_block(device, work, session, DiskBlock(33)));
-    let none = [0u32; 512];
-    let end = End { len: 0, next: 0 };
-    let o = Outline {
-        end: end,
-        node: [0u32; 4],
-        nodes: 0,
-        before: 0,
-        held: 0,
-        bytes: bytes,
-        old: 0,
-        size: 0,
-    };
-    apply(
-        device,
-        work,
-        session,
-        i,
-        &table,
-        &none,
-        &none,
-        o,
-        0,
-        &device[0..0],
-    )
+    let new: &[u8] = &bytes;
+    if same_at(inode_block(device, work, session, i), 32 * (i % 16), new) {
+        return done(settled(session));
+    }
+    if Limits::LOG_LENGTH <= spot(session, DiskBlock(table_block(i))) {
+        return refused(session, Refusal::TooManyStaged);
+    }
+    done(stage_record(device, work, session, i, bytes))
 }
 
 fn byte_named(name: &[u8], block: &[u8], at: usize, k: usize) -> u8
@@ -133,19 +122,28 @@ pub fn remove(device: &[u8], work: &mut [u8], session: Session, name: &[u8]) -> 
     match look_up(device, work, session, name) {
         Looked::Bad(why) => refused(session, why),
         Looked::At(i) => {
-            let d = draft_of(device, work, session, i, 0);
-            let tree = d.tree;
-            let node = tree.node;
-            let end = End {
-                len: tree.runs.len,
-                next: tree.runs.next,
-            };
+            let mut table = copy_of(view_block(device, work, session, DiskBlock(33)));
+            let mut first = [0u32; 512];
+            let mut count = [0u32; 512];
+            let wanted: usize = 0;
+            let d = draft_of(
+                &mut table,
+                &mut first,
+                &mut count,
+                device,
+                work,
+                session,
+                i,
+                wanted,
+            );
+            let node = d.node;
+            let end = d.end;
             let gone = Outline {
                 end: end,
                 node: node,
-                nodes: tree.nodes,
-                before: tree.before,
-                held: tree.held,
+                nodes: d.nodes,
+                before: d.before,
+                held: d.held,
                 bytes: [0u8; 32],
                 old: 0,
                 size: 0,
@@ -155,9 +153,9 @@ pub fn remove(device: &[u8], work: &mut [u8], session: Session, name: &[u8]) -> 
                 work,
                 session,
                 i,
-                &tree.table,
-                &tree.runs.first,
-                &tree.runs.count,
+                &table,
+                &first,
+                &count,
                 gone,
                 0,
                 &name[0..0],
@@ -194,34 +192,42 @@ fn resize(
     ensures { λ r. ⌜ left (r .session) (now (device .entry)) (now (work .exit)) (doneOf (r .answer))
         ≡ settle (outcome (stateOf session (now (device .entry)) (now (work .entry)))) (rewrite (stateOf session (now (device .entry)) (now (work .entry))) i size x (now (bytes .entry))) ⌝ }
 {
-    let d = draft_of(device, work, session, i, blocks_for(size));
-    let tree = d.tree;
+    let mut table = copy_of(view_block(device, work, session, DiskBlock(33)));
+    let mut first = [0u32; 512];
+    let mut count = [0u32; 512];
+    let d = draft_of(
+        &mut table,
+        &mut first,
+        &mut count,
+        device,
+        work,
+        session,
+        i,
+        blocks_for(size),
+    );
     let verdict = d.verdict;
     match verdict {
         Checked::Bad(why) => refused(session, why),
         Checked::Fine => {
-            let table = inode_block(device, work, session, i);
-            let old = wide(size_of(table, i));
-            let node = tree.node;
-            let end = End {
-                len: tree.runs.len,
-                next: tree.runs.next,
-            };
+            let records = inode_block(device, work, session, i);
+            let old = wide(size_of(records, i));
+            let node = d.node;
+            let end = d.end;
             let record = record_bytes(
-                name_of(table, i),
+                name_of(records, i),
                 size,
-                &tree.runs.first,
-                &tree.runs.count,
+                &first,
+                &count,
                 end,
                 node,
-                tree.nodes,
+                d.nodes,
             );
             let o = Outline {
                 end: end,
                 node: node,
-                nodes: tree.nodes,
-                before: tree.before,
-                held: tree.held,
+                nodes: d.nodes,
+                before: d.before,
+                held: d.held,
                 bytes: record,
                 old: old,
                 size: size,
@@ -231,9 +237,9 @@ fn resize(
                 work,
                 session,
                 i,
-                &tree.table,
-                &tree.runs.first,
-                &tree.runs.count,
+                &table,
+                &first,
+                &count,
                 o,
                 x,
                 bytes,

@@ -1,9 +1,10 @@
 use borrow.Author.Needs.{needs}
 use Prim.Native.Nat.{_-_}
-use mathlib.Core.Path.{refl, _∙_}
+use mathlib.Core.Path.{refl}
 use native.Mathlib.Omega.{arith}
 use Rattle.spec.specs.Disk.{Disk}
 use Rattle.spec.specs.Transaction.{view, stateOf}
+use Rattle.runs.specs.Push.{columns}
 use Rattle.alloc.proofs.Plan.{Begun, Chosen, kept-few, held-few, no-space, no-space-nodes, too-many, drafted}
 use Rattle.alloc.proofs.draft_of.Statement.{statement}
 use Rattle.alloc.proofs.draft_of.Tie as tie
@@ -13,21 +14,21 @@ abbrev disk : tie.Start → Disk
 disk c = view (stateOf (c .args .s) (c .args .device .now) (c .args .work .now))
 
 begun : (c : tie.After-struct-known)
-    → Begun (disk (c .before .before .before .before .before .before .before .before)) (c .before .before .before .before .before .before .before .before .args .i) (c .before .before .before .before .before .before .before .before .args .wanted) (c .before .before .before .before .copy-of .result) (c .before .before .free-count .result) (c .before .keep .result) (c .before .before .before .before .before .before .before .before .args .wanted - c .before .keep .result .count)
+    → Begun (disk (c .before .before .before .before .before .before .before .before)) (c .before .before .before .before .before .before .before .before .args .i) (c .before .before .before .before .before .before .before .before .args .wanted) (c .before .before .before .before .before .before .before .before .args .table .now) (c .before .before .before .before .free-count .result) (columns (c .before .keep .last .0) (c .before .keep .last .1 .0) (c .before .keep .result .end)) (c .before .keep .result .count) (c .before .before .before .before .before .before .before .before .args .wanted - c .before .keep .result .count)
 begun c =
     record {
-      table = c .before .before .before .before .copy-of .ensures ∙ c .before .before .before .before .before .view-block .ensures;
-      isFree = c .before .before .free-count .ensures .0;
-      few = c .before .before .free-count .ensures .1;
+      table = c .before .before .before .before .before .before .before .before .pre .2;
+      isFree = c .before .before .before .before .free-count .ensures .0;
+      few = c .before .before .before .before .free-count .ensures .1;
       keeps = c .before .keep .ensures;
       isFresh = refl;
     }
 
 chosen : (c : tie.After-minus)
-    → Chosen (disk (c .before .before .before .before .before .before .before .before .before .before .before .before .before .before)) (c .before .before .before .before .before .before .before .before .before .before .before .before .before .before .args .i) (c .before .before .before .before .before .before .before .before .before .before .copy-of .result) (c .before .before .before .before .before .before .before .before .free-count .result) (c .before .before .before .before .before .before .before .keep .result) (c .before .before .before .before .before .before .before .before .before .before .before .before .before .before .args .wanted - c .before .before .before .before .before .before .before .keep .result .count) (c .before .before .before .take-data .last .0) (c .before .before .before .take-data .result) (c .before .before .held-nodes .result) (c .before .nodes-for .result) (c .minus .result)
+    → Chosen (disk (c .before .before .before .before .before .before .before .before .before .before .before .before .before .before .before .before)) (c .before .before .before .before .before .before .before .before .before .before .before .before .before .before .before .before .args .i) (c .before .before .before .before .before .before .before .before .before .before .before .before .before .before .before .before .args .table .now) (c .before .before .before .before .before .before .before .before .before .before .before .before .free-count .result) (columns (c .before .before .before .before .before .before .before .before .before .keep .last .0) (c .before .before .before .before .before .before .before .before .before .keep .last .1 .0) (c .before .before .before .before .before .before .before .before .before .keep .result .end)) (c .before .before .before .before .before .before .before .before .before .keep .result .count) (c .before .before .before .before .before .before .before .before .before .before .before .before .before .before .before .before .args .wanted - c .before .before .before .before .before .before .before .before .before .keep .result .count) (c .before .before .before .take-data .last .0) (columns (c .before .before .before .take-data .last .1 .0) (c .before .before .before .take-data .last .1 .1 .0) (c .before .before .before .take-data .result)) (c .before .before .held-nodes .result) (c .before .nodes-for .result) (c .minus .result)
 chosen c =
     record {
-      fit = c .before .before .before .before .before .if1 .left;
+      fit = c .before .before .before .before .before .before .before .if1 .left;
       took = c .before .before .before .take-data .ensures;
       holds = c .before .before .held-nodes .ensures;
       isNodes = c .before .nodes-for .ensures .0;
@@ -35,29 +36,23 @@ chosen c =
       isLack = c .minus .ensures;
     }
 
-view-block-requires : tie.Need-view-block-requires
-view-block-requires c κs = search needs
-
-copy-of-requires : tie.Need-copy-of-requires
-copy-of-requires c κs = search needs
-
 free-count-requires : tie.Need-free-count-requires
 free-count-requires c κs = search needs
 
 keep-requires : tie.Need-keep-requires
-keep-requires c κs = search needs
+keep-requires c κs = (c .before .before .before .before .before .before .pre .0, c .before .before .before .before .before .before .pre .3)
 
 sub-fresh : tie.Need-sub-fresh
-sub-fresh c = kept-few _ _ _ (c .before .keep .ensures)
+sub-fresh c = kept-few _ _ _ _ (c .before .keep .ensures)
 
 refused-requires : tie.Need-refused-requires
 refused-requires c κs = search needs
 
 returns : tie.Need-returns
-returns c = no-space _ _ _ _ _ _ _ (begun (c .before .before)) (c .before .if1 .taken) _ (c .refused .ensures)
+returns c = no-space _ _ _ _ _ _ _ _ (begun (c .before .before)) (c .before .if1 .taken) _ _ _ _ (c .refused .ensures)
 
 take-data-requires : tie.Need-take-data-requires
-take-data-requires c κs = search needs
+take-data-requires c κs = (c .before .before .before .before .before .keep .ensures .small, c .before .before .before .before .before .keep .ensures .few, omega (arith, c .before .before .before .if1 .left, c .before .before .before .before .before .before .before .before .free-count .ensures .0), omega (arith, c .before .before .before .if1 .left, c .before .before .before .before .before .before .before .before .free-count .ensures .1))
 
 held-nodes-requires : tie.Need-held-nodes-requires
 held-nodes-requires c κs = search needs
@@ -75,19 +70,19 @@ refused-requires-2 : tie.Need-refused-requires-2
 refused-requires-2 c κs = search needs
 
 returns-2 : tie.Need-returns-2
-returns-2 c = no-space-nodes _ _ _ _ _ _ _ (begun (c .before .before .before .before .before .before .before .before)) _ _ _ _ _ (chosen (c .before .before)) (c .before .if2 .taken) _ (c .refused2 .ensures)
+returns-2 c = no-space-nodes _ _ _ _ _ _ _ _ (begun ((c .before .before) .before .before .before .before .before .before .before .before)) _ _ _ _ _ (chosen (c .before .before)) (c .before .if2 .taken) _ _ _ _ (c .refused2 .ensures)
 
 refused-requires-3 : tie.Need-refused-requires-3
 refused-requires-3 c κs = search needs
 
 returns-3 : tie.Need-returns-3
-returns-3 c = too-many _ _ _ _ _ _ _ (begun (c .before .before .before .before .before .before .before .before .before .before)) _ _ _ _ _ (chosen (c .before .before .before .before)) (c .before .before .before .if2 .left) (c .before .if3 .taken) _ (c .refused3 .ensures)
+returns-3 c = too-many _ _ _ _ _ _ _ _ (begun (c .before .before .before .before .before .before .before .before .before .before .before .before)) _ _ _ _ _ (chosen (c .before .before .before .before)) (c .before .before .before .if2 .left) (c .before .if3 .taken) _ _ _ _ (c .refused3 .ensures)
 
 take-nodes-requires : tie.Need-take-nodes-requires
 take-nodes-requires c κs = search needs
 
 give-back-requires : tie.Need-give-back-requires
-give-back-requires c κs = c .before .before .before .before .before .before .before .before .before .before .before .before .before .before .before .before .before .before .before .before .pre .0
+give-back-requires c κs = c .before .before .before .before .before .before .before .before .before .before .before .before .before .before .before .before .before .before .before .before .before .before .pre .0
 
 give-nodes-requires : tie.Need-give-nodes-requires
 give-nodes-requires c κs = search needs
@@ -95,18 +90,16 @@ give-nodes-requires c κs = search needs
 known-requires : tie.Need-known-requires
 known-requires c κs = search needs
 
-add-t24 : tie.Need-add-t24
-add-t24 c = omega (arith, held-few _ (c .before .before .before .before .before .before .before .before .before .before .before .before .before .before .before .before .before .before .before .before .before .before .before .before .before .args .i) (c .before .before .before .before .before .before .before .before .before .before .before .before .before .before .before .before .before .before .before .before .before .before .before .before .before .args .wanted) _ _ _ _ (c .before .before .before .before .before .before .before .before .before .before .before .before .before .before .before .before .before .before .keep .ensures) (c .before .before .before .before .give-back .ensures))
+add-t26 : tie.Need-add-t26
+add-t26 c = omega (arith, held-few _ (c .before .before .before .before .before .before .before .before .before .before .before .before .before .before .before .before .before .before .before .before .before .before .before .before .before .before .before .before .args .i) (c .before .before .before .before .before .before .before .before .before .before .before .before .before .before .before .before .before .before .before .before .before .before .before .before .before .before .before .before .args .wanted) _ _ _ _ _ (c .before .before .before .before .before .before .before .before .before .before .before .before .before .before .before .before .before .before .before .before .before .keep .ensures) (c .before .before .before .before .before .give-back .ensures))
 
 returns-4 : tie.Need-returns-4
-returns-4 c = drafted _ _ _ _ _ _ _ (begun (c .before .before .before .before .before .before .before .before .before .before .before .before .before .before .before .before .before)) _ _ _ _ _ (chosen (c .before .before .before .before .before .before .before .before .before .before .before)) (c .before .before .before .before .before .before .before .before .before .before .if2 .left) (c .before .before .before .before .before .before .before .before .if3 .left) _ _ _ _ (c .before .before .before .before .before .before .take-nodes .ensures) _ (c .before .before .before .before .give-back .ensures) (c .before .before .give-nodes .ensures) (c .before .known .ensures)
+returns-4 c = drafted _ _ _ _ _ _ _ _ (begun (c .before .before .before .before .before .before .before .before .before .before .before .before .before .before .before .before .before .before .before .before)) _ _ _ _ _ (chosen (c .before .before .before .before .before .before .before .before .before .before .before .before)) (c .before .before .before .before .before .before .before .before .before .before .before .if2 .left) (c .before .before .before .before .before .before .before .before .before .if3 .left) _ _ _ _ (c .before .before .before .before .before .before .before .take-nodes .ensures) _ (c .before .before .before .before .before .give-back .ensures) (c .before .before .before .give-nodes .ensures) (c .before .known .ensures)
 
 pub draft-of-spec : {M : Type 1} → statement M
 draft-of-spec =
     tie.close
     (tie.spec
-    view-block-requires
-    copy-of-requires
     free-count-requires
     keep-requires
     sub-fresh
@@ -125,5 +118,5 @@ draft-of-spec =
     give-back-requires
     give-nodes-requires
     known-requires
-    add-t24
+    add-t26
     returns-4)

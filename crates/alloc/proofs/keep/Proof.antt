@@ -1,11 +1,10 @@
 use borrow.Author.Needs.{needs}
 use Prim.Native.Nat.{_-_}
-use mathlib.Core.Path.{refl}
 use native.Mathlib.Omega.{arith}
 use lib.ListN.{length, take}
 use Rattle.spec.specs.Transaction.{view, stateOf}
 use Rattle.runs.specs.Push.{columns}
-use Rattle.runs.proofs.Laws.{holds-none, small-none}
+use Rattle.runs.proofs.Laws.{holds-none}
 use Rattle.alloc.specs.Parts.{dataAt}
 use Rattle.extents.specs.Stretches.{pending}
 use Rattle.extents.proofs.Laws.{on-piece, on-last, piece-less}
@@ -14,11 +13,11 @@ use Rattle.alloc.proofs.keep.Statement.{statement}
 use Rattle.alloc.proofs.keep.Tie as tie
 
 abbrev Inv-loop : tie.InvT-loop
-Inv-loop device work s i wanted tb scan₀ first₀ count₀ end₀ n₀ scan first count end n =
+Inv-loop first₀ count₀ device work s i wanted tb scan₀ end₀ n₀ first count scan end n =
     Keeping (view (stateOf s device work)) tb (take wanted (dataAt (view (stateOf s device work)) i)) scan (columns first count end) n
 
 abbrev μ-loop : tie.MeasureT-loop
-μ-loop device work s i wanted tb scan₀ first₀ count₀ end₀ n₀ scan first count end n = length (pending (view (stateOf s device work)) tb scan)
+μ-loop first₀ count₀ device work s i wanted tb scan₀ end₀ n₀ first count scan end n = length (pending (view (stateOf s device work)) tb scan)
 
 table-block-requires : tie.Need-table-block-requires Inv-loop μ-loop
 table-block-requires c κs = search needs
@@ -27,7 +26,7 @@ stretch-requires : tie.Need-stretch-requires Inv-loop μ-loop
 stretch-requires c κs = search needs
 
 loop-holds : tie.Need-loop-holds Inv-loop μ-loop
-loop-holds c = keep-start _ _ _ _ _ _ (c .before .table-block .ensures) (c .stretch .ensures) (holds-none _ _) (small-none _ _ refl refl)
+loop-holds c = keep-start _ _ _ _ _ _ (c .before .table-block .ensures) (c .stretch .ensures) (holds-none _ _) (c .before .before .before .before .pre .1)
 
 next-piece-requires : tie.Need-next-piece-requires Inv-loop μ-loop
 next-piece-requires c κs = search needs
@@ -62,7 +61,7 @@ returns : tie.Need-returns Inv-loop μ-loop
 returns c =
     let k = c .before .before .before .loop .inv in
     let e = on-last _ _ _ _ (c .before .before .next-piece .ensures) (c .enum-told .given .1) in
-    keep-end _ _ _ _ _ _ k e
+    keep-end _ _ _ _ _ _ _ k e
 
 pub keep-spec : {M : Type 1} → statement M
 keep-spec =

@@ -1,10 +1,10 @@
-use borrow.Author.Needs.{needs}
-use Prim.Native.Nat.{_-_, _≤_}
-use mathlib.Core.Path.{_≡_}
-use native.Mathlib.Omega.{arith}
-use Rattle.spec.specs.Bytes.{upFrom}
+use Rattle.alloc.proofs.Laws.{mark-none, run-more, run-byte}
 use Rattle.spec.specs.Bitmap.{bitsOf, mark}
-use Rattle.alloc.proofs.Laws.{mark-none, run-more}
+use Rattle.spec.specs.Bytes.{upFrom}
+use borrow.Author.Needs.{needs}
+use native.Mathlib.Omega.{arith}
+use mathlib.Core.Path.{_≡_}
+use Prim.Native.Nat.{_+_, _-_, _/_, _≤_}
 use Rattle.alloc.proofs.release_run.Statement.{statement}
 use Rattle.alloc.proofs.release_run.Tie as tie
 
@@ -17,20 +17,45 @@ abbrev μ-loop : tie.MeasureT-loop
 loop-holds : tie.Need-loop-holds Inv-loop μ-loop
 loop-holds c = (omega arith, mark-none 0 _)
 
-add-release : tie.Need-add-release Inv-loop μ-loop
-add-release c = search needs
+add-at : tie.Need-add-at Inv-loop μ-loop
+add-at c = search needs
+
+sub-is-byte : tie.Need-sub-is-byte Inv-loop μ-loop
+sub-is-byte c = search needs
+
+is-byte-requires : tie.Need-is-byte-requires Inv-loop μ-loop
+is-byte-requires c κs = search needs
+
+cast-release-byte : tie.Need-cast-release-byte Inv-loop μ-loop
+cast-release-byte c = search needs
+
+release-byte-requires : tie.Need-release-byte-requires Inv-loop μ-loop
+release-byte-requires c κs = omega (arith, c .before .before .is-byte .ensures (c .before .if1 .taken))
+
+add-k : tie.Need-add-k Inv-loop μ-loop
+add-k c = omega (arith, c .before .before .before .is-byte .ensures (c .before .before .if1 .taken), c .before .before .before .before .before .loop .inv .0)
+
+loop-less : tie.Need-loop-less Inv-loop μ-loop
+loop-less c = omega (arith, c .before .before .before .is-byte .ensures (c .before .before .if1 .taken), c .before .before .before .before .before .loop .inv .0)
+
+loop-again : tie.Need-loop-again Inv-loop μ-loop
+loop-again c =
+    let a = c .before .before .before .before .before .before .args in
+    let lp = c .before .before .before .before .before .loop in
+    let w = c .before .before .before .is-byte .ensures (c .before .before .if1 .taken) in
+    (omega (arith, w, lp .inv .0), run-byte _ _ _ (a .b) (lp .k) ((a .b + lp .k) / 8) (lp .inv .1) (omega (arith, w .0)) (c .release-byte .ensures))
 
 release-requires : tie.Need-release-requires Inv-loop μ-loop
 release-requires c κs = search needs
 
-add-k : tie.Need-add-k Inv-loop μ-loop
-add-k c = search needs
+add-k-2 : tie.Need-add-k-2 Inv-loop μ-loop
+add-k-2 c = search needs
 
-loop-less : tie.Need-loop-less Inv-loop μ-loop
-loop-less c = search needs
+loop-less-2 : tie.Need-loop-less-2 Inv-loop μ-loop
+loop-less-2 c = search needs
 
-loop-again : tie.Need-loop-again Inv-loop μ-loop
-loop-again c = (omega arith, run-more _ _ _ _ _ (c .before .before .before .loop .inv .1) (c .release .ensures))
+loop-again-2 : tie.Need-loop-again-2 Inv-loop μ-loop
+loop-again-2 c = (omega arith, run-more _ _ _ _ _ (c .before .before .before .before .before .loop .inv .1) (c .release .ensures))
 
 returns : tie.Need-returns Inv-loop μ-loop
 returns c = let e : c .before .loop .k ≡ c .before .before .args .n = omega arith in rw (← e) (c .before .loop .inv .1)
@@ -42,9 +67,16 @@ release-run-spec =
     Inv-loop
     μ-loop
     loop-holds
-    add-release
-    release-requires
+    add-at
+    sub-is-byte
+    is-byte-requires
+    cast-release-byte
+    release-byte-requires
     add-k
     loop-less
     loop-again
+    release-requires
+    add-k-2
+    loop-less-2
+    loop-again-2
     returns)

@@ -8,22 +8,22 @@ use Rattle.alloc.proofs.take_data.Statement.{statement}
 use Rattle.alloc.proofs.take_data.Tie as tie
 
 abbrev Inv-loop : tie.InvT-loop
-Inv-loop t₀ n first₀ count₀ end₀ from₀ k₀ t first count end from k = Taking t₀ t (columns first₀ count₀ end₀) (columns first count end) from n k
+Inv-loop t₀ first₀ count₀ n end₀ from₀ k₀ t first count end from k = Taking t₀ t (columns first₀ count₀ end₀) (columns first count end) from n k
 
 abbrev μ-loop : tie.MeasureT-loop
-μ-loop t₀ n first₀ count₀ end₀ from₀ k₀ t first count end from k = n - k
+μ-loop t₀ first₀ count₀ n end₀ from₀ k₀ t first count end from k = n - k
 
 loop-holds : tie.Need-loop-holds Inv-loop μ-loop
 loop-holds c = take-start _ _ _
 
 pick-requires : tie.Need-pick-requires Inv-loop μ-loop
 pick-requires c κs =
-    let z = c .before .before .before .before .before .before in
+    let z = c .before .before .before .before in
     (c .before .before .loop .inv .below, omega (arith, c .before .before .loop .inv .free, c .before .loop-test .taken, z .pre .2))
 
 push-requires : tie.Need-push-requires Inv-loop μ-loop
 push-requires c κs =
-    let z = c .before .before .before .before .before .before .before .before .before in
+    let z = c .before .before .before .before .before .before .before in
     let l = c .before .before .before .before .before .loop in
     let s = l .inv .small (z .args .kept .count) (z .pre .0) in
     let w = l .inv .within in
@@ -45,7 +45,7 @@ loop-again c =
 returns : tie.Need-returns Inv-loop μ-loop
 returns c =
     let lp = c .before .loop in
-    let a = c .before .before .before .before .before in
+    let a = c .before .before .before in
     let e : lp .k ≡ a .args .n = omega (arith, c .loop-test .left, lp .inv .within) in
     rw (← e) (record { bits = lp .inv .bits; free = lp .inv .free; holds = lp .inv .holds; small = lp .inv .small (a .args .kept .count) (a .pre .0) })
 

@@ -9,30 +9,34 @@ use Rattle.runs.specs.Push.{columns}
 use Rattle.agenda.specs.Agenda.{Lists}
 use Rattle.change.specs.Contents.{contentIn, dataStores, placeOf, changeOf}
 use Rattle.change.proofs.Places.{place-columns, counts-columns, place-none, place-under, place-back, place-split, run-room, run-inside, run-block, all-blocks}
-use Rattle.change.proofs.Steps.{data-cast, data-start}
+use Rattle.change.proofs.Steps.{data-cast, data-start, run-gap}
+use Rattle.change.proofs.Outside.{clear-run}
 use Rattle.change.proofs.add_data.Statement.{statement}
 use Rattle.change.proofs.add_data.Tie as tie
 
 abbrev Inv-loop : tie.InvT-loop
-Inv-loop table first count o x bytes out₀ k₀ at₀ out k at =
+Inv-loop table first count o x bytes w out₀ k₀ at₀ out k at =
     (k ≤ o .end .len) × (o .end .len ≤ 512) × (out .len ≤ 33) × (at ≡ placeOf (columns first count (o .end)) k)
     × ((v : Disk) (i : ℕ) → Lists (contentIn v i (changeOf table first count o) x bytes) out (ascending (dataStores v (changeOf table first count o) x bytes at)))
 
 abbrev μ-loop : tie.MeasureT-loop
-μ-loop table first count o x bytes out₀ k₀ at₀ out k at = k
+μ-loop table first count o x bytes w out₀ k₀ at₀ out k at = k
+
+window-of-requires : tie.Need-window-of-requires Inv-loop μ-loop
+window-of-requires c κs = c .before .before .pre .0
 
 nothing-requires : tie.Need-nothing-requires Inv-loop μ-loop
 nothing-requires c κs = search needs
 
 total-requires : tie.Need-total-requires Inv-loop μ-loop
 total-requires c κs =
-    let o = c .before .before .before in
+    let o = c .before .before .before .before in
     let a = o .args in
     (o .pre .1 .extents, omega (arith, o .pre .1 .blocks, counts-columns [] (a .first .now) (a .count .now) (a .o .end)))
 
 loop-holds : tie.Need-loop-holds Inv-loop μ-loop
 loop-holds c =
-    let o = c .before .before .before .before in
+    let o = c .before .before .before .before .before in
     let a = o .args in
     let r = columns (a .first .now) (a .count .now) (a .o .end) in
     let e = c .total .ensures ∙ place-columns [] (a .first .now) (a .count .now) (a .o .end) (a .o .end .len) in (
@@ -63,33 +67,33 @@ wide-requires c κs = search needs
 
 sub-at : tie.Need-sub-at Inv-loop μ-loop
 sub-at c =
-    let a = c .before .before .before .before .before .before .before .before .before .args in
+    let a = c .before .before .before .before .before .before .before .before .before .before .args in
     let lp = c .before .before .before .before .loop in
     let z : lp .k ≡ lp .k - 1 + 1 = omega (arith, c .before .before .before .loop-test .taken) in
     place-under (columns (a .first .now) (a .count .now) (a .o .end)) _ _ _ _ (lp .inv .3) z (c .wide .ensures .0)
 
 add-run-requires : tie.Need-add-run-requires Inv-loop μ-loop
 add-run-requires c κs =
-    let o = c .before .before .before .before .before .before .before .before .before in
+    let o = c .before .before .before .before .before .before .before .before .before .before .before .before .before .before in
     let a = o .args in
     let r = columns (a .first .now) (a .count .now) (a .o .end) in
-    let lp = c .before .before .before .before .loop in
-    let z : lp .k ≡ lp .k - 1 + 1 = omega (arith, c .before .before .before .loop-test .taken) in
-    let h : lp .k - 1 < a .o .end .len = omega (arith, lp .inv .0, c .before .before .before .loop-test .taken) in
-    let b = place-back r _ _ _ _ (lp .inv .3) z (c .wide .ensures .0) in
-    (lp .inv .2, o .pre .0, o .pre .1 .first (lp .k - 1), omega (arith, run-room r (lp .k - 1) h _ _ refl b, o .pre .1 .blocks))
+    let lp = c .before .before .before .before .before .before .before .before .loop in
+    let z : lp .k ≡ lp .k - 1 + 1 = omega (arith, c .before .before .before .before .before .before .before .loop-test .taken) in
+    let h : lp .k - 1 < a .o .end .len = omega (arith, lp .inv .0, c .before .before .before .before .before .before .before .loop-test .taken) in
+    let b = place-back r _ _ _ _ (lp .inv .3) z (c .before .before .before .before .wide .ensures .0) in
+    (lp .inv .2, o .pre .0, o .pre .1 .first (lp .k - 1), omega (arith, run-room r (lp .k - 1) h _ _ refl b, o .pre .1 .blocks), c .before .before .before .before .before .before .before .before .before .before .before .window-of .ensures)
 
 loop-less : tie.Need-loop-less Inv-loop μ-loop
 loop-less c = omega arith
 
 loop-again : tie.Need-loop-again Inv-loop μ-loop
 loop-again c =
-    let a = c .before .before .before .before .before .before .before .before .before .before .args in
+    let a = c .before .before .before .before .before .before .before .before .before .before .before .before .before .before .before .args in
     let r = columns (a .first .now) (a .count .now) (a .o .end) in
-    let lp = c .before .before .before .before .before .loop in
-    let z : lp .k ≡ lp .k - 1 + 1 = omega (arith, c .before .before .before .before .loop-test .taken) in
-    let h : lp .k - 1 < a .o .end .len = omega (arith, lp .inv .0, c .before .before .before .before .loop-test .taken) in
-    let w = c .before .wide .ensures .0 in
+    let lp = c .before .before .before .before .before .before .before .before .before .loop in
+    let z : lp .k ≡ lp .k - 1 + 1 = omega (arith, c .before .before .before .before .before .before .before .before .loop-test .taken) in
+    let h : lp .k - 1 < a .o .end .len = omega (arith, lp .inv .0, c .before .before .before .before .before .before .before .before .loop-test .taken) in
+    let w = c .before .before .before .before .before .wide .ensures .0 in
     let b = place-back r _ _ _ _ (lp .inv .3) z w in (
       omega arith,
       lp .inv .1,
@@ -99,9 +103,27 @@ loop-again c =
           (data-cast v i (changeOf (a .table .now) (a .first .now) (a .count .now) (a .o)) (a .x) (a .bytes .now) _ _ _ (place-split r _ _ _ _ (lp .inv .3) z w) (lp .inv .4 v i)),
     )
 
+loop-less-2 : tie.Need-loop-less-2 Inv-loop μ-loop
+loop-less-2 c = omega arith
+
+loop-again-2 : tie.Need-loop-again-2 Inv-loop μ-loop
+loop-again-2 c =
+    let a = c .before .before .before .before .before .before .before .before .before .before .before .before .before .before .args in
+    let r = columns (a .first .now) (a .count .now) (a .o .end) in
+    let lp = c .before .before .before .before .before .before .before .before .loop in
+    let z : lp .k ≡ lp .k - 1 + 1 = omega (arith, c .before .before .before .before .before .before .before .loop-test .taken) in
+    let w = c .before .before .before .before .wide .ensures .0 in (
+      omega arith,
+      lp .inv .1,
+      lp .inv .2,
+      place-back r _ _ _ _ (lp .inv .3) z w,
+      λ v i. run-gap v i (changeOf (a .table .now) (a .first .now) (a .count .now) (a .o)) (a .x) (a .bytes .now) (a .o .held) (a .o .old) (a .o .size) (refl, refl, refl) _ _ (lp .at) (omega arith)
+          (clear-run (a .o .held) (a .o .old) (a .o .size) (a .x) (a .bytes .now) _ _ _ (c .before .before .before .before .before .before .before .before .before .before .before .window-of .ensures) (c .if1 .left)) (lp .inv .4 v i),
+    )
+
 returns : tie.Need-returns Inv-loop μ-loop
 returns c =
-    let a = c .before .before .before .before .before .before .args in
+    let a = c .before .before .before .before .before .before .before .args in
     let r = columns (a .first .now) (a .count .now) (a .o .end) in
     let lp = c .before .loop in
     let z : lp .k ≡ 0 = omega (arith, c .loop-test .left) in
@@ -113,6 +135,7 @@ add-data-spec =
     (tie.spec
     Inv-loop
     μ-loop
+    window-of-requires
     nothing-requires
     total-requires
     loop-holds
@@ -126,4 +149,6 @@ add-data-spec =
     add-run-requires
     loop-less
     loop-again
+    loop-less-2
+    loop-again-2
     returns)

@@ -1,6 +1,7 @@
 use Rattle.change.specs.Contents.{changeOf}
-use mathlib.Core.Path.{refl}
 use native.Mathlib.Omega.{arith}
+use Rattle.spec.specs.Transaction.{view, stateOf}
+use Rattle.change.proofs.Contents.{node-told}
 use Rattle.change.proofs.Steps.{held-lists, new-lists}
 use Rattle.change.proofs.add_node.Statement.{statement}
 use Rattle.change.proofs.add_node.Tie as tie
@@ -14,15 +15,23 @@ cast-tag c = let o = c .before .before .before .before .before in omega (arith, 
 add-tag : tie.Need-add-tag
 add-tag c = let o = c .before .before .before .before .before in omega (arith, o .pre .3, o .pre .2 .nodes)
 
-add-changed-requires : tie.Need-add-changed-requires
-add-changed-requires c κs = let o = c .before .before .before .before .before .before .before in (o .pre .0, o .pre .2 .extents, o .pre .1)
+node-content-requires : tie.Need-node-content-requires
+node-content-requires c κs = let o = c .before .before .before .before .before .before .before .before in (o .pre .2 .extents, omega (arith, o .pre .3, o .pre .2 .nodes))
+
+add-block-requires : tie.Need-add-block-requires
+add-block-requires c κs = c .before .before .before .before .before .before .before .before .before .before .pre .0
 
 returns : tie.Need-returns
 returns c =
-    let o = c .before .before .before .before .before .before .before .before in
+    let o = c .before .before .before .before .before .before .before .before .before .before .before in
     let a = o .args in
-    let n = c .before .before .before .node-at .ensures in
-    (held-lists _ (a .i) (changeOf (a .table .now) (a .first .now) (a .count .now) (a .o)) (a .x) (a .bytes .now) (a .j) (o .pre .3) (o .pre .2 .nodes) (n .1) _ (n .0) _ (omega (arith, c .before .if1 .taken)) (c .add-changed .ensures .0 _ _ refl (o .pre .4)), c .add-changed .ensures .1)
+    let v = view (stateOf (a .s) (a .device .now) (a .work .now)) in
+    let d = changeOf (a .table .now) (a .first .now) (a .count .now) (a .o) in
+    let n = c .before .before .before .before .before .before .node-at .ensures in (
+      held-lists v (a .i) d (a .x) (a .bytes .now) (a .j) (o .pre .3) (o .pre .2 .nodes) (n .1) _ (n .0) _ (omega (arith, c .before .before .before .before .if1 .taken))
+          (c .add-block .ensures .0 _ _ (node-told v (a .i) d (a .x) (a .bytes .now) _ (a .j) _ (omega (arith, o .pre .3, o .pre .2 .nodes)) (c .before .before .node-content .ensures)) (o .pre .4)),
+      c .add-block .ensures .1,
+    )
 
 insert-requires : tie.Need-insert-requires
 insert-requires c κs = let o = c .before .before .before .before .before .before .before in o .pre .0
@@ -41,7 +50,8 @@ add-node-spec =
     node-at-requires
     cast-tag
     add-tag
-    add-changed-requires
+    node-content-requires
+    add-block-requires
     returns
     insert-requires
     returns-2)

@@ -32,24 +32,18 @@ mul-b c = omega arith
 array-read-b : tie.Need-array-read-b Inv-loop μ-loop
 array-read-b c = omega arith
 
-block-now-requires : tie.Need-block-now-requires Inv-loop μ-loop
-block-now-requires c κs = search needs
+mul-stage-block : tie.Need-mul-stage-block Inv-loop μ-loop
+mul-stage-block c = omega arith
 
-mul-content : tie.Need-mul-content Inv-loop μ-loop
-mul-content c = omega arith
+array-read-stage-block : tie.Need-array-read-stage-block Inv-loop μ-loop
+array-read-stage-block c = omega arith
 
-array-read-content : tie.Need-array-read-content Inv-loop μ-loop
-array-read-content c = omega arith
-
-content-requires : tie.Need-content-requires Inv-loop μ-loop
-content-requires c κs = let o = c .before .before .before .before .before .before .before .before .before in (o .pre .2, o .pre .3)
-
-stage-requires : tie.Need-stage-requires Inv-loop μ-loop
-stage-requires c κs =
-    let p = c .before .before .before .before .before in
-    let lp = p .before .loop in
-    let a = p .before .before .before .before .before .before .before .args in
-    (lp .inv .4, stage-room (a .i) (changeOf (a .table .now) (a .first .now) (a .count .now) (a .o)) (a .x) (a .bytes .now) _ _ _ _ (a .a .block) (a .a .tag) _ _ (lp .inv .5) (p .loop-test .taken) (omega arith) (omega arith))
+stage-block-requires : tie.Need-stage-block-requires Inv-loop μ-loop
+stage-block-requires c κs =
+    let o = c .before .before .before .before .before .before .before .before in
+    let a = o .args in
+    let lp = c .before .before .loop in
+    (lp .inv .4, stage-room (a .i) (changeOf (a .table .now) (a .first .now) (a .count .now) (a .o)) (a .x) (a .bytes .now) _ _ _ _ (a .a .block) (a .a .tag) _ _ (lp .inv .5) (c .before .loop-test .taken) (omega arith) (omega arith), o .pre .2, o .pre .3)
 
 add-k : tie.Need-add-k Inv-loop μ-loop
 add-k c = omega arith
@@ -59,17 +53,15 @@ loop-less c = omega arith
 
 loop-again : tie.Need-loop-again Inv-loop μ-loop
 loop-again c =
-    let p = c .before .before .before .before .before .before .before .before in
-    let lp = p .before .loop in
-    let o = p .before .before .before .before .before .before .before in
-    let a = o .args in (
+    let lp = c .before .before .before .before .before .loop in
+    let a = c .before .before .before .before .before .before .before .before .before .before .before .args in (
       omega arith,
       lp .inv .1,
       lp .inv .2,
       lp .inv .3,
-      c .before .before .stage .kept .0 ∙ lp .inv .4,
-      stage-step (a .i) (changeOf (a .table .now) (a .first .now) (a .count .now) (a .o)) (a .x) (a .bytes .now) _ _ _ _ (a .a .block) (a .a .tag) _ _ (lp .inv .5) (p .loop-test .taken) (omega arith) (omega arith) _ _ _
-          (c .before .before .before .before .before .before .block-now .ensures) (c .before .before .before .before .before .content .ensures) (c .before .before .stage .ensures (a .device .now)),
+      c .before .before .stage-block .kept .1 .0 ∙ lp .inv .4,
+      stage-step (a .i) (changeOf (a .table .now) (a .first .now) (a .count .now) (a .o)) (a .x) (a .bytes .now) _ _ _ _ (a .a .block) (a .a .tag) _ _ (lp .inv .5) (c .before .before .before .before .loop-test .taken) (omega arith) (omega arith) _
+          (c .before .before .stage-block .ensures),
     )
 
 settled-requires : tie.Need-settled-requires Inv-loop μ-loop
@@ -93,11 +85,9 @@ stage-all-spec =
     loop-holds
     mul-b
     array-read-b
-    block-now-requires
-    mul-content
-    array-read-content
-    content-requires
-    stage-requires
+    mul-stage-block
+    array-read-stage-block
+    stage-block-requires
     add-k
     loop-less
     loop-again

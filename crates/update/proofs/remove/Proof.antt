@@ -2,6 +2,7 @@ use native.Mathlib.Omega.{arith}
 use mathlib.Core.Path.{refl, sym, ap, subst, _∙_}
 use mathlib.Core.List.{[]}
 use Rattle.spec.specs.Transaction.{view, stateOf}
+use Rattle.runs.proofs.Laws.{small-none}
 use Rattle.lookup.specs.Looks.{lookedOf, InTable}
 use Rattle.checks.proofs.Laws.{told}
 use Rattle.lookup.proofs.Laws.{file-says}
@@ -23,8 +24,14 @@ refused-requires c κs = search needs
 enum-known-i : tie.Need-enum-known-i
 enum-known-i c = search needs
 
+view-block-requires : tie.Need-view-block-requires
+view-block-requires c κs = search needs
+
+copy-of-requires : tie.Need-copy-of-requires
+copy-of-requires c κs = search needs
+
 draft-of-requires : tie.Need-draft-of-requires
-draft-of-requires c κs = (subst InTable (c .before .before .i .given .1) (c .before .before .before .before .look-up .ensures .1), omega arith)
+draft-of-requires c κs = (subst InTable (c .before .before .before .before .before .before .before .before .i .given .1) (c .before .before .before .before .before .before .before .before .before .before .look-up .ensures .1), omega arith, c .before .before .before .before .copy-of .ensures ∙ c .before .before .before .before .before .view-block .ensures, small-none _ _ refl refl)
 
 sub-apply : tie.Need-sub-apply
 sub-apply c = search needs
@@ -36,21 +43,28 @@ part-apply-end : tie.Need-part-apply-end
 part-apply-end c = search needs
 
 apply-requires : tie.Need-apply-requires
-apply-requires c κs = let b = emptied-fits (view (stateOf (c .before .before .before .before .before .before .before .before .before .before .before .before .before .before .before .before .before .before .args .session) (c .before .before .before .before .before .before .before .before .before .before .before .before .before .before .before .before .before .before .args .device .now) (c .before .before .before .before .before .before .before .before .before .before .before .before .before .before .before .before .before .before .args .work .now))) _ _ (c .before .before .before .before .before .before .before .before .draft-of .ensures) in
-    (subst InTable (c .before .before .before .before .before .before .before .before .before .before .before .i .given .1) (c .before .before .before .before .before .before .before .before .before .before .before .before .before .look-up .ensures .1), file-says (c .before .before .before .before .before .before .before .before .before .before .before .before .before .before .before .before .before .before .args .session) (c .before .before .before .before .before .before .before .before .before .before .before .before .before .before .before .before .before .before .args .device .now) (c .before .before .before .before .before .before .before .before .before .before .before .before .before .before .before .before .before .before .args .work .now) (c .before .before .before .before .before .before .before .before .before .before .before .before .before .before .before .before .before .before .args .name .now) _ (sym (ap lookedOf (c .before .before .before .before .before .before .before .before .before .before .before .i .given .1)) ∙ c .before .before .before .before .before .before .before .before .before .before .before .before .before .look-up .ensures .0), b .bounded, omega arith, omega arith, omega arith)
+apply-requires c κs =
+    let a = c .before .before .before .before .before .before .before .before .before .before .before .before .before .before .before .before .before .before .before .before .before .before .before .args in
+    let b = emptied-fits (view (stateOf (a .session) (a .device .now) (a .work .now))) _ _ _ _ _ (c .before .before .before .before .before .before .before .draft-of .ensures) in
+    (subst InTable (c .before .before .before .before .before .before .before .before .before .before .before .before .before .before .before .before .i .given .1) (c .before .before .before .before .before .before .before .before .before .before .before .before .before .before .before .before .before .before .look-up .ensures .1), file-says (a .session) (a .device .now) (a .work .now) (a .name .now) _ (sym (ap lookedOf (c .before .before .before .before .before .before .before .before .before .before .before .before .before .before .before .before .i .given .1)) ∙ c .before .before .before .before .before .before .before .before .before .before .before .before .before .before .before .before .before .before .look-up .ensures .0), b .bounded, omega arith, omega arith, omega arith)
 
 same-length : tie.Need-same-length
 same-length c = search needs
 
 returns : tie.Need-returns
-returns c = told _ _ _ _ (c .before .before .before .before .before .before .before .before .before .args .device .now) (c .before .before .before .before .before .before .before .before .before .args .work .now) _ (c .refused .ensures .0) (c .refused .ensures .1) (remove-bad (c .before .before .before .before .before .before .before .before .before .args .session) (c .before .before .before .before .before .before .before .before .before .args .device .now) (c .before .before .before .before .before .before .before .before .before .args .work .now) (c .before .before .before .before .before .before .before .before .before .args .name .now) _ (sym (ap lookedOf (c .before .before .why .given .1)) ∙ c .before .before .before .before .look-up .ensures .0))
+returns c =
+    let a = c .before .before .before .before .before .before .before .before .before .args in
+    told _ _ _ _ (a .device .now) (a .work .now) _ (c .refused .ensures .0) (c .refused .ensures .1)
+    (remove-bad (a .session) (a .device .now) (a .work .now) (a .name .now) _ (sym (ap lookedOf (c .before .before .why .given .1)) ∙ c .before .before .before .before .look-up .ensures .0))
 
 same-length-2 : tie.Need-same-length-2
 same-length-2 c = search needs
 
 returns-2 : tie.Need-returns-2
-returns-2 c = let b = emptied-fits (view (stateOf (c .before .before .before .before .before .before .before .before .before .before .before .before .before .before .before .before .before .before .before .before .before .args .session) (c .before .before .before .before .before .before .before .before .before .before .before .before .before .before .before .before .before .before .before .before .before .args .device .now) (c .before .before .before .before .before .before .before .before .before .before .before .before .before .before .before .before .before .before .before .before .before .args .work .now))) _ _ (c .before .before .before .before .before .before .before .before .before .before .before .draft-of .ensures) in
-    remove-fine (c .before .before .before .before .before .before .before .before .before .before .before .before .before .before .before .before .before .before .before .before .before .args .session) (c .before .before .before .before .before .before .before .before .before .before .before .before .before .before .before .before .before .before .before .before .before .args .device .now) (c .before .before .before .before .before .before .before .before .before .before .before .before .before .before .before .before .before .before .before .before .before .args .work .now) (c .before .before .before .before .before .before .before .before .before .before .before .before .before .before .before .before .before .before .before .before .before .args .name .now) _ _ _ (sym (ap lookedOf (c .before .before .before .before .before .before .before .before .before .before .before .before .before .before .i .given .1)) ∙ c .before .before .before .before .before .before .before .before .before .before .before .before .before .before .before .before .look-up .ensures .0) (remove-stores (view (stateOf (c .before .before .before .before .before .before .before .before .before .before .before .before .before .before .before .before .before .before .before .before .before .args .session) (c .before .before .before .before .before .before .before .before .before .before .before .before .before .before .before .before .before .before .before .before .before .args .device .now) (c .before .before .before .before .before .before .before .before .before .before .before .before .before .before .before .before .before .before .before .before .before .args .work .now))) _ _ 0 [] b refl) (c .before .before .apply .ensures)
+returns-2 c =
+    let a = c .before .before .before .before .before .before .before .before .before .before .before .before .before .before .before .before .before .before .before .before .before .before .before .before .before .before .args in
+    remove-fine (a .session) (a .device .now) (a .work .now) (a .name .now) _ _ _ (sym (ap lookedOf (c .before .before .before .before .before .before .before .before .before .before .before .before .before .before .before .before .before .before .before .i .given .1)) ∙ c .before .before .before .before .before .before .before .before .before .before .before .before .before .before .before .before .before .before .before .before .before .look-up .ensures .0)
+    (remove-stores (view (stateOf (a .session) (a .device .now) (a .work .now))) _ _ 0 [] (emptied-fits (view (stateOf (a .session) (a .device .now) (a .work .now))) _ _ _ _ _ (c .before .before .before .before .before .before .before .before .before .before .draft-of .ensures)) refl) (c .before .before .apply .ensures)
 
 pub remove-spec : {M : Type 1} → statement M
 remove-spec =
@@ -60,6 +74,8 @@ remove-spec =
     enum-known-why
     refused-requires
     enum-known-i
+    view-block-requires
+    copy-of-requires
     draft-of-requires
     sub-apply
     part-apply-start

@@ -1,0 +1,155 @@
+-- Laws of comparing a block with its new content, and of making that in its image. Assumes nothing.
+use Prim.Native.Nat.{ℕ, _+_, _*_, _-_, _<_, _≤_}
+use mathlib.Core.Path.{_≡_, refl, sym, ap, ap₂, _∙_, fun-ext}
+use mathlib.Core.Bool.{Bool, true, false, cond, _&&_, true≢false}
+use mathlib.Core.List.{List, [], _∷_, _++_}
+use native.Mathlib.Omega.{arith}
+use borrow.Author.Tests.{eqb-true}
+use lib.Dec.{eqb}
+use lib.ListN.{length, take, drop, getD, length-take, length-drop, take-append-drop}
+use lib.Seq.{take-all, drop-drop, take-append-seam, drop-append-seam, ext-getD, getD-take, getD-drop}
+use Rattle.spec.specs.Bytes.{exactly, part, patch, same, place}
+use Rattle.spec.specs.Disk.{Disk, Slice, sliceOf, blocksOf, withBlock}
+use Rattle.spec.specs.Inode.{blockOfInode, placeOfInode}
+use Rattle.spec.specs.declared.Session.{Session}
+use Rattle.spec.specs.Session.{stagedIn, withStaged}
+use Rattle.spec.specs.Transaction.{view, stateOf, put, stage, stagedOf, withStaging}
+use Rattle.lists.specs.Tests.{eqb-turn}
+use Rattle.block.specs.Stores.{storedIn}
+use Rattle.block.proofs.Laws.{length-exactly, getD-exactly, exactly-all, block-is, block-read, with-same, same-self, same-true}
+use Rattle.block.proofs.Steps.{slice-stored}
+use Rattle.transaction.specs.declared.Place.the-variants.{At, Nothing}
+use Rattle.transaction.specs.Places.{foundAt, spot, blocksWith}
+use Rattle.transaction.proofs.Laws.{spot-at, spot-new, view-at, view-new, stage-leaves}
+use Rattle.inode.specs.Records.{bytesIn}
+use Rattle.content.specs.Content.{withRecord}
+
+-- ---- what is compared
+
+-- a part of some bytes that reach so far is the part of the block
+pub part-padded : (xs bytes : List ℕ) (at end : ℕ) (r : Bool) → end ≡ at + length bytes → end ≤ 512 → end ≤ length xs
+    → r ≡ same (take (end - at) (drop at xs)) bytes → r ≡ same (bytesIn xs at (length bytes)) bytes
+unfolding bytesIn
+part-padded xs bytes at end r e fits long h =
+    let w = length bytes in
+    let n : end - at ≡ w = omega arith in
+    let l : length (take w (drop at xs)) ≡ w = simp (length-take, length-drop) (omega arith) in
+    let m : length (take w (drop at (exactly 512 xs))) ≡ w = simp (length-take, length-drop, length-exactly) (omega arith) in
+    let q : take w (drop at xs) ≡ take w (drop at (exactly 512 xs)) =
+    ext-getD 0 (take w (drop at xs)) (take w (drop at (exactly 512 xs))) (l ∙ sym m)
+    (λ i k. let b : i < w = rw l at k in
+    getD-take w (drop at xs) i 0 b ∙ getD-drop at xs i 0 ∙ sym (getD-take w (drop at (exactly 512 xs)) i 0 b ∙ getD-drop at (exactly 512 xs) i 0 ∙ getD-exactly 512 xs (at + i) (omega arith)))
+    in
+    h ∙ rw n (ap (λ (x : List ℕ). same x bytes) q)
+
+same-turn : (xs ys : List ℕ) → same xs ys ≡ same ys xs
+same-turn [] [] = refl
+same-turn [] (y ∷ ys) = refl
+same-turn (x ∷ xs) [] = refl
+same-turn (x ∷ xs) (y ∷ ys) = ap₂ _&&_ (eqb-turn x y) (same-turn xs ys)
+
+pub part-whole : (xs ys bytes : List ℕ) (at end : ℕ) (r : Bool) → ys ≡ exactly 512 xs → end ≡ at + length bytes → r ≡ same (take (end - at) (drop at ys)) bytes → r ≡ same (bytesIn xs at (length bytes)) bytes
+unfolding bytesIn
+part-whole xs ys bytes at end r e n h =
+    let m : end - at ≡ length bytes = omega arith in
+    h ∙ ap₂ (λ (k : ℕ) (zs : List ℕ). same (take k (drop at zs)) bytes) m e
+
+-- the whole block
+pub block-compared : (v : Disk) (b : ℕ) (block new : List ℕ) (r : Bool) → exactly 512 block ≡ v b → length new ≡ 512 → r ≡ same (bytesIn block 0 (length new)) new
+    → (y : List ℕ) → y ≡ new → r ≡ same y (v b)
+unfolding bytesIn
+block-compared v b block new r e l h y ey =
+    let t : take (length new) (exactly 512 block) ≡ exactly 512 block = take-all (length new) (exactly 512 block) (omega (arith, length-exactly 512 block)) in
+    h ∙ ap (λ (z : List ℕ). same z new) (t ∙ e) ∙ same-turn (v b) new ∙ ap (λ (z : List ℕ). same z (v b)) (sym ey)
+
+-- some bytes of a block, instead of the block with these bytes laid over it
+module _ (at : ℕ) (new old : List ℕ) (fits : at + length new ≤ length old) where
+  laid-same : part at (length new) old ≡ new → patch at new old ≡ old
+  laid-same e =
+      ap (λ (z : List ℕ). take at old ++ z)
+      (ap₂ (λ (x y : List ℕ). x ++ y) (sym e) (sym (drop-drop (length new) at old)) ∙ take-append-drop (length new) (drop at old))
+      ∙ take-append-drop at old
+
+  laid-back : part at (length new) (patch at new old) ≡ new
+  laid-back =
+      let l : length (take at old) ≡ at = simp length-take (omega arith) in
+      ap (take (length new)) (ap (λ (k : ℕ). drop k (patch at new old)) (sym l) ∙ drop-append-seam (take at old) (new ++ drop (at + length new) old))
+      ∙ take-append-seam new (drop (at + length new) old)
+
+  part-compared : same (part at (length new) old) new ≡ same (patch at new old) old
+  part-compared = go (same (part at (length new) old) new) refl (same (patch at new old) old) refl
+    where
+      go : (r : Bool) → same (part at (length new) old) new ≡ r → (t : Bool) → same (patch at new old) old ≡ t → r ≡ t
+      go true h t g = sym (ap (λ (z : List ℕ). same z old) (laid-same (same-true (part at (length new) old) new h)) ∙ same-self old) ∙ g
+      go false h false g = refl
+      go false h true g =
+          let e : part at (length new) old ≡ new = ap (part at (length new)) (sym (same-true (patch at new old) old g)) ∙ laid-back in
+          absurd (true≢false (sym (ap (λ (z : List ℕ). same z new) e ∙ same-self new) ∙ h))
+
+pub record-compared : (v : Disk) (i : ℕ) (block new : List ℕ) (r : Bool) → exactly 512 block ≡ v (blockOfInode i) → length new ≡ 32
+    → r ≡ same (bytesIn block (placeOfInode i) (length new)) new → (y : List ℕ) → y ≡ withRecord i new (v (blockOfInode i)) → r ≡ same y (v (blockOfInode i))
+unfolding bytesIn withRecord
+record-compared v i block new r e l h y ey =
+    let m : length (v (blockOfInode i)) ≡ 512 = sym (ap length e) ∙ length-exactly 512 block in
+    h ∙ ap (λ (z : List ℕ). same (part (placeOfInode i) (length new) z) new) e
+    ∙ part-compared (placeOfInode i) new (v (blockOfInode i)) (omega arith)
+    ∙ ap (λ (z : List ℕ). same z (v (blockOfInode i))) (sym ey)
+
+-- ---- an image
+
+-- a block stored once more, and over itself
+with-self : (k : ℕ) (d : Disk) → withBlock k (d k) d ≡ d
+with-self k d = fun-ext (λ c. go c (eqb c k) refl)
+  where
+    go : (c : ℕ) (t : Bool) → eqb c k ≡ t → withBlock k (d k) d c ≡ d c
+    go c true h = rw h (ap d (sym (eqb-true c k h)))
+    go c false h = rw h
+
+with-twice : (k : ℕ) (x y : List ℕ) (d : Disk) → withBlock k x (withBlock k y d) ≡ withBlock k x d
+with-twice k x y d = fun-ext (λ c. go c (eqb c k) refl)
+  where
+    go : (c : ℕ) (t : Bool) → eqb c k ≡ t → withBlock k x (withBlock k y d) c ≡ withBlock k x d c
+    go c true h = rw h
+    go c false h = rw h
+
+module _ (s : Session) (device work : List ℕ) (b : ℕ) where
+  abbrev viewed : List ℕ
+  viewed = view (stateOf s device work) b
+
+  -- where the block is staged its image is its working copy
+  pub image-held : (i : ℕ) → foundAt (place b (stagedIn s)) ≡ At i → sliceOf work ≡ storedIn (sliceOf work) (spot s b) viewed
+  image-held i e =
+      ap (λ (d : Disk). record { size = length work; block = d }) (sym (with-self i (blocksOf work)))
+      ∙ ap₂ (λ (k : ℕ) (x : List ℕ). storedIn (sliceOf work) k x) (spot-at s b i e) (sym (view-at s b device work i e))
+
+  pub image-new : (left from : List ℕ) (n : ℕ) → foundAt (place b (stagedIn s)) ≡ Nothing → n ≡ length (stagedIn s) → from ≡ take 512 (drop (512 * b) device)
+      → sliceOf left ≡ storedIn (sliceOf work) n (exactly 512 from) → sliceOf left ≡ storedIn (sliceOf work) (spot s b) viewed
+  image-new left from n e en ef h =
+      h ∙ ap₂ (λ (k : ℕ) (x : List ℕ). storedIn (sliceOf work) k x) (en ∙ spot-new s b e) (block-read device from (exactly 512 from) b ef refl ∙ sym (view-new s b device work e))
+
+  -- its content made there, in the part that is lent
+  module _ (w : List ℕ) (k : ℕ) (e : k ≡ spot s b) (fits : 512 * k + 512 ≤ length w) (loaded : sliceOf w ≡ storedIn (sliceOf work) (spot s b) viewed) where
+    loaded-at : sliceOf w ≡ storedIn (sliceOf work) k viewed
+    loaded-at = loaded ∙ ap (λ (j : ℕ). storedIn (sliceOf work) j viewed) (sym e)
+
+    lent-part : take (512 * k + 512 - 512 * k) (drop (512 * k) w) ≡ viewed
+    lent-part =
+        let z : 512 * k + 512 - 512 * k ≡ 512 = omega arith in
+        let l : length (take 512 (drop (512 * k) w)) ≡ 512 = simp (length-take, length-drop) (omega arith) in
+        ap (λ (n : ℕ). take n (drop (512 * k) w)) z
+        ∙ sym (block-is w k ∙ exactly-all 512 (take 512 (drop (512 * k) w)) l)
+        ∙ ap (λ (u : Slice). u .block k) loaded-at
+        ∙ with-same k viewed (blocksOf work)
+
+    pub image-edited : (q : Session) (g : List ℕ → List ℕ) (y : List ℕ) → y ≡ g (take (512 * k + 512 - 512 * k) (drop (512 * k) w)) → length y ≡ 512
+        → q ≡ withStaged s (blocksWith s b)
+        → stateOf q device (take (512 * k) w ++ (y ++ drop (512 * k + 512 - 512 * k) (drop (512 * k) w)))
+        ≡ withStaging (stateOf s device work) (stage (stagedOf (stateOf s device work)) (put b (g viewed)))
+    image-edited q g y ey l eq =
+        let x = g viewed in
+        let yx : y ≡ x = ey ∙ ap g lent-part in
+        let m : length x ≡ 512 = sym (ap length yx) ∙ l in
+        stage-leaves s q device work (take (512 * k) w ++ (y ++ drop (512 * k + 512 - 512 * k) (drop (512 * k) w))) b k x e
+        (slice-stored k x y w yx m fits ∙ ap (λ (u : Slice). storedIn u k x) loaded-at
+        ∙ ap (λ (d : Disk). record { size = length work; block = d }) (with-twice k x viewed (blocksOf work)))
+        eq

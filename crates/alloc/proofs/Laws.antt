@@ -23,7 +23,7 @@ use Rattle.inode.proofs.Walk.{nodes-start, weight-start}
 use Rattle.extents.specs.declared.Scan.{Scan}
 use Rattle.extents.specs.Stretches.{pending, Starts, NextPiece}
 use Rattle.extents.proofs.Laws.{length-up}
-use Rattle.runs.specs.declared.Runs.{Runs}
+use Rattle.runs.specs.Tree.{Runs}
 use Rattle.runs.specs.Push.{Holds, Small, Pushed}
 use Rattle.runs.proofs.Laws.{pushed-blocks}
 use Rattle.lists.specs.Bits.{length-picks, mark-append}
@@ -194,6 +194,13 @@ data-rest : (v : Disk) (i from : ℕ) → take 2048 (drop from (dataAt v i)) ≡
 unfolding dataOf
 data-rest v i from =
     take-all 2048 (drop from (dataAt v i)) (let l : length (drop from (dataAt v i)) ≤ 2048 = simp (length-drop, length-take) (omega arith) in l)
+
+-- nothing where not even so many blocks were there to keep
+pub back-none : (blocks : List ℕ) (from kept : ℕ) → kept ≡ length (take from blocks) → kept < from → (t : List ℕ) → GaveBack (drop from blocks) t t 0
+unfolding mark
+back-none blocks from kept e h t =
+    let z : drop from blocks ≡ [] = drop-of-length-le blocks {i = from} (omega (arith, length-take from blocks)) in
+    rw z (record { many = refl; bits = refl })
 
 pub back-end : (v : Disk) (tb i from n : ℕ) (c : Scan) → Passed v tb (take 2048 (drop from (dataAt v i))) c n → pending v tb c ≡ []
     → (before after : List ℕ) → bitsOf after ≡ mark 0 (take n (take 2048 (drop from (dataAt v i)))) (bitsOf before)

@@ -22,8 +22,7 @@ use Rattle.block.proofs.Laws.{lt-or-le}
 use Rattle.bitmap.specs.Words.{Table}
 use Rattle.bitmap.proofs.Laws.{bytes-bits}
 use Rattle.checks.specs.declared.Checked.the-variants.{Fine, Bad}
-use Rattle.runs.specs.declared.Runs.{Runs}
-use Rattle.runs.specs.declared.Tree.{Tree}
+use Rattle.runs.specs.Tree.{Runs, Tree}
 use Rattle.runs.specs.Runs.{listed, nodesIn, levelsIn, Bounded}
 use Rattle.runs.specs.Push.{Holds}
 use Rattle.lists.specs.Bits.{length-picks, mark-append}

@@ -11,7 +11,7 @@ use Rattle.spec.specs.Plan as plan
 use Rattle.spec.specs.Plan.{lowestLevel, resized, fits}
 use Rattle.checks.specs.declared.Checked.{Checked}
 use Rattle.checks.specs.declared.Checked.the-variants.{Fine, Bad}
-use Rattle.runs.specs.declared.Tree.{Tree}
+use Rattle.runs.specs.Tree.{Tree}
 use Rattle.runs.specs.Runs.{listed, levelsIn, Bounded}
 use Rattle.runs.specs.Push.{columns}
 pub use Rattle.alloc.specs.declared.Draft.{Draft}

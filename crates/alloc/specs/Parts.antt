@@ -6,7 +6,7 @@ use lib.ListN.{length, take, set}
 use Rattle.spec.specs.Disk.{Disk}
 use Rattle.spec.specs.Bitmap.{bitsOf, freeBits, mark, pick, picks}
 use Rattle.spec.specs.Inode.{inodeAt, dataOf, nodesOf, runs}
-use Rattle.runs.specs.declared.Runs.{Runs}
+use Rattle.runs.specs.Tree.{Runs}
 use Rattle.runs.specs.Push.{Holds, Small}
 use Rattle.alloc.specs.declared.Nodes.{Nodes}
 

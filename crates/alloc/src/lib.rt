@@ -7,10 +7,11 @@ use bitmap::lowest_free_from;
 use bitmap::set_bit;
 use checks::Checked;
 use extents::Piece;
-use extents::next_piece;
-use extents::stretch;
+use extents::next_piece_in;
+use extents::stretch_at;
 use inode::Cursor;
 use inode::Step;
+use inode::inode_block_in;
 use inode::next;
 use inode::start;
 use inode::table_block;
@@ -19,14 +20,16 @@ use runs::push;
 use spec::Limits;
 use spec::Refusal;
 use spec::Session;
+use transaction::staged_count;
 ghost use mathlib.Core.Path.{_≡_};
 ghost use mathlib.Core.Bool.{true};
 ghost use Prim.Native.Nat.{_+_, _*_, _-_, _%_, _<_, _≤_};
-ghost use lib.ListN.{take, drop, set};
+ghost use lib.ListN.{length, take, drop, set};
 ghost use Rattle.spec.specs.Bytes.{upFrom};
 ghost use Rattle.spec.specs.Bitmap.{bitsOf, freeBits, mark};
 ghost use Rattle.spec.specs.Inode.{nodesFor};
 ghost use Rattle.spec.specs.Transaction.{view, stateOf};
+ghost use Rattle.transaction.specs.Places.{viewIn};
 ghost use Rattle.checks.specs.declared.Checked.the-variants.{Bad};
 ghost use Rattle.runs.specs.Push.{Small, columns, noEnd};
 ghost use Rattle.alloc.specs.Parts.{dataAt, nodesAt, Picked, KeptOf, GaveBack, TookData, HeldNodes, TookNodes};
@@ -127,20 +130,20 @@ fn keep<'a>(
     count: &mut [u32; 512],
     device: &'a [u8],
     work: &'a [u8],
-    s: Session,
+    staged: &[u32],
     i: usize,
     wanted: usize,
 ) -> Kept
-    requires { ⌜ (i < 128) × Small (columns (now first) (now count) noEnd) 0 ⌝ }
-    ensures { λ q. ⌜ KeptOf (dataAt (view (stateOf s (now (device .entry)) (now (work .entry)))) i) wanted
+    requires { ⌜ (i < 128) × (length (now staged) ≤ 32) × Small (columns (now first) (now count) noEnd) 0 ⌝ }
+    ensures { λ q. ⌜ KeptOf (dataAt (viewIn (now (staged .entry)) (now (device .entry)) (now (work .entry))) i) wanted
         (columns (now (first .exit)) (now (count .exit)) (q .end)) (q .count) ⌝ }
 {
     let tb = table_block(i);
-    let mut scan = stretch(device, work, s, i, 0, wanted);
+    let mut scan = stretch_at(inode_block_in(device, work, staged, i), i, 0, wanted);
     let mut end = End { len: 0, next: 0 };
     let mut n: usize = 0;
     loop {
-        match next_piece(device, work, s, tb, scan) {
+        match next_piece_in(device, work, staged, tb, scan) {
             Piece::Blocks(e, then) => {
                 let more = push(first, count, end, e.first, e.count);
                 end = more;
@@ -154,23 +157,28 @@ fn keep<'a>(
     }
 }
 
-// The data blocks of record i from block `from` on given back; how many.
+// The data blocks of record i from block `from` on given back, where so many of those before are kept; how many.
 fn give_back<'a>(
     t: &mut [u8; 512],
     device: &'a [u8],
     work: &'a [u8],
-    s: Session,
+    staged: &[u32],
     i: usize,
     from: usize,
+    kept: usize,
 ) -> usize
-    requires { ⌜ i < 128 ⌝ }
-    ensures { λ n. ⌜ GaveBack (drop from (dataAt (view (stateOf s (now (device .entry)) (now (work .entry)))) i)) (now (t .entry)) (now (t .exit)) n ⌝ }
+    requires { ⌜ (i < 128) × (length (now staged) ≤ 32) × (kept ≡ length (take from (dataAt (viewIn (now staged) (now device) (now work)) i))) ⌝ }
+    ensures { λ n. ⌜ GaveBack (drop from (dataAt (viewIn (now (staged .entry)) (now (device .entry)) (now (work .entry))) i)) (now (t .entry)) (now (t .exit)) n ⌝ }
 {
     let tb = table_block(i);
-    let mut scan = stretch(device, work, s, i, from, MAX_FILE_BLOCKS);
+    if kept < from {
+        return 0;
+    }
+    let table = inode_block_in(device, work, staged, i);
+    let mut scan = stretch_at(table, i, from, MAX_FILE_BLOCKS);
     let mut count: usize = 0;
     loop {
-        match next_piece(device, work, s, tb, scan) {
+        match next_piece_in(device, work, staged, tb, scan) {
             Piece::Blocks(e, then) => {
                 release_run(t, e.first, e.count);
                 count += e.count as usize;
@@ -319,7 +327,9 @@ pub fn draft_of<'a>(
     ensures { λ d. ⌜ Drafted (view (stateOf s (now (device .entry)) (now (work .entry)))) i wanted (now (table .exit)) (now (first .exit)) (now (count .exit)) d ⌝ }
 {
     let free = free_count(table);
-    let kept = keep(first, count, device, work, s, i, wanted);
+    let l = s.staged;
+    let n = staged_count(s);
+    let kept = keep(first, count, device, work, &l[0..n], i, wanted);
     let fresh = wanted - kept.count;
     if free < fresh {
         return refused(Refusal::NoSpace);
@@ -335,7 +345,7 @@ pub fn draft_of<'a>(
         return refused(Refusal::TooManyExtents);
     }
     let node = take_nodes(table, held, nodes);
-    let dropped = give_back(table, device, work, s, i, wanted);
+    let dropped = give_back(table, device, work, &l[0..n], i, wanted, kept.count);
     give_nodes(table, held, nodes);
     known(*table);
     Draft {

@@ -1,11 +1,15 @@
 -- The run list in cells. Assumes nothing.
-use Prim.Native.Nat.{ℕ, zero, suc, _+_, _*_, _/_, _<_, _≤_}
+use Prim.Native.Nat.{ℕ, zero, suc, _+_, _*_, _-_, _/_, _<_, _≤_, min}
 use native.Mathlib.Omega.{arith}
 use native.Mathlib.Numerals.{add-one}
 use mathlib.Core.Path.{_≡_, refl, sym, ap, _∙_, subst}
+use mathlib.Core.Bool.{Bool, true, false}
 use mathlib.Core.List.{List, [], _∷_, _++_}
-use lib.ListN.{length, take, drop, getD, length-take, length-set}
-use lib.Seq.{take-length}
+use mathlib.Core.Logic.{_⊎_, inl, inr}
+use borrow.Author.Tests.{eqb-true, eqb-false}
+use lib.Dec.{eqb}
+use lib.ListN.{length, take, drop, getD, length-take, length-drop, length-set}
+use lib.Seq.{take-length, take-all}
 use Rattle.spec.specs.declared.Extent.{Extent}
 use Rattle.spec.specs.declared.Counted.{Counted}
 use Rattle.spec.specs.declared.Counted.the-variants.{Refused, Count}
@@ -16,14 +20,18 @@ use Rattle.spec.specs.Inode.{extent, blockOfInode}
 use Rattle.spec.specs.Answers.{refuse, accept, countedOf as answerOf}
 use Rattle.spec.specs.Transaction.{State, stateOf, view}
 use Rattle.spec.specs.Calls.{Outcome, fileOk, runsOf, runList}
+use Rattle.spec.specs.Disk.{Disk}
+use Rattle.block.proofs.Laws.{lt-or-le}
 use Rattle.extents.specs.declared.Growing.{Growing}
-use Rattle.extents.specs.Stretches.{Fits, restRuns, NextRun}
-use Rattle.extents.proofs.Laws.{Begun}
+use Rattle.extents.specs.declared.Scan.{Scan}
+use Rattle.extents.specs.Stretches.{pending, GoesOn, runsIn, Fits, restRuns, NextRun, growingFrom}
+use Rattle.extents.proofs.Laws.{BegunIn, Grown, grow-none, grow-last}
 use Rattle.runlist.specs.Lists.{countsOf, countOk, namedRuns, manyOf, filled}
 use Rattle.runlist.proofs.Laws.{Told, told, count-bad, count-fine, count-short}
 use Rattle.mirror.specs.declared.CCounted.{CCounted}
 use Rattle.mirror.specs.Mirror.{countedOf, Lists, extentsOf, withExtents}
-use Rattle.mirror.proofs.Cells.{putAt, length-extents, with-none, with-next, with-rest}
+use Rattle.capi.specs.Cells.{putAt, Put, Last, Listed}
+use Rattle.mirror.proofs.Cells.{length-extents, with-none, with-next, with-rest}
 
 -- ---- the cells as they are filled
 
@@ -47,42 +55,119 @@ take-whole [] (suc k) q = refl
 take-whole (x ∷ xs) zero q = cc
 take-whole (x ∷ xs) (suc k) q = ap (λ (l : List Extent). x ∷ l) (take-whole xs k q)
 
--- the first k of the runs are in the cells, and the others are still to come
-pub record Filling (s : State) (i from n tb : ℕ) (before after : List ℕ) (g : Growing) (k : ℕ) : Type 0 where
+-- no more are left
+drop-none : (es : List Extent) (k : ℕ) → k ≤ length es → drop k es ≡ [] → k ≡ length es
+drop-none es k h q = omega (arith, length-drop k es, ap length q)
+
+-- k of the runs are told, in the cells as far as there are pairs, and the others are still to come
+pub record Filling (v : Disk) (i from n tb : ℕ) (before after : List ℕ) (g : Growing) (k : ℕ) : Type 0 where
   pub fits : Fits g
-  pub rest : restRuns (view s) tb g ≡ drop k (runsOf s i from n)
-  pub room : 2 * length (runsOf s i from n) ≤ length before
-  pub few : length (runsOf s i from n) ≤ 2048
+  pub rest : restRuns v tb g ≡ drop k (runsIn v i from n)
+  pub inside : k ≤ length (runsIn v i from n)
+  pub few : length (runsIn v i from n) ≤ 2048
   pub size : length after ≡ length before
-  pub cells : after ≡ withExtents before (take k (runsOf s i from n))
+  pub cells : after ≡ withExtents before (take (min k (length before / 2)) (runsIn v i from n))
 
-pub fill-start : (s : State) (i from n tb : ℕ) (cells : List ℕ) (g : Growing) → Begun s i from n tb g → 2 * length (runsOf s i from n) ≤ length cells
-    → Filling s i from n tb cells cells g 0
-fill-start s i from n tb cells g b h =
-    record { fits = b .fits; rest = b .runs; room = h; few = b .few; size = refl; cells = sym (with-none cells) }
+pub fill-start : (v : Disk) (i from n tb : ℕ) (cells : List ℕ) (g : Growing) → BegunIn v i from n tb g → Filling v i from n tb cells cells g 0
+fill-start v i from n tb cells g b =
+    let z : min 0 (length cells / 2) ≡ 0 = omega arith in
+    record { fits = b .fits; rest = b .runs; inside = omega arith; few = b .few; size = refl; cells = rw z (sym (with-none cells)) }
 
-module _ (s : State) (i from n tb : ℕ) (before after : List ℕ) (g : Growing) (k : ℕ) (f : Filling s i from n tb before after g k) where
-  module _ (e : Extent) (d : Growing) (r : NextRun (view s) tb g e d) where
-    here : Next (runsOf s i from n) k e (restRuns (view s) tb d)
-    here = next-of (runsOf s i from n) k e (restRuns (view s) tb d) (sym (f .rest) ∙ r .runs)
+module _ (v : Disk) (i from n tb : ℕ) (before after : List ℕ) (g : Growing) (k : ℕ) (f : Filling v i from n tb before after g k) where
+  pub fill-low : k ≤ 2048
+  fill-low = omega (arith, f .inside, f .few)
 
-    -- there are two cells for this run
-    pub fill-room : (2 * k + 1 < length after) × (k < 2048)
-    fill-room = (omega (arith, here .inside, f .room, f .size), omega (arith, here .inside, f .few))
+  -- the run that grows
+  pub fill-grown : (d : Growing) → Grown v tb g d → Filling v i from n tb before after d k
+  fill-grown d h = record { fits = h .fits; rest = sym (h .runs) ∙ f .rest; inside = f .inside; few = f .few; size = f .size; cells = f .cells }
 
-    pub fill-more : Filling s i from n tb before (putAt after k e) d (k + 1)
-    fill-more =
+  -- a step that leaves the blocks as they are
+  pub fill-on : (run : Extent) (c d : Scan) → g ≡ record { run = run; scan = c } → GoesOn v tb c d → Filling v i from n tb before after (record { run = run; scan = d }) k
+  unfolding restRuns
+  fill-on run c d e s =
+      fill-grown (record { run = run; scan = d })
+      (record {
+        runs = rw (e, s .blocks);
+        fits = let h : Fits (record { run = run; scan = c }) = rw e at (f .fits) in record { first = h .first; count = omega (arith, h .count, s .room) };
+      })
+
+  module _ (e : Extent) (d : Growing) (r : NextRun v tb g e d) where
+    here : Next (runsIn v i from n) k e (restRuns v tb d)
+    here = next-of (runsIn v i from n) k e (restRuns v tb d) (sym (f .rest) ∙ r .runs)
+
+    pub fill-more : (next : List ℕ) → Put after next k e → Filling v i from n tb before next d (k + 1)
+    fill-more next p =
         record {
           fits = r .fits;
           rest = rw (add-one k) (here .after);
-          room = f .room;
+          inside = omega (arith, here .inside);
           few = f .few;
-          size = simp length-set (f .size);
-          cells = with-next (runsOf s i from n) before after k e (f .cells) (here .is) (here .inside) (omega (arith, here .inside, f .room));
+          size = kept .0;
+          cells = kept .1;
         }
+      where
+        m : ℕ
+        m = length before / 2
 
-  pub fill-end : restRuns (view s) tb g ≡ [] → after ≡ withExtents before (runsOf s i from n)
-  fill-end q = f .cells ∙ ap (withExtents before) (take-whole (runsOf s i from n) k (sym (f .rest) ∙ q))
+        kept : (length next ≡ length before) × (next ≡ withExtents before (take (min (k + 1) m) (runsIn v i from n)))
+        kept = go (lt-or-le k m)
+          where
+            go : (k < m) ⊎ (m ≤ k) → (length next ≡ length before) × (next ≡ withExtents before (take (min (k + 1) m) (runsIn v i from n)))
+            go (inl l) =
+                let a : min (k + 1) m ≡ k + 1 = omega arith in
+                let b : min k m ≡ k = omega arith in
+                let c : after ≡ withExtents before (take k (runsIn v i from n)) = rw b at (f .cells) in
+                let q : next ≡ putAt after k e = p .within (omega (arith, f .size)) in
+                (rw q (simp length-set (f .size)), q ∙ rw a (with-next (runsIn v i from n) before after k e c (here .is) (here .inside) (omega arith)))
+            go (inr l) =
+                let a : min (k + 1) m ≡ m = omega arith in
+                let b : min k m ≡ m = omega arith in
+                let c : after ≡ withExtents before (take m (runsIn v i from n)) = rw b at (f .cells) in
+                let q : next ≡ after = p .past (omega (arith, f .size)) in
+                (ap length q ∙ f .size, q ∙ rw a c)
+
+  pub fill-end : restRuns v tb g ≡ [] → Listed (runsIn v i from n) before after k
+  fill-end q =
+      let e = drop-none (runsIn v i from n) k (f .inside) (sym (f .rest) ∙ q) in
+      record { count = e; cells = f .cells ∙ ap (withExtents before) (rw e (cut (lt-or-le (length (runsIn v i from n)) (length before / 2)))) }
+    where
+      es : List Extent
+      es = runsIn v i from n
+
+      cut : (length es < length before / 2) ⊎ (length before / 2 ≤ length es) → take (min (length es) (length before / 2)) es ≡ take (length before / 2) es
+      cut (inl l) = let z : min (length es) (length before / 2) ≡ length es = omega arith in rw z (take-length es ∙ sym (take-all (length before / 2) es (omega arith)))
+      cut (inr l) = let z : min (length es) (length before / 2) ≡ length before / 2 = omega arith in rw z
+
+-- at the end of the blocks the run that was growing is the last
+pub fill-last : (v : Disk) (i from n tb : ℕ) (before after left : List ℕ) (run : Extent) (c : Scan) (k r : ℕ)
+    → Filling v i from n tb before after (record { run = run; scan = c }) k → pending v tb c ≡ [] → Last after left k run r → Listed (runsIn v i from n) before left r
+fill-last v i from n tb before after left run c k r f p l = go (eqb (run .count) 0) refl
+  where
+    g : Growing
+    g = record { run = run; scan = c }
+
+    same : Grown v tb g g
+    same = record { runs = refl; fits = f .fits }
+
+    go : (t : Bool) → eqb (run .count) 0 ≡ t → Listed (runsIn v i from n) before left r
+    go true h =
+        let z = eqb-true (run .count) 0 h in
+        let q = l .none z in
+        let e = fill-end v i from n tb before after g k f (grow-none v tb g g same p z) in
+        record { count = q .0 ∙ e .count; cells = q .1 ∙ e .cells }
+    go false h =
+        let z = eqb-false (run .count) 0 h in
+        let q = l .one z in
+        let d = growingFrom c in
+        let s = grow-last v tb g g same p z d refl in
+        let h = fill-more v i from n tb before after g k f run d s left (q .1) in
+        let e = fill-end v i from n tb before left d (k + 1) h (grow-none v tb d d (record { runs = refl; fits = s .fits }) p refl) in
+        record { count = q .0 ∙ e .count; cells = e .cells }
+
+-- where there are pairs for all
+pub listed-all : (es fs : List Extent) (before after : List ℕ) (r : ℕ) → Listed es before after r → es ≡ fs → length fs ≤ length before / 2 → after ≡ withExtents before fs
+listed-all es fs before after r l e h =
+    l .cells ∙ ap (withExtents before) (rw e (take-all (length before / 2) fs h))
 
 -- ---- what is answered and left in the cells
 

@@ -2,13 +2,15 @@
 // Each promise: all that is returned and left is the call's outcome, in numbers, at the session that the numbers given stand for.
 // A refusal hands back that session in its own numbers: phase 0 where the number given was none, place 0 where the phase has none.
 use block::ByteOffset;
+use block::DiskBlock;
 use block::FileBlock;
-use extents::RunStep;
-use extents::count_runs;
-use extents::growing_from;
-use extents::next_run;
-use extents::stretch;
-use inode::table_block;
+use extents::AtNode;
+use extents::AtSlot;
+use extents::pass_slots;
+use extents::stretch_at;
+use extents::take_node;
+use extents::take_slot;
+use inode::inode_block_in;
 use lookup::Looked;
 use lookup::look_up;
 use mirror::CAdvanced;
@@ -26,6 +28,7 @@ use mirror::finished;
 use mirror::recorded;
 use mirror::run;
 use spec::Counted;
+use spec::Extent;
 use spec::Refusal;
 use spec::Session;
 use store::abort;
@@ -43,14 +46,19 @@ use store::rename;
 use store::set_size;
 use store::size;
 use store::write;
+use transaction::staged_count;
+use transaction::view_in;
 ghost use mathlib.Core.Path.{_≡_};
 ghost use mathlib.Core.List.{List};
-ghost use Prim.Native.Nat.{ℕ, _*_, _<_, _≤_};
+ghost use Prim.Native.Nat.{ℕ, _<_, _≤_};
 ghost use lib.ListN.{length};
 ghost use Rattle.spec.specs.Answers.{countedOf as answerOf};
 ghost use Rattle.spec.specs.Transaction.{stateOf};
-ghost use Rattle.spec.specs.Calls.{format, openStore, advance, commit, abort, create, remove, rename, write, setSize, read, sizeOf, freeCount, recordAt, nthExtent, runsOf, runList};
-ghost use Rattle.mirror.specs.Mirror.{decode, countedOf, recordedOf, runOf, Finishes, Commits, Advances, Reads, Lists, extentsOf, withExtents};
+ghost use Rattle.spec.specs.Calls.{format, openStore, advance, commit, abort, create, remove, rename, write, setSize, read, sizeOf, freeCount, recordAt, nthExtent, runList};
+ghost use Rattle.transaction.specs.Places.{viewIn};
+ghost use Rattle.extents.specs.Stretches.{runsIn};
+ghost use Rattle.capi.specs.Cells.{Put, Last, Listed};
+ghost use Rattle.mirror.specs.Mirror.{decode, countedOf, recordedOf, runOf, Finishes, Commits, Advances, Reads, Lists, extentsOf};
 
 // Makes an empty store. The work space is not lent: whatever it holds stays.
 #[no_mangle]
@@ -277,35 +285,92 @@ pub extern "C" fn purse_nth_extent_v<'a>(
     run(answer)
 }
 
-// The runs of n data blocks of record i from block `from` on, into the first pairs of cells.
+// Run k into its pair of cells, where there is one.
+fn put_run(list: &mut [u32], k: usize, run: Extent)
+    ensures { λ _. ⌜ Put (now (list .entry)) (now (list .exit)) k run ⌝ }
+{
+    if k < list.len() / 2 {
+        list[2 * k] = run.first;
+        list[2 * k + 1] = run.count;
+    }
+}
+
+// The last run, if there is one; how many there are.
+fn put_last(list: &mut [u32], k: usize, run: Extent) -> usize
+    requires { ⌜ k ≤ 2048 ⌝ }
+    ensures { λ r. ⌜ Last (now (list .entry)) (now (list .exit)) k run r ⌝ }
+{
+    if run.count == 0 {
+        return k;
+    }
+    put_run(list, k, run);
+    k + 1
+}
+
+// The runs of n data blocks of record i from block `from` on, into pairs of cells as far as there are pairs; how many.
 fn put_runs<'a>(
     device: &'a [u8],
     work: &'a [u8],
-    s: Session,
+    staged: &[u32],
     i: usize,
     from: usize,
     n: usize,
     list: &mut [u32],
-)
-    requires { ⌜ (i < 128) × (2 * length (runsOf (stateOf s (now device) (now work)) i from n) ≤ length (now list)) ⌝ }
-    ensures { λ _. ⌜ now (list .exit) ≡ withExtents (now (list .entry)) (runsOf (stateOf s (now (device .entry)) (now (work .entry))) i from n) ⌝ }
+) -> usize
+    requires { ⌜ (i < 128) × (length (now staged) ≤ 32) ⌝ }
+    ensures { λ r. ⌜ Listed (runsIn (viewIn (now (staged .entry)) (now (device .entry)) (now (work .entry))) i from n) (now (list .entry)) (now (list .exit)) r ⌝ }
 {
-    let tb = table_block(i);
-    let mut at = growing_from(stretch(device, work, s, i, from, n));
+    let table = inode_block_in(device, work, staged, i);
+    let mut scan = stretch_at(table, i, from, n);
+    let cur = scan.at;
+    let mut block = view_in(device, work, staged, DiskBlock(cur.block));
+    let mut run = Extent { first: 0, count: 0 };
     let mut k: usize = 0;
-    loop {
-        match next_run(device, work, s, tb, at) {
-            RunStep::Run(e, then) => {
-                list[2 * k] = e.first;
-                list[2 * k + 1] = e.count;
-                k += 1;
-                at = then;
+    while 0 < scan.room {
+        match take_slot(block, scan) {
+            AtSlot::Piece(e, then) => {
+                if run.count == 0 {
+                    run = e;
+                } else if run.first + run.count == e.first {
+                    run.count += e.count;
+                } else {
+                    put_run(list, k, run);
+                    k += 1;
+                    run = e;
+                }
+                scan = then;
             }
-            RunStep::End => {
-                return;
+            AtSlot::Passed(then) => {
+                scan = pass_slots(block, then);
             }
+            AtSlot::Unused => match take_node(table, scan) {
+                AtNode::Node(b, then) => {
+                    block = view_in(device, work, staged, DiskBlock(b));
+                    scan = then;
+                }
+                AtNode::End => {
+                    return put_last(list, k, run);
+                }
+            },
         }
     }
+    put_last(list, k, run)
+}
+
+// How many runs they have: the same walk with no pair of cells.
+fn count_runs<'a>(
+    device: &'a [u8],
+    work: &'a [u8],
+    staged: &[u32],
+    i: usize,
+    from: usize,
+    n: usize,
+) -> usize
+    requires { ⌜ (i < 128) × (length (now staged) ≤ 32) ⌝ }
+    ensures { λ r. ⌜ r ≡ length (runsIn (viewIn (now (staged .entry)) (now (device .entry)) (now (work .entry))) i from n) ⌝ }
+{
+    let mut none = [0u32; 1];
+    put_runs(device, work, staged, i, from, n, &mut none)
 }
 
 // 1, 2, 3, 12, 13 and 19, or the run list put into pairs of cells: the tree once for the count, and once for the runs.
@@ -321,12 +386,14 @@ fn list_runs<'a>(
     ensures { λ r. ⌜ Lists (countedOf (answerOf r)) (now (list .entry)) (now (list .exit))
         (runList (stateOf s (now (device .entry)) (now (work .entry))) (now (name .entry)) from n (extentsOf (now (list .entry)))) ⌝ }
 {
+    let l = s.staged;
+    let many = staged_count(s);
     match look_up(device, work, s, name) {
         Looked::Bad(why) => Counted::Refused(why),
         Looked::At(i) => {
-            let count = count_runs(device, work, s, i, from, n);
+            let count = count_runs(device, work, &l[0..many], i, from, n);
             if count <= list.len() / 2 {
-                put_runs(device, work, s, i, from, n, list);
+                put_runs(device, work, &l[0..many], i, from, n, list);
                 Counted::Count(count)
             } else {
                 Counted::Refused(Refusal::ListShort)

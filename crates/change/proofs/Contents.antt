@@ -11,7 +11,7 @@ use Rattle.spec.specs.Inode.{placeOfInode, nodeBytes}
 use Rattle.spec.specs.Plan.{newContent}
 use Rattle.runs.specs.Runs.{listed}
 use Rattle.content.specs.Content.{withRecord, nodeContent, dataContent}
-use Rattle.change.specs.declared.Change.{Change}
+use Rattle.change.specs.Change.{Change}
 use Rattle.change.specs.Contents.{contentOf, contentIn}
 
 -- the ways of `content`

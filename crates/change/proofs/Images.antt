@@ -19,7 +19,7 @@ use Rattle.block.specs.Stores.{storedIn}
 use Rattle.block.proofs.Laws.{length-exactly, getD-exactly, exactly-all, block-is, block-read, with-same, same-self, same-true}
 use Rattle.block.proofs.Steps.{slice-stored}
 use Rattle.transaction.specs.declared.Place.the-variants.{At, Nothing}
-use Rattle.transaction.specs.Places.{foundAt, spot, blocksWith}
+use Rattle.transaction.specs.Places.{foundAt, spot, blocksWith, viewIn}
 use Rattle.transaction.proofs.Laws.{spot-at, spot-new, view-at, view-new, stage-leaves}
 use Rattle.inode.specs.Records.{bytesIn}
 use Rattle.content.specs.Content.{withRecord}
@@ -116,16 +116,20 @@ module _ (s : Session) (device work : List ℕ) (b : ℕ) where
   abbrev viewed : List ℕ
   viewed = view (stateOf s device work) b
 
+  view-staged : viewed ≡ viewIn (stagedIn s) device work b
+  unfolding view viewIn
+  view-staged = refl
+
   -- where the block is staged its image is its working copy
   pub image-held : (i : ℕ) → foundAt (place b (stagedIn s)) ≡ At i → sliceOf work ≡ storedIn (sliceOf work) (spot s b) viewed
   image-held i e =
       ap (λ (d : Disk). record { size = length work; block = d }) (sym (with-self i (blocksOf work)))
-      ∙ ap₂ (λ (k : ℕ) (x : List ℕ). storedIn (sliceOf work) k x) (spot-at s b i e) (sym (view-at s b device work i e))
+      ∙ ap₂ (λ (k : ℕ) (x : List ℕ). storedIn (sliceOf work) k x) (spot-at s b i e) (sym (view-staged ∙ view-at (stagedIn s) device work b i e))
 
   pub image-new : (left from : List ℕ) (n : ℕ) → foundAt (place b (stagedIn s)) ≡ Nothing → n ≡ length (stagedIn s) → from ≡ take 512 (drop (512 * b) device)
       → sliceOf left ≡ storedIn (sliceOf work) n (exactly 512 from) → sliceOf left ≡ storedIn (sliceOf work) (spot s b) viewed
   image-new left from n e en ef h =
-      h ∙ ap₂ (λ (k : ℕ) (x : List ℕ). storedIn (sliceOf work) k x) (en ∙ spot-new s b e) (block-read device from (exactly 512 from) b ef refl ∙ sym (view-new s b device work e))
+      h ∙ ap₂ (λ (k : ℕ) (x : List ℕ). storedIn (sliceOf work) k x) (en ∙ spot-new s b e) (block-read device from (exactly 512 from) b ef refl ∙ sym (view-staged ∙ view-new (stagedIn s) device work b e))
 
   -- its content made there, in the part that is lent
   module _ (w : List ℕ) (k : ℕ) (e : k ≡ spot s b) (fits : 512 * k + 512 ≤ length w) (loaded : sliceOf w ≡ storedIn (sliceOf work) (spot s b) viewed) where

@@ -10,7 +10,7 @@ use lib.Seq.{getD-append-add}
 use Rattle.spec.specs.declared.Extent.{Extent}
 use Rattle.spec.specs.Bytes.{upFrom}
 use Rattle.spec.specs.Inode.{extent, blocksIn, counts}
-use Rattle.runs.specs.declared.Runs.{Runs}
+use Rattle.runs.specs.Tree.{Runs}
 use Rattle.runs.specs.declared.End.{End}
 use Rattle.runs.specs.Push.{columns}
 use Rattle.runs.specs.Runs.{extentsFrom, listed}

@@ -24,7 +24,7 @@ use Rattle.agenda.specs.declared.Agenda.{Agenda}
 use Rattle.agenda.specs.Agenda.{storesBy, Rising, Lists, freshIn}
 use Rattle.agenda.proofs.Laws.{ascending-rising, fits-is}
 use Rattle.lists.specs.Tests.{both-true}
-use Rattle.change.specs.declared.Change.{Change}
+use Rattle.change.specs.Change.{Change}
 use Rattle.change.specs.Contents.{contentOf, contentIn}
 
 each-longer : (ws : List BlockStore) (u : Staged) → length (u .blocks) ≤ length (stageEach u ws .blocks)

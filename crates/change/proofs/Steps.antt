@@ -20,8 +20,7 @@ use Rattle.agenda.specs.declared.Agenda.{Agenda}
 use Rattle.agenda.specs.Agenda.{Lists}
 use Rattle.agenda.proofs.Laws.{insert-over}
 use Rattle.block.proofs.Laws.{lt-or-le}
-use Rattle.change.specs.declared.Change.{Change}
-use Rattle.change.specs.Change.{changeStores}
+use Rattle.change.specs.Change.{Change, changeStores}
 use Rattle.change.specs.Contents.{contentOf, contentIn, withChanged, dataStores, nodeStores, recordStores, Numbers}
 use Rattle.change.proofs.Contents.{content-bitmap, content-record, content-node, content-data}
 

@@ -6,8 +6,15 @@ use Rattle.spec.specs.Disk.{Disk}
 use Rattle.spec.specs.Inode.{blocksIn}
 use Rattle.spec.specs.Transaction.{BlockStore}
 use Rattle.spec.specs.Plan.{edit, ifChanged, storesOf, inodeEdit, nodeEdits, dataEdits}
+use Rattle.runs.specs.Tree.{Tree}
 use Rattle.runs.specs.Runs.{listed, nodesIn}
-pub use Rattle.change.specs.declared.Change.{Change}
+
+-- a change of a file: its tree and the bitmap, the bytes of its record, its size before and after
+pub record Change : Type 0 where
+  pub tree : Tree
+  pub «record» : List ℕ
+  pub old : ℕ
+  pub size : ℕ
 
 -- the stores of a change of record i, with bytes laid over the file at x
 unfoldable pub changeStores : Disk → ℕ → Change → ℕ → List ℕ → List BlockStore

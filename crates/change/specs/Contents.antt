@@ -10,11 +10,11 @@ use Rattle.spec.specs.Disk.{Disk}
 use Rattle.spec.specs.Inode.{blocksIn, counts}
 use Rattle.spec.specs.Transaction.{BlockStore, put}
 use Rattle.spec.specs.Plan.{edit, ifChanged, storesOf, inodeEdit, nodeEdits, dataEdits, isStaged, newContent}
-use Rattle.runs.specs.declared.Runs.{Runs}
+use Rattle.runs.specs.Tree.{Runs}
 use Rattle.runs.specs.Runs.{extentsFrom, listed, nodesIn}
 use Rattle.runs.specs.Push.{columns}
 use Rattle.content.specs.Content.{withRecord, nodeContent, dataContent}
-use Rattle.change.specs.declared.Change.{Change}
+use Rattle.change.specs.Change.{Change}
 use Rattle.change.specs.declared.Outline.{Outline}
 
 -- a change from its bitmap, the columns of its extents and the rest

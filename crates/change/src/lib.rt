@@ -15,7 +15,6 @@ use content::node_content;
 use inode::inode_block;
 use inode::table_block;
 use runs::End;
-use runs::Tree;
 use spec::Done;
 use spec::Finished;
 use spec::Limits;
@@ -48,14 +47,6 @@ ghost use Rattle.agenda.specs.Agenda.{Lists, storesBy, Rising};
 ghost use Rattle.change.specs.Change.{Change, changeStores};
 ghost use Rattle.change.specs.Window.{Outside};
 ghost use Rattle.change.specs.Contents.{contentOf, contentIn, withChanged, dataStores, nodeStores, placeOf, changeOf, Numbers, IsBlock};
-
-// A change of a file: its tree and the bitmap, the bytes of its record, its size before and after.
-pub struct Change {
-    pub tree: Tree,
-    pub record: [u8; 32],
-    pub old: usize,
-    pub size: usize,
-}
 
 // All of a change but the bitmap and the columns of its extents: where these end, its nodes, the bytes of its record, its numbers.
 pub struct Outline {

@@ -17,7 +17,7 @@ use Rattle.block.proofs.Laws.{lt-or-le, exactly-all, exactly-nil}
 use Rattle.spec.specs.declared.Extent.{Extent}
 use Rattle.spec.specs.Inode.{extent, bytesOfSlots}
 use Rattle.spec.specs.Plan.{overlay, isLastKept}
-use Rattle.runs.specs.declared.Runs.{Runs}
+use Rattle.runs.specs.Tree.{Runs}
 use Rattle.runs.specs.Runs.{extentsFrom, listed}
 use Rattle.content.specs.Content.{withRecord, nodeContent, laidOver, cutTo, keptContent, dataContent}
 

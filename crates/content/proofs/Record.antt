@@ -13,8 +13,7 @@ use lib.Seq.{getD-take, drop-drop}
 use Rattle.spec.specs.declared.Extent.{Extent}
 use Rattle.spec.specs.Bytes.{exactly, bytes2, bytes4}
 use Rattle.spec.specs.Inode.{extent, counts, bytesOfSlots, nodeSlots, topSlots, bytesOfInode, inodeWith}
-use Rattle.runs.specs.declared.Runs.{Runs}
-use Rattle.runs.specs.declared.Tree.{Tree}
+use Rattle.runs.specs.Tree.{Runs, Tree}
 use Rattle.runs.specs.Runs.{extentsFrom, listed, nodesIn, levelsIn, Bounded}
 use Rattle.lists.specs.Extents.{counts-append}
 use Rattle.content.specs.Content.{treeOf, countsBelow, slotsAbove}

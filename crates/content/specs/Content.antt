@@ -8,8 +8,7 @@ use Rattle.spec.specs.Bytes.{exactly, patch, zeros}
 use Rattle.spec.specs.declared.Extent.{Extent}
 use Rattle.spec.specs.Inode.{placeOfInode, nodeBytes, counts, topSlots}
 use Rattle.spec.specs.Plan.{overlay, clearTail, isLastKept, newContent}
-use Rattle.runs.specs.declared.Runs.{Runs}
-use Rattle.runs.specs.declared.Tree.{Tree}
+use Rattle.runs.specs.Tree.{Runs, Tree}
 use Rattle.runs.specs.declared.End.{End}
 use Rattle.runs.specs.Push.{columns}
 use Rattle.runs.specs.Runs.{listed, levelsIn}

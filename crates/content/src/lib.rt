@@ -9,7 +9,7 @@ ghost use lib.ListN.{length, getD};
 ghost use Rattle.spec.specs.Bytes.{bytes2, bytes4};
 ghost use Rattle.spec.specs.Inode.{extent, bytesOfInode, inodeWith};
 ghost use Rattle.spec.specs.Plan.{isLastKept, holdsData, isStaged};
-ghost use Rattle.runs.specs.declared.Tree.{Tree};
+ghost use Rattle.runs.specs.Tree.{Tree};
 ghost use Rattle.runs.specs.Runs.{Bounded, listed, levelsIn};
 ghost use Rattle.runs.specs.Push.{columns};
 ghost use Rattle.content.specs.Content.{treeOf, withRecord, nodeContent, countsBelow, slotsAbove, laidOver, cutTo, keptContent, dataContent};

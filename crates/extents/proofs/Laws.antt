@@ -10,23 +10,31 @@ use lib.Dec.{eqb}
 use lib.ListN.{length, take, drop, getElem?, length-append, length-take}
 use lib.Seq.{take-nil, drop-nil}
 use Rattle.spec.specs.declared.Extent.{Extent}
-use Rattle.spec.specs.Bytes.{upFrom}
+use Rattle.spec.specs.Bytes.{exactly, upFrom}
 use Rattle.spec.specs.Disk.{Disk}
 use Rattle.spec.specs.Inode.{extent, inodeAt, blockOfInode, blocksIn, extentsOf, dataOf, prepend, runs}
-use Rattle.spec.specs.Transaction.{State, view}
+use Rattle.spec.specs.declared.Session.{Session}
+use Rattle.spec.specs.Session.{stagedIn}
+use Rattle.spec.specs.Transaction.{State, stateOf, view}
 use Rattle.spec.specs.Calls.{runsOf}
+use Rattle.transaction.specs.Places.{viewIn}
+use Rattle.transaction.proofs.Laws.{view-lent}
 use Rattle.inode.specs.declared.Cursor.{Cursor}
-use Rattle.inode.specs.Walk.{rest, startOf, Onward, Inward, Ended}
-use Rattle.inode.proofs.Walk.{walk-leaf, walk-node, walk-end, extents-start}
+use Rattle.inode.specs.Walk.{Slot, live, leaf, rest, startOf, Onward, Inward, Ended}
+use Rattle.inode.proofs.Walk.{walk-leaf, walk-node, walk-end, extents-start, slot-of, step-leaf, no-leaf, step-node, step-end}
 use Rattle.extents.specs.declared.Sought.{Sought}
 use Rattle.extents.specs.declared.Sought.the-variants as sought
 use Rattle.extents.specs.declared.Scan.{Scan}
 use Rattle.extents.specs.declared.Piece.{Piece}
 use Rattle.extents.specs.declared.Piece.the-variants as piece
+use Rattle.extents.specs.declared.AtSlot.{AtSlot}
+use Rattle.extents.specs.declared.AtSlot.the-variants as slot
+use Rattle.extents.specs.declared.AtNode.{AtNode}
+use Rattle.extents.specs.declared.AtNode.the-variants as node
 use Rattle.extents.specs.declared.Growing.{Growing}
 use Rattle.extents.specs.declared.RunStep.{RunStep}
 use Rattle.extents.specs.declared.RunStep.the-variants as step
-use Rattle.extents.specs.Stretches.{Reached, Seeks, Held, pending, Starts, NextPiece, Pieces, restRuns, Fits, NextRun, RunSteps, growingFrom}
+use Rattle.extents.specs.Stretches.{Reached, Seeks, Held, pending, Starts, NextPiece, Pieces, TakesPiece, GoesOn, Passes, moved, SlotSteps, NodeSteps, runsIn, restRuns, Fits, NextRun, RunSteps, growingFrom}
 
 -- ---- lists of numbers in a row
 
@@ -189,6 +197,118 @@ module _ (v : Disk) (tb : ℕ) (c : Scan) where
         room = omega arith;
       }
 
+-- ---- one slot or node of a stretch
+
+module _ (v : Disk) (tb : ℕ) (c : Scan) where
+  -- the cursor behind the first slot
+  abbrev behind : Cursor
+  behind = record { block = c .at .block; at = c .at .at + 4; left = c .at .left - 1; top = c .at .top; tops = c .at .tops }
+
+  module _ (X : List ℕ) (x : X ≡ v (c .at .block)) (e : Extent) (r : Bool) (s : Slot X (c .at .at) e) (l : r ≡ live (c .at .left) e) where
+    onward : r ≡ true → Onward v tb (c .at) e behind
+    onward h = step-leaf v tb (c .at) e r (slot-of X (v (c .at .block)) (c .at .at) e x s) l h
+
+    pub slot-piece : r ≡ true → c .skip < e .count → 0 < c .room → (m : ℕ) → m ≡ min (e .count - c .skip) (c .room)
+        → TakesPiece v tb c (extent (e .first + c .skip) m) (record { at = behind; skip = 0; room = c .room - m })
+    slot-piece h k p m q =
+        let o = onward h in
+        record {
+          piece = piece-in v tb c e (c .skip) m behind (seek-hit v tb (c .at) (c .at) (c .skip) (c .skip) refl e behind o k) (λ z. omega arith) q;
+          less = o .less;
+          block = refl;
+        }
+
+    pub slot-passed : r ≡ true → e .count ≤ c .skip
+        → GoesOn v tb c (record { at = behind; skip = c .skip - e .count; room = c .room })
+    unfolding pending blocksFrom
+    slot-passed h k =
+        let o = onward h in
+        record {
+          blocks = ap (take (c .room)) (sym (seek-past v tb (c .at) (c .at) (c .skip) (c .skip) refl e behind o k));
+          room = refl;
+          less = o .less;
+        }
+
+    pub slot-unused : r ≡ false → leaf v (c .at .block) (c .at .at) (c .at .left) ≡ []
+    slot-unused h = no-leaf v (c .at .block) (c .at .at) (c .at .left) e r (slot-of X (v (c .at .block)) (c .at .at) e x s) l h
+
+  module _ (X : List ℕ) (x : X ≡ v tb) (t : Extent) (r : Bool) (s : Slot X (c .at .top) t) (l : r ≡ live (c .at .tops) t)
+      (none-left : leaf v (c .at .block) (c .at .at) (c .at .left) ≡ []) where
+    pub node-next : r ≡ true
+        → GoesOn v tb c (record { at = record { block = t .first; at = 0; left = 128; top = c .at .top + 4; tops = c .at .tops - 1 }; skip = c .skip; room = c .room })
+    unfolding pending
+    node-next h =
+        let i = step-node v tb (c .at) t r none-left (slot-of X (v tb) (c .at .top) t x s) l h in
+        record { blocks = ap (λ (es : List Extent). take (c .room) (drop (c .skip) (blocksIn es))) (i .extents); room = refl; less = i .less }
+
+    pub node-none : r ≡ false → pending v tb c ≡ []
+    unfolding blocksIn
+    node-none h =
+        let i = step-end v tb (c .at) t r none-left (slot-of X (v tb) (c .at .top) t x s) l h in
+        no-piece v tb c (rw (i .extents) (drop-nil (c .skip)))
+
+  -- a step by its kind
+  pub on-slot-piece : (r : AtSlot) (e : Extent) (d : Scan) → SlotSteps v tb c r → r ≡ slot.Piece e d → TakesPiece v tb c e d
+  on-slot-piece r e d s q = rw q at s
+
+  pub on-slot-passed : (r : AtSlot) (d : Scan) → SlotSteps v tb c r → r ≡ slot.Passed d → GoesOn v tb c d × (d .at .block ≡ c .at .block)
+  on-slot-passed r d s q = rw q at s
+
+  pub on-slot-unused : (r : AtSlot) → SlotSteps v tb c r → r ≡ slot.Unused → leaf v (c .at .block) (c .at .at) (c .at .left) ≡ []
+  on-slot-unused r s q = rw q at s
+
+  pub on-node-next : (r : AtNode) (b : ℕ) (d : Scan) → NodeSteps v tb c r → r ≡ node.Node b d → GoesOn v tb c d × (d .at .block ≡ b)
+  on-node-next r b d s q = rw q at s
+
+  pub on-node-none : (r : AtNode) → NodeSteps v tb c r → r ≡ node.End → pending v tb c ≡ []
+  on-node-none r s q = rw q at s
+
+-- slots passed, one by one
+module _ (c : Scan) (X : List ℕ) (at left skip : ℕ) where
+  -- with `left` slots from byte `at` and `skip` blocks, nothing is lost
+  abbrev Passing : Type 0
+  Passing = (v : Disk) (tb : ℕ) → X ≡ v (c .at .block) → Passes v tb c (moved c at left skip)
+
+  module _ (h : Passing) (e : Extent) (r : Bool) (s : Slot X at e) (l : r ≡ live left e) (live-one : r ≡ true) where
+    pub pass-more : e .count ≤ skip → (v : Disk) (tb : ℕ) → X ≡ v (c .at .block) → Passes v tb c (moved c (at + 4) (left - 1) (skip - e .count))
+    pass-more k v tb x =
+        let p = h v tb x in
+        let g = slot-passed v tb (moved c at left skip) X x e r s l live-one k in
+        record { blocks = p .blocks ∙ g .blocks; room = refl; less = omega (arith, p .less, g .less); block = refl }
+
+pub pass-none : (c : Scan) (v : Disk) (tb : ℕ) → Passes v tb c (moved c (c .at .at) (c .at .left) (c .skip))
+pass-none c v tb = record { blocks = refl; room = refl; less = omega arith; block = refl }
+
+pub pass-end : (c d : Scan) (X : List ℕ) (at left skip : ℕ) → d ≡ moved c at left skip → ((v : Disk) (tb : ℕ) → X ≡ v (c .at .block) → Passes v tb c (moved c at left skip))
+    → (v : Disk) (tb : ℕ) → X ≡ v (c .at .block) → Passes v tb c d
+pass-end c d X at left skip e h v tb x = rw e (h v tb x)
+
+-- a slot passed, and those behind it
+pub goes-further : (v : Disk) (tb : ℕ) (c m d : Scan) → GoesOn v tb c m × (m .at .block ≡ c .at .block) → Passes v tb m d → GoesOn v tb c d × (d .at .block ≡ c .at .block)
+goes-further v tb c m d g p =
+    (record { blocks = g .0 .blocks ∙ p .blocks; room = p .room ∙ g .0 .room; less = omega (arith, p .less, g .0 .less) }, p .block ∙ g .1)
+
+-- a walk that has gone from c₀ to c, with the block of its cursor in hand
+pub record Walked (v : Disk) (tb : ℕ) (c₀ c : Scan) (block : List ℕ) : Type 0 where
+  pub blocks : pending v tb c₀ ≡ pending v tb c
+  pub room : c .room ≡ c₀ .room
+  pub hand : exactly 512 block ≡ v (c .at .block)
+  pub few : length block ≤ 512
+
+module _ (v : Disk) (tb : ℕ) (c₀ c : Scan) (block : List ℕ) (w : Walked v tb c₀ c block) where
+  pub walked-piece : (e : Extent) (d : Scan) → TakesPiece v tb c e d → NextPiece v tb c₀ e d
+  walked-piece e d t =
+      let p = t .piece in
+      record { blocks = w .blocks ∙ p .blocks; some = p .some; first = p .first; room = p .room ∙ w .room }
+
+  pub walked-passed : (d : Scan) → GoesOn v tb c d × (d .at .block ≡ c .at .block) → Walked v tb c₀ d block
+  walked-passed d g =
+      record { blocks = w .blocks ∙ g .0 .blocks; room = g .0 .room ∙ w .room; hand = w .hand ∙ ap v (sym (g .1)); few = w .few }
+
+  pub walked-node : (b : ℕ) (d : Scan) (x : List ℕ) → GoesOn v tb c d × (d .at .block ≡ b) → (exactly 512 x ≡ v b) × (length x ≤ 512) → Walked v tb c₀ d x
+  walked-node b d x g h =
+      record { blocks = w .blocks ∙ g .0 .blocks; room = g .0 .room ∙ w .room; hand = h .0 ∙ ap v (sym (g .1)); few = h .1 }
+
 -- ---- maximal runs
 
 -- a run that goes on
@@ -317,17 +437,38 @@ runs-few (x ∷ xs) = go (runs xs) (runs-few xs)
         join false h = omega arith
 
 -- at the start all runs of the stretch are left
+pub record BegunIn (v : Disk) (i from n tb : ℕ) (g : Growing) : Type 0 where
+  pub runs : restRuns v tb g ≡ runsIn v i from n
+  pub few : length (runsIn v i from n) ≤ 2048
+  pub fits : Fits g
+
+pub begin-in : (v : Disk) (i from n tb : ℕ) (c : Scan) (g : Growing) → tb ≡ blockOfInode i → Starts v i from n c → g ≡ growingFrom c → BegunIn v i from n tb g
+unfolding restRuns runsIn pending
+begin-in v i from n tb c g t h q =
+    let p : length (pending v (blockOfInode i) c) ≤ 2048 = omega (arith, length-take (c .room) (drop (c .skip) (blocksIn (rest v (blockOfInode i) (c .at)))), h .room) in
+    record {
+      runs = rw (q, t) (ap runs (h .blocks));
+      few = omega (arith, runs-few (take n (drop from (dataOf v (inodeAt v i)))), ap length (h .blocks), p);
+      fits = rw q (record { first = omega arith; count = omega (arith, h .room) });
+    }
+
+-- the same of a state
+pub runs-of : (s : State) (i from n : ℕ) → runsIn (view s) i from n ≡ runsOf s i from n
+unfolding runsIn runsOf
+runs-of s i from n = refl
+
+-- of a session whose staged numbers are lent
+pub runs-lent : (s : Session) (device work : List ℕ) (m i from n : ℕ) → length (s .staged) ≡ 32 → m ≡ length (stagedIn s)
+    → runsIn (viewIn (take (m - 0) (drop 0 (s .staged))) device work) i from n ≡ runsOf (stateOf s device work) i from n
+runs-lent s device work m i from n l e =
+    ap (λ (v : Disk). runsIn v i from n) (view-lent s device work m l e) ∙ runs-of (stateOf s device work) i from n
+
 pub record Begun (s : State) (i from n tb : ℕ) (g : Growing) : Type 0 where
   pub runs : restRuns (view s) tb g ≡ runsOf s i from n
   pub few : length (runsOf s i from n) ≤ 2048
   pub fits : Fits g
 
 pub begin : (s : State) (i from n tb : ℕ) (c : Scan) (g : Growing) → tb ≡ blockOfInode i → Starts (view s) i from n c → g ≡ growingFrom c → Begun s i from n tb g
-unfolding restRuns runsOf pending
 begin s i from n tb c g t h q =
-    let p : length (pending (view s) (blockOfInode i) c) ≤ 2048 = omega (arith, length-take (c .room) (drop (c .skip) (blocksIn (rest (view s) (blockOfInode i) (c .at)))), h .room) in
-    record {
-      runs = rw (q, t) (ap runs (h .blocks));
-      few = omega (arith, runs-few (take n (drop from (dataOf (view s) (inodeAt (view s) i)))), ap length (h .blocks), p);
-      fits = rw q (record { first = omega arith; count = omega (arith, h .room) });
-    }
+    let b = begin-in (view s) i from n tb c g t h q in
+    record { runs = b .runs ∙ runs-of s i from n; few = rw (← runs-of s i from n) (b .few); fits = b .fits }

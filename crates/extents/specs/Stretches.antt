@@ -9,7 +9,7 @@ use Rattle.spec.specs.Bytes.{upFrom}
 use Rattle.spec.specs.Disk.{Disk}
 use Rattle.spec.specs.Inode.{extent, inodeAt, blockOfInode, blocksIn, dataOf, runs}
 use Rattle.inode.specs.declared.Cursor.{Cursor}
-use Rattle.inode.specs.Walk.{rest}
+use Rattle.inode.specs.Walk.{rest, leaf, weight}
 use Rattle.extents.specs.declared.Place.{Place}
 use Rattle.extents.specs.declared.Place.the-variants as place
 use Rattle.extents.specs.declared.Sought.{Sought}
@@ -17,6 +17,10 @@ use Rattle.extents.specs.declared.Sought.the-variants as sought
 use Rattle.extents.specs.declared.Scan.{Scan}
 use Rattle.extents.specs.declared.Piece.{Piece}
 use Rattle.extents.specs.declared.Piece.the-variants as piece
+use Rattle.extents.specs.declared.AtSlot.{AtSlot}
+use Rattle.extents.specs.declared.AtSlot.the-variants as slot
+use Rattle.extents.specs.declared.AtNode.{AtNode}
+use Rattle.extents.specs.declared.AtNode.the-variants as node
 use Rattle.extents.specs.declared.Growing.{Growing}
 use Rattle.extents.specs.declared.RunStep.{RunStep}
 use Rattle.extents.specs.declared.RunStep.the-variants as step
@@ -70,7 +74,42 @@ abbrev pub Pieces : Disk → ℕ → Scan → Piece → Type 0
 Pieces v tb c (piece.Blocks e d) = NextPiece v tb c e d
 Pieces v tb c piece.End = pending v tb c ≡ []
 
+-- the first slot at c holds the blocks of e, and d is behind it
+pub record TakesPiece (v : Disk) (tb : ℕ) (c : Scan) (e : Extent) (d : Scan) : Type 0 where
+  pub piece : NextPiece v tb c e d
+  pub less : weight (d .at) < weight (c .at)
+  pub block : d .at .block ≡ c .at .block
+
+-- at d the blocks that are left at c are left, and fewer slots
+pub record GoesOn (v : Disk) (tb : ℕ) (c d : Scan) : Type 0 where
+  pub blocks : pending v tb c ≡ pending v tb d
+  pub room : d .room ≡ c .room
+  pub less : weight (d .at) < weight (c .at)
+
+-- the same with no more slots, in the same block
+pub record Passes (v : Disk) (tb : ℕ) (c d : Scan) : Type 0 where
+  pub blocks : pending v tb c ≡ pending v tb d
+  pub room : d .room ≡ c .room
+  pub less : weight (d .at) ≤ weight (c .at)
+  pub block : d .at .block ≡ c .at .block
+
+abbrev pub moved : Scan → ℕ → ℕ → ℕ → Scan
+moved c at left skip = record { at = record { block = c .at .block; at = at; left = left; top = c .at .top; tops = c .at .tops }; skip = skip; room = c .room }
+
+abbrev pub SlotSteps : Disk → ℕ → Scan → AtSlot → Type 0
+SlotSteps v tb c (slot.Piece e d) = TakesPiece v tb c e d
+SlotSteps v tb c (slot.Passed d) = GoesOn v tb c d × (d .at .block ≡ c .at .block)
+SlotSteps v tb c slot.Unused = leaf v (c .at .block) (c .at .at) (c .at .left) ≡ []
+
+abbrev pub NodeSteps : Disk → ℕ → Scan → AtNode → Type 0
+NodeSteps v tb c (node.Node b d) = GoesOn v tb c d × (d .at .block ≡ b)
+NodeSteps v tb c node.End = pending v tb c ≡ []
+
 -- ---- its maximal runs
+
+-- the run list of n data blocks of record i from block `from` on
+unfoldable pub runsIn : Disk → ℕ → ℕ → ℕ → List Extent
+runsIn v i from n = runs (take n (drop from (dataOf v (inodeAt v i))))
 
 unfoldable pub restRuns : Disk → ℕ → Growing → List Extent
 restRuns v tb g = runs (upFrom (g .run .first) (g .run .count) ++ pending v tb (g .scan))

@@ -1,17 +1,29 @@
 // Stretches of a file's data blocks: the extent that holds a block of a file, and the maximal runs of a stretch.
+use block::DiskBlock;
 use inode::Cursor;
 use inode::Step;
+use inode::inode_block_in;
+use inode::is_live;
 use inode::next;
+use inode::slot_in;
 use inode::start;
+use inode::start_at;
 use inode::table_block;
 use spec::Extent;
 use spec::Session;
+use transaction::staged_count;
+use transaction::view_in;
 ghost use mathlib.Core.Path.{_≡_};
-ghost use Prim.Native.Nat.{_-_, _<_, min};
+ghost use mathlib.Core.List.{[]};
+ghost use Prim.Native.Nat.{ℕ, _-_, _<_, _≤_, min};
 ghost use lib.ListN.{length, getElem?};
-ghost use Rattle.spec.specs.Calls.{runsOf};
+ghost use Rattle.spec.specs.Bytes.{exactly};
+ghost use Rattle.spec.specs.Disk.{Disk};
+ghost use Rattle.spec.specs.Inode.{blockOfInode};
 ghost use Rattle.spec.specs.Transaction.{view, stateOf};
-ghost use Rattle.extents.specs.Stretches.{Seeks, Places, Fits, Pieces, Starts, RunSteps, growingFrom, runOf};
+ghost use Rattle.transaction.specs.Places.{viewIn};
+ghost use Rattle.inode.specs.Walk.{leaf};
+ghost use Rattle.extents.specs.Stretches.{Seeks, Places, Fits, Pieces, Starts, SlotSteps, NodeSteps, Passes, moved, RunSteps, growingFrom, runOf, runsIn};
 
 // "a file size of at most 1,048,576"
 const MAX_FILE_BLOCKS: usize = 2048;
@@ -114,7 +126,17 @@ pub fn stretch<'a>(
     requires { ⌜ i < 128 ⌝ }
     ensures { λ r. ⌜ Starts (view (stateOf s (now (device .entry)) (now (work .entry)))) i from n r ⌝ }
 {
-    let at = start(device, work, s, i);
+    let l = s.staged;
+    let count = staged_count(s);
+    stretch_at(inode_block_in(device, work, &l[0..count], i), i, from, n)
+}
+
+// The same, of the block of the table that holds record i.
+pub fn stretch_at(table: &[u8], i: usize, from: usize, n: usize) -> Scan
+    requires { ⌜ i < 128 ⌝ }
+    ensures { λ r. ⌜ ((v : Disk) → exactly 512 (now (table .entry)) ≡ v (blockOfInode i) → Starts v i from n r) ⌝ }
+{
+    let at = start_at(table, i);
     let room = room_from(from, n);
     Scan {
         at: at,
@@ -130,31 +152,173 @@ fn at_most(n: u32, room: usize) -> u32
     if most < room { n } else { room as u32 }
 }
 
+// What the first slot that is left of a leaf does to a stretch.
+pub enum AtSlot {
+    Piece(Extent, Scan),
+    Passed(Scan),
+    Unused,
+}
+
+// The first slot of a stretch that is not at its end, read from the block of its cursor: a walk lends each block once.
+pub fn take_slot(block: &[u8], scan: Scan) -> AtSlot
+    requires { ⌜ (length (now block) ≤ 512) × (0 < scan .room) ⌝ }
+    ensures { λ r. ⌜ ((v : Disk) (tb : ℕ) → exactly 512 (now (block .entry)) ≡ v (scan .at .block) → SlotSteps v tb scan r) ⌝ }
+{
+    let cur = scan.at;
+    let e = slot_in(block, cur.at);
+    if !is_live(cur.left, e) {
+        return AtSlot::Unused;
+    }
+    let then = Cursor {
+        block: cur.block,
+        at: cur.at + 4,
+        left: cur.left - 1,
+        top: cur.top,
+        tops: cur.tops,
+    };
+    let room = scan.room;
+    let count = e.count as usize;
+    if count <= scan.skip {
+        return AtSlot::Passed(Scan {
+            at: then,
+            skip: scan.skip - count,
+            room: room,
+        });
+    }
+    let skip = scan.skip as u32;
+    let n = at_most(e.count - skip, room);
+    AtSlot::Piece(
+        Extent {
+            first: e.first + skip,
+            count: n,
+        },
+        Scan {
+            at: then,
+            skip: 0,
+            room: room - (n as usize),
+        },
+    )
+}
+
+fn moved(scan: Scan, at: usize, left: usize, skip: usize) -> Scan
+    ensures { λ r. ⌜ r ≡ moved scan at left skip ⌝ }
+{
+    let cur = scan.at;
+    let then = Cursor {
+        block: cur.block,
+        at: at,
+        left: left,
+        top: cur.top,
+        tops: cur.tops,
+    };
+    Scan {
+        at: then,
+        skip: skip,
+        room: scan.room,
+    }
+}
+
+// The stretch behind all slots of this block that end before it begins: a loop with nothing but them.
+pub fn pass_slots(block: &[u8], scan: Scan) -> Scan
+    requires { ⌜ length (now block) ≤ 512 ⌝ }
+    ensures { λ r. ⌜ ((v : Disk) (tb : ℕ) → exactly 512 (now (block .entry)) ≡ v (scan .at .block) → Passes v tb scan r) ⌝ }
+{
+    let cur = scan.at;
+    let mut at = cur.at;
+    let mut left = cur.left;
+    let mut skip = scan.skip;
+    loop {
+        let e = slot_in(block, at);
+        if !is_live(left, e) {
+            return moved(scan, at, left, skip);
+        }
+        let count = e.count as usize;
+        if skip < count {
+            return moved(scan, at, left, skip);
+        }
+        skip -= count;
+        at += 4;
+        left -= 1;
+    }
+}
+
+// The node that follows a leaf with no slot left.
+pub enum AtNode {
+    Node(u32, Scan),
+    End,
+}
+
+// The next node of a stretch, read from the block of its record.
+pub fn take_node(table: &[u8], scan: Scan) -> AtNode
+    requires { ⌜ length (now table) ≤ 512 ⌝ }
+    ensures { λ r. ⌜ ((v : Disk) (tb : ℕ) → exactly 512 (now (table .entry)) ≡ v tb
+        → leaf v (scan .at .block) (scan .at .at) (scan .at .left) ≡ [] → NodeSteps v tb scan r) ⌝ }
+{
+    let cur = scan.at;
+    let t = slot_in(table, cur.top);
+    if !is_live(cur.tops, t) {
+        return AtNode::End;
+    }
+    let then = Cursor {
+        block: t.first,
+        at: 0,
+        left: 128,
+        top: cur.top + 4,
+        tops: cur.tops - 1,
+    };
+    AtNode::Node(
+        t.first,
+        Scan {
+            at: then,
+            skip: scan.skip,
+            room: scan.room,
+        },
+    )
+}
+
 pub fn next_piece<'a>(device: &'a [u8], work: &'a [u8], s: Session, tb: u32, scan: Scan) -> Piece
     ensures { λ r. ⌜ Pieces (view (stateOf s (now (device .entry)) (now (work .entry)))) tb scan r ⌝ }
 {
-    let room = scan.room;
-    if room == 0 {
-        return Piece::End;
-    }
+    let l = s.staged;
+    let n = staged_count(s);
+    next_piece_in(device, work, &l[0..n], tb, scan)
+}
+
+// The same where these blocks are staged.
+pub fn next_piece_in<'a>(
+    device: &'a [u8],
+    work: &'a [u8],
+    staged: &[u32],
+    tb: u32,
+    scan: Scan,
+) -> Piece
+    requires { ⌜ length (now staged) ≤ 32 ⌝ }
+    ensures { λ r. ⌜ Pieces (viewIn (now (staged .entry)) (now (device .entry)) (now (work .entry))) tb scan r ⌝ }
+{
+    let table = view_in(device, work, staged, DiskBlock(tb));
     let cur = scan.at;
-    match seek(device, work, s, tb, cur, scan.skip) {
-        Sought::In(e, skip, then) => {
-            let count = at_most(e.count - skip, room);
-            Piece::Blocks(
-                Extent {
-                    first: e.first + skip,
-                    count: count,
-                },
-                Scan {
-                    at: then,
-                    skip: 0,
-                    room: room - (count as usize),
-                },
-            )
+    let mut block = view_in(device, work, staged, DiskBlock(cur.block));
+    let mut at = scan;
+    while 0 < at.room {
+        match take_slot(block, at) {
+            AtSlot::Piece(e, then) => {
+                return Piece::Blocks(e, then);
+            }
+            AtSlot::Passed(then) => {
+                at = pass_slots(block, then);
+            }
+            AtSlot::Unused => match take_node(table, at) {
+                AtNode::Node(b, then) => {
+                    block = view_in(device, work, staged, DiskBlock(b));
+                    at = then;
+                }
+                AtNode::End => {
+                    return Piece::End;
+                }
+            },
         }
-        Sought::Nothing => Piece::End,
     }
+    Piece::End
 }
 
 // A run that may go on, of no blocks at first, and what is left of the stretch behind it.
@@ -184,10 +348,26 @@ pub fn next_run<'a>(device: &'a [u8], work: &'a [u8], s: Session, tb: u32, from:
     requires { ⌜ Fits from ⌝ }
     ensures { λ r. ⌜ RunSteps (view (stateOf s (now (device .entry)) (now (work .entry)))) tb from r ⌝ }
 {
+    let l = s.staged;
+    let n = staged_count(s);
+    next_run_in(device, work, &l[0..n], tb, from)
+}
+
+// The same where these blocks are staged.
+pub fn next_run_in<'a>(
+    device: &'a [u8],
+    work: &'a [u8],
+    staged: &[u32],
+    tb: u32,
+    from: Growing,
+) -> RunStep
+    requires { ⌜ Fits from × (length (now staged) ≤ 32) ⌝ }
+    ensures { λ r. ⌜ RunSteps (viewIn (now (staged .entry)) (now (device .entry)) (now (work .entry))) tb from r ⌝ }
+{
     let mut run = from.run;
     let mut scan = from.scan;
     loop {
-        match next_piece(device, work, s, tb, scan) {
+        match next_piece_in(device, work, staged, tb, scan) {
             Piece::Blocks(e, then) => {
                 if run.count == 0 {
                     run = e;
@@ -218,20 +398,20 @@ pub enum RunOf {
 pub fn nth_extent<'a>(
     device: &'a [u8],
     work: &'a [u8],
-    s: Session,
+    staged: &[u32],
     i: usize,
     from: usize,
     n: usize,
     k: usize,
 ) -> RunOf
-    requires { ⌜ i < 128 ⌝ }
-    ensures { λ r. ⌜ r ≡ runOf (getElem? (runsOf (stateOf s (now (device .entry)) (now (work .entry))) i from n) k) ⌝ }
+    requires { ⌜ (i < 128) × (length (now staged) ≤ 32) ⌝ }
+    ensures { λ r. ⌜ r ≡ runOf (getElem? (runsIn (viewIn (now (staged .entry)) (now (device .entry)) (now (work .entry))) i from n) k) ⌝ }
 {
     let tb = table_block(i);
-    let mut at = growing_from(stretch(device, work, s, i, from, n));
+    let mut at = growing_from(stretch_at(inode_block_in(device, work, staged, i), i, from, n));
     let mut left = k;
     loop {
-        match next_run(device, work, s, tb, at) {
+        match next_run_in(device, work, staged, tb, at) {
             RunStep::Run(e, then) => {
                 if left == 0 {
                     return RunOf::Run(e);
@@ -250,19 +430,19 @@ pub fn nth_extent<'a>(
 pub fn count_runs<'a>(
     device: &'a [u8],
     work: &'a [u8],
-    s: Session,
+    staged: &[u32],
     i: usize,
     from: usize,
     n: usize,
 ) -> usize
-    requires { ⌜ i < 128 ⌝ }
-    ensures { λ r. ⌜ r ≡ length (runsOf (stateOf s (now (device .entry)) (now (work .entry))) i from n) ⌝ }
+    requires { ⌜ (i < 128) × (length (now staged) ≤ 32) ⌝ }
+    ensures { λ r. ⌜ r ≡ length (runsIn (viewIn (now (staged .entry)) (now (device .entry)) (now (work .entry))) i from n) ⌝ }
 {
     let tb = table_block(i);
-    let mut at = growing_from(stretch(device, work, s, i, from, n));
+    let mut at = growing_from(stretch_at(inode_block_in(device, work, staged, i), i, from, n));
     let mut done: usize = 0;
     loop {
-        match next_run(device, work, s, tb, at) {
+        match next_run_in(device, work, staged, tb, at) {
             RunStep::Run(_, then) => {
                 done += 1;
                 at = then;

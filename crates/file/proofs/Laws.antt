@@ -8,7 +8,9 @@ use lib.ListN.{length, take, drop, getD, set, length-append, length-take, length
 use lib.Seq.{ext-getD, getD-take, take-suc, take-suc-set, take-all, getD-drop, drop-append-add, drop-append-le, take-append-le, take-at, take-take, drop-at, drop-drop, take-add}
 use Rattle.spec.specs.Bytes.{exactly, concat, upFrom}
 use Rattle.spec.specs.Disk.{Disk}
-use Rattle.block.proofs.Laws.{getD-exactly, length-exactly, exactly-take, exactly-all}
+use Rattle.block.proofs.Laws.{getD-exactly, length-exactly, exactly-take, exactly-all, block-byte}
+use Rattle.transaction.specs.Places.{viewIn}
+use Rattle.transaction.proofs.Laws.{view-in-length}
 use Rattle.inode.proofs.Laws.{drop-take}
 use Rattle.file.specs.Bytes.{runBytes}
 
@@ -52,6 +54,42 @@ run-part v w first (suc count) (suc j) off n h k =
     let e : 512 * suc j + off ≡ length (v first) + (512 * j + off) = omega (arith, w first) in
     let f : first + suc j ≡ suc first + j = omega arith in
     rw (e, f, drop-append-add (v first) (runBytes v (suc first) count) (512 * j + off)) (run-part v w (suc first) count j off n (omega arith) k)
+
+-- one byte of it
+run-byte : (v : Disk) → ((b : ℕ) → length (v b) ≡ 512) → (first count i : ℕ) → i < 512 * count → getD (runBytes v first count) i 0 ≡ getD (v (first + i / 512)) (i % 512) 0
+run-byte v w first count i h =
+    let R = runBytes v first count in
+    let f : 512 * (i / 512) + i % 512 ≡ i = omega arith in
+    let p : take 1 (drop i R) ≡ take 1 (drop (i % 512) (v (first + i / 512))) =
+    ap (λ (k : ℕ). take 1 (drop k R)) (sym f) ∙ run-part v w first count (i / 512) (i % 512) 1 (omega arith) (omega arith)
+    in
+    sym (head i R) ∙ ap (λ (l : List ℕ). getD l 0 0) p ∙ head (i % 512) (v (first + i / 512))
+  where
+    head : (i : ℕ) (xs : List ℕ) → getD (take 1 (drop i xs)) 0 0 ≡ getD xs i 0
+    head i xs = let z : i + 0 ≡ i = omega arith in getD-take 1 (drop i xs) 0 0 (omega arith) ∙ getD-drop i xs 0 0 ∙ rw z
+
+-- where nothing is staged, bytes of a run that the device has are a part of it
+pub run-direct : (l device work : List ℕ) (first count skip len : ℕ) → length l ≡ 0 → skip + len ≤ 512 * count → 512 * first + skip + len ≤ length device
+    → take (512 * first + skip + len - (512 * first + skip)) (drop (512 * first + skip) device) ≡ take len (drop skip (runBytes (viewIn l device work) first count))
+unfolding viewIn
+run-direct (x ∷ l) device work first count skip len z h k = absurd (omega arith)
+run-direct [] device work first count skip len z h k =
+    let v = viewIn [] device work in
+    let from = 512 * first + skip in
+    let n : from + len - from ≡ len = omega arith in
+    let w = view-in-length [] device work in
+    let a : length (take len (drop from device)) ≡ len = simp (length-take, length-drop) (omega arith) in
+    rw n (ext-getD 0 (take len (drop from device)) (take len (drop skip (runBytes v first count))) (a ∙ sym (run-few v w))
+    (λ i m.
+    let j : i < len = rw a at m in
+    let e : 512 * (first + (skip + i) / 512) + (skip + i) % 512 ≡ from + i = omega arith in
+    getD-take len (drop from device) i 0 j ∙ getD-drop from device i 0
+    ∙ sym (getD-take len (drop skip (runBytes v first count)) i 0 j ∙ getD-drop skip (runBytes v first count) i 0
+    ∙ run-byte v w first count (skip + i) (omega arith) ∙ block-byte device (first + (skip + i) / 512) ((skip + i) % 512) (omega arith)
+    ∙ ap (λ (q : ℕ). getD device q 0) e)))
+  where
+    run-few : (v : Disk) → ((b : ℕ) → length (v b) ≡ 512) → length (take len (drop skip (runBytes v first count))) ≡ len
+    run-few v w = simp (length-take, length-drop) (omega (arith, run-length v w first count))
 
 -- what comes next, `done` bytes into a stretch of the run that begins at byte `skip`
 pub run-next : (v : Disk) → ((b : ℕ) → length (v b) ≡ 512) → (first count skip len done n : ℕ) → skip + len ≤ 512 * count → done + n ≤ len → 0 < n

@@ -15,7 +15,7 @@ use Rattle.spec.specs.Map.{contentOf}
 use Rattle.block.proofs.Laws.{lt-or-le}
 use Rattle.inode.proofs.Laws.{drop-take}
 use Rattle.extents.specs.declared.Scan.{Scan}
-use Rattle.extents.specs.Stretches.{pending, Starts, NextPiece}
+use Rattle.extents.specs.Stretches.{pending, Starts, NextPiece, GoesOn}
 use Rattle.file.specs.Bytes.{runBytes, blockBytes, Filled}
 use Rattle.file.proofs.Laws.{run-length, landed, landed-none, landed-length, landed-step}
 
@@ -155,6 +155,21 @@ module _ (v : Disk) (whole : (b : ℕ) → length (v b) ≡ 512) where
           room = omega (arith, p .room, u .room);
           rest = g .rest;
           bytes = b;
+        }
+
+    -- a slot passed or a node entered
+    pub under-on : (d : Scan) → GoesOn v tb scan d → Under v tb w old to d skip done
+    unfolding leftBytes
+    under-on d g =
+        record {
+          fits = u .fits;
+          long = u .long;
+          within = u .within;
+          few = u .few;
+          low = u .low;
+          room = omega (arith, g .room, u .room);
+          rest = u .rest ∙ ap (λ (bs : List ℕ). take (length old - done) (drop skip (concat (map v bs)))) (g .blocks);
+          bytes = u .bytes;
         }
 
     pub under-end : pending v tb scan ≡ [] → Filled w old to done

@@ -3,22 +3,23 @@ use block::ByteOffset;
 use block::DiskBlock;
 use block::copy;
 use block::load;
-use extents::Piece;
-use extents::next_piece;
-use extents::stretch;
-use inode::inode_block;
+use extents::AtNode;
+use extents::AtSlot;
+use extents::pass_slots;
+use extents::stretch_at;
+use extents::take_node;
+use extents::take_slot;
+use inode::inode_block_in;
 use inode::size_of;
-use inode::table_block;
 use spec::Extent;
-use spec::Session;
-use transaction::view_block;
+use transaction::view_in;
 ghost use mathlib.Core.Path.{_≡_};
 ghost use Prim.Native.Nat.{_+_, _*_, _<_, _≤_, min};
 ghost use lib.ListN.{length, take, drop};
 ghost use Rattle.spec.specs.Bytes.{exactly};
 ghost use Rattle.spec.specs.Inode.{inodeAt};
 ghost use Rattle.spec.specs.Map.{contentOf};
-ghost use Rattle.spec.specs.Transaction.{view, stateOf};
+ghost use Rattle.transaction.specs.Places.{viewIn};
 ghost use Rattle.file.specs.Bytes.{runBytes, blockBytes, Filled};
 
 // Bytes of a block from a place on, zeros where the block's bytes end.
@@ -55,17 +56,17 @@ fn least(a: usize, b: usize) -> usize
     b
 }
 
-// Bytes of blocks that follow each other, in the working copy: from byte `skip` of block `first` on.
-fn copy_run<'a>(
+// Bytes of blocks that follow each other, in the working copy: from byte `skip` of block `first` on, block by block.
+fn copy_blocks<'a>(
     device: &'a [u8],
     work: &'a [u8],
-    s: Session,
+    staged: &[u32],
     run: Extent,
     skip: usize,
     to: &mut [u8],
 )
-    requires { ⌜ (skip + length (now to) ≤ 512 * run .count) × (run .first < 131072) × (run .count ≤ 2048) ⌝ }
-    ensures { λ _. ⌜ now (to .exit) ≡ take (length (now (to .entry))) (drop skip (runBytes (view (stateOf s (now (device .entry)) (now (work .entry)))) (run .first) (run .count))) ⌝ }
+    requires { ⌜ (skip + length (now to) ≤ 512 * run .count) × (run .first < 131072) × (run .count ≤ 2048) × (length (now staged) ≤ 32) ⌝ }
+    ensures { λ _. ⌜ now (to .exit) ≡ take (length (now (to .entry))) (drop skip (runBytes (viewIn (now (staged .entry)) (now (device .entry)) (now (work .entry))) (run .first) (run .count))) ⌝ }
 {
     let first = run.first;
     let mut done: usize = 0;
@@ -73,41 +74,76 @@ fn copy_run<'a>(
         let at = skip + done;
         let off = at % 512;
         let end = done + least(512 - off, to.len() - done);
-        let block = view_block(device, work, s, DiskBlock(first + (at / 512) as u32));
+        let block = view_in(device, work, staged, DiskBlock(first + (at / 512) as u32));
         copy_part(block, off, &mut to[done..end]);
         done = end;
     }
+}
+
+// The same; where nothing is staged and the device has them all, they are copied at once.
+fn copy_run<'a>(
+    device: &'a [u8],
+    work: &'a [u8],
+    staged: &[u32],
+    run: Extent,
+    skip: usize,
+    to: &mut [u8],
+)
+    requires { ⌜ (skip + length (now to) ≤ 512 * run .count) × (run .first < 131072) × (run .count ≤ 2048) × (length (now staged) ≤ 32) ⌝ }
+    ensures { λ _. ⌜ now (to .exit) ≡ take (length (now (to .entry))) (drop skip (runBytes (viewIn (now (staged .entry)) (now (device .entry)) (now (work .entry))) (run .first) (run .count))) ⌝ }
+{
+    let from = 512 * (run.first as usize) + skip;
+    let end = from + to.len();
+    if (staged.len() == 0) & (end <= device.len()) {
+        copy(&device[from..end], to);
+        return;
+    }
+    copy_blocks(device, work, staged, run, skip, to);
 }
 
 // Bytes of record i's data blocks from byte x on, as far as they reach; how many.
 fn read_blocks<'a>(
     device: &'a [u8],
     work: &'a [u8],
-    s: Session,
+    staged: &[u32],
     i: usize,
     x: usize,
     to: &mut [u8],
 ) -> usize
-    requires { ⌜ i < 128 ⌝ }
-    ensures { λ r. ⌜ Filled (take (length (now (to .entry))) (drop x (blockBytes (view (stateOf s (now (device .entry)) (now (work .entry)))) i)))
+    requires { ⌜ (i < 128) × (length (now staged) ≤ 32) ⌝ }
+    ensures { λ r. ⌜ Filled (take (length (now (to .entry))) (drop x (blockBytes (viewIn (now (staged .entry)) (now (device .entry)) (now (work .entry))) i)))
         (now (to .entry)) (now (to .exit)) r ⌝ }
 {
-    let tb = table_block(i);
-    let mut scan = stretch(device, work, s, i, x / 512, 2048);
+    let table = inode_block_in(device, work, staged, i);
+    let mut scan = stretch_at(table, i, x / 512, 2048);
+    let cur = scan.at;
+    let mut block = view_in(device, work, staged, DiskBlock(cur.block));
     let mut skip = x % 512;
     let mut done: usize = 0;
     while done < to.len() {
-        match next_piece(device, work, s, tb, scan) {
-            Piece::Blocks(run, then) => {
+        if scan.room == 0 {
+            return done;
+        }
+        match take_slot(block, scan) {
+            AtSlot::Piece(run, then) => {
                 let end = done + least(512 * (run.count as usize) - skip, to.len() - done);
-                copy_run(device, work, s, run, skip, &mut to[done..end]);
+                copy_run(device, work, staged, run, skip, &mut to[done..end]);
                 done = end;
                 skip = 0;
                 scan = then;
             }
-            Piece::End => {
-                return done;
+            AtSlot::Passed(then) => {
+                scan = pass_slots(block, then);
             }
+            AtSlot::Unused => match take_node(table, scan) {
+                AtNode::Node(b, then) => {
+                    block = view_in(device, work, staged, DiskBlock(b));
+                    scan = then;
+                }
+                AtNode::End => {
+                    return done;
+                }
+            },
         }
     }
     done
@@ -117,20 +153,20 @@ fn read_blocks<'a>(
 pub fn read_file<'a>(
     device: &'a [u8],
     work: &'a [u8],
-    s: Session,
+    staged: &[u32],
     i: usize,
     x: ByteOffset,
     buffer: &mut [u8],
 ) -> usize
-    requires { ⌜ i < 128 ⌝ }
-    ensures { λ r. ⌜ Filled (take (length (now (buffer .entry))) (drop (x .0) (contentOf (view (stateOf s (now (device .entry)) (now (work .entry))))
-        (inodeAt (view (stateOf s (now (device .entry)) (now (work .entry)))) i)))) (now (buffer .entry)) (now (buffer .exit)) r ⌝ }
+    requires { ⌜ (i < 128) × (length (now staged) ≤ 32) ⌝ }
+    ensures { λ r. ⌜ Filled (take (length (now (buffer .entry))) (drop (x .0) (contentOf (viewIn (now (staged .entry)) (now (device .entry)) (now (work .entry)))
+        (inodeAt (viewIn (now (staged .entry)) (now (device .entry)) (now (work .entry))) i)))) (now (buffer .entry)) (now (buffer .exit)) r ⌝ }
 {
     let from = x.0;
-    let size = size_of(inode_block(device, work, s, i), i) as usize;
+    let size = size_of(inode_block_in(device, work, staged, i), i) as usize;
     if size <= from {
         return 0;
     }
     let len = least(buffer.len(), size - from);
-    read_blocks(device, work, s, i, from, &mut buffer[0..len])
+    read_blocks(device, work, staged, i, from, &mut buffer[0..len])
 }

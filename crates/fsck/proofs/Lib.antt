@@ -1,2 +1,2 @@
 pub mod Names
-pub mod Shape
+pub mod Records

@@ -8,7 +8,8 @@ use native.Mathlib.Nat.{add-zero}
 use native.Mathlib.Numerals.{add-one}
 use native.Mathlib.Omega.{arith}
 use lib.Dec.{eqb}
-use lib.ListN.{length, take, drop, getD, replicate, length-take, length-drop, length-replicate}
+use borrow.Author.Tests.{eqb-true, eqb-false, eq-eqb, ne-eqb}
+use lib.ListN.{length, take, drop, getD, replicate, length-take, length-drop}
 use lib.Seq.{ext-getD, getD-take, getD-drop, take-take, take-nil, drop-drop}
 use Rattle.spec.specs.Bytes.{exactly, part, number2, number4, same, allZero, found, place, lowest}
 use Rattle.spec.specs.Disk.{Disk, blocksOf}
@@ -16,9 +17,8 @@ use Rattle.spec.specs.declared.Session.{Session}
 use Rattle.spec.specs.Session.{stagedIn}
 use Rattle.spec.specs.Transaction.{view, stateOf}
 use Rattle.spec.specs.Inode.{slotsIn, inodeOf, inodeBytes, inodeAt, nameAt, isEmpty, blockOfInode, placeOfInode, find, findEmpty}
-use Rattle.block.proofs.Laws.{length-exactly, getD-exactly, block-length}
-use Rattle.block.proofs.Steps.{compared-more}
-use Rattle.inode.specs.Records.{bytesIn, recordIn, named, foundOf, lowestTo}
+use Rattle.block.proofs.Laws.{length-exactly, getD-exactly, exactly-all, block-length}
+use Rattle.inode.specs.Records.{bytesIn, recordIn, keyOf, Name, named, foundOf, lowestTo}
 use Rattle.inode.specs.declared.Found.{Found}
 use Rattle.inode.specs.declared.Found.the-variants.{At, Nothing}
 
@@ -146,44 +146,83 @@ module _ (v : Disk) (t : List ℕ) (i : ℕ) (h : exactly 512 t ≡ v (blockOfIn
 
 -- ---- names
 
--- one more byte compared, of the bytes at a place and some others
-pub compared-in : (t bytes : List ℕ) (at k x y : ℕ) (r : Bool) → at + length bytes ≤ 512
-    → same (bytesIn t at (length bytes)) bytes ≡ r && same (drop k (bytesIn t at (length bytes))) (drop k bytes)
-    → k < length bytes → x ≡ getD t (at + k) 0 → y ≡ getD bytes k 0
-    → same (bytesIn t at (length bytes)) bytes ≡ (r && eqb x y) && same (drop (k + 1) (bytesIn t at (length bytes))) (drop (k + 1) bytes)
-compared-in t bytes at k x y r fits h l e f =
-    let a : x ≡ getD (bytesIn t at (length bytes)) k 0 = e ∙ sym (field-byte t at (length bytes) fits k l) in
-    let m : k < length (bytesIn t at (length bytes)) = rw (field-length t at (length bytes) fits) l in
-    rw (a, f) (compared-more k (bytesIn t at (length bytes)) bytes r h m l)
-
--- where the block reaches so far they are a part of it
-pub same-part : (t bytes : List ℕ) (at end : ℕ) (r : Bool) → end ≡ at + length bytes → end ≤ 512 → end ≤ length t → r ≡ same (take (end - at) (drop at t)) bytes
-    → r ≡ same (bytesIn t at (length bytes)) bytes
-same-part t bytes at end r e fits long h =
-    let w = length bytes in
-    let n : end - at ≡ w = omega arith in
+-- where the block reaches so far, bytes at a place of it are a part of it
+pub bytes-part : (t : List ℕ) (at w : ℕ) → at + w ≤ 512 → at + w ≤ length t → take (at + w - at) (drop at t) ≡ bytesIn t at w
+bytes-part t at w fits long =
+    let n : at + w - at ≡ w = omega arith in
     let l : length (take w (drop at t)) ≡ w = simp (length-take, length-drop) (omega arith) in
-    let q : take w (drop at t) ≡ bytesIn t at w =
-    ext-getD 0 (take w (drop at t)) (bytesIn t at w) (l ∙ sym (field-length t at w (omega arith)))
-    (λ i k. let m : i < w = rw l at k in getD-take w (drop at t) i 0 m ∙ getD-drop at t i 0 ∙ sym (field-byte t at w (omega arith) i m))
-    in
-    h ∙ rw n (ap (λ (x : List ℕ). same x bytes) q)
+    rw n (ext-getD 0 (take w (drop at t)) (bytesIn t at w) (l ∙ sym (field-length t at w fits))
+    (λ i k. let m : i < w = rw l at k in getD-take w (drop at t) i 0 m ∙ getD-drop at t i 0 ∙ sym (field-byte t at w fits i m)))
+
+pub name-part : (t : List ℕ) (i at : ℕ) → at ≡ placeOfInode i → at + 8 ≤ length t → take (at + 8 - at) (drop at t) ≡ take 8 (recordIn t i)
+name-part t i at e h =
+    let f = place-fits i in
+    bytes-part t at 8 (omega arith) h ∙ ap (λ (k : ℕ). bytesIn t k 8) e ∙ sym (field-take t (placeOfInode i) 32 f 8 (omega arith))
+
+-- the number of eight bytes, as the code computes it
+pub key-is : (xs : List ℕ) (low high : ℕ) → length xs ≡ 8
+    → low ≡ getD xs 0 0 + 256 * (getD xs 1 0 + 256 * (getD xs 2 0 + 256 * getD xs 3 0))
+    → high ≡ getD xs 4 0 + 256 * (getD xs 5 0 + 256 * (getD xs 6 0 + 256 * getD xs 7 0))
+    → low + 4294967296 * high ≡ keyOf xs
+unfolding keyOf
+key-is xs low high l e f = sym (ap keyOf (eight xs l) ∙ omega (arith, e, f))
+
+-- bytes are equal where their numbers are
+pub same-key : (xs ys : List ℕ) → length xs ≡ length ys → ((i : ℕ) → getD xs i 0 < 256) → ((i : ℕ) → getD ys i 0 < 256) → same xs ys ≡ eqb (keyOf xs) (keyOf ys)
+unfolding keyOf
+same-key [] [] l f g = refl
+same-key [] (y ∷ ys) l f g = absurd (omega arith)
+same-key (x ∷ xs) [] l f g = absurd (omega arith)
+same-key (x ∷ xs) (y ∷ ys) l f g = go (eqb x y) refl (eqb (keyOf xs) (keyOf ys)) refl (same-key xs ys (omega arith) (λ i. f (suc i)) (λ i. g (suc i)))
+  where
+    p : x < 256
+    p = f 0
+
+    q : y < 256
+    q = g 0
+
+    go : (a : Bool) → eqb x y ≡ a → (b : Bool) → eqb (keyOf xs) (keyOf ys) ≡ b → same xs ys ≡ eqb (keyOf xs) (keyOf ys)
+        → eqb x y && same xs ys ≡ eqb (x + 256 * keyOf xs) (y + 256 * keyOf ys)
+    go true h true k e =
+        rw (h, e, k, eq-eqb (x + 256 * keyOf xs) (y + 256 * keyOf ys) (omega (arith, eqb-true x y h, eqb-true (keyOf xs) (keyOf ys) k)))
+    go true h false k e =
+        rw (h, e, k, ne-eqb (x + 256 * keyOf xs) (y + 256 * keyOf ys) (λ z. eqb-false (keyOf xs) (keyOf ys) k (omega (arith, eqb-true x y h))))
+    go false h b k e =
+        rw (h, ne-eqb (x + 256 * keyOf xs) (y + 256 * keyOf ys) (λ z. eqb-false x y h (omega (arith, z, p, q))))
+
+-- the same bytes otherwise spelt
+pub key-as : (xs ys : List ℕ) (r : ℕ) → xs ≡ ys → (r ≡ keyOf xs) × Name xs → (r ≡ keyOf ys) × Name ys
+key-as xs ys r e h = rw e at h
+
+module _ (t name : List ℕ) (i k key : ℕ) (n : Name name) (m : Name (take 8 (recordIn t i))) (e : key ≡ keyOf name) (f : k ≡ keyOf (take 8 (recordIn t i))) where
+  named-key : named t name i ≡ eqb k key
+  unfolding named
+  named-key = same-key (take 8 (recordIn t i)) name (m .long ∙ sym (n .long)) (m .small) (n .small) ∙ rw (e, f)
+
+  pub key-hit : k ≡ key → named t name i ≡ true
+  key-hit h = named-key ∙ eq-eqb k key h
+
+  pub key-miss : (k ≡ key → ⊥) → named t name i ≡ false
+  key-miss h = named-key ∙ ne-eqb k key h
+
+-- a name of zeros
+pub zero-key : (xs : List ℕ) (k : ℕ) → k ≡ keyOf xs → eqb k 0 ≡ allZero xs
+unfolding keyOf
+zero-key xs k e = rw e (go xs)
+  where
+    go : (xs : List ℕ) → eqb (keyOf xs) 0 ≡ allZero xs
+    go [] = refl
+    go (x ∷ xs) = step x xs (eqb x 0) refl (eqb (keyOf xs) 0) refl (go xs)
+      where
+        step : (x : ℕ) (xs : List ℕ) (a : Bool) → eqb x 0 ≡ a → (b : Bool) → eqb (keyOf xs) 0 ≡ b → eqb (keyOf xs) 0 ≡ allZero xs
+            → eqb (x + 256 * keyOf xs) 0 ≡ eqb x 0 && allZero xs
+        step x xs true h true k e = rw (h, ← e, k, eq-eqb (x + 256 * keyOf xs) 0 (omega (arith, eqb-true x 0 h, eqb-true (keyOf xs) 0 k)))
+        step x xs true h false k e = rw (h, ← e, k, ne-eqb (x + 256 * keyOf xs) 0 (λ z. eqb-false (keyOf xs) 0 k (omega arith)))
+        step x xs false h b k e = rw (h, ne-eqb (x + 256 * keyOf xs) 0 (λ z. eqb-false x 0 h (omega arith)))
 
 pub same-zeros : (xs : List ℕ) → same xs (replicate (length xs) 0) ≡ allZero xs
 same-zeros [] = refl
 same-zeros (x ∷ xs) = ap (λ (r : Bool). eqb x 0 && r) (same-zeros xs)
-
-zeros-at : (t : List ℕ) (at n : ℕ) (z : List ℕ) → at + n ≤ 512 → z ≡ replicate n 0 → same (bytesIn t at (length z)) z ≡ allZero (bytesIn t at n)
-zeros-at t at n z fits e =
-    rw (e, length-replicate {A = ℕ} n 0)
-    (ap (λ (m : ℕ). same (bytesIn t at n) (replicate m 0)) (sym (field-length t at n fits)) ∙ same-zeros (bytesIn t at n))
-
-module _ (t : List ℕ) (i p : ℕ) (z : List ℕ) (r : Bool) (e : p ≡ placeOfInode i) (q : r ≡ same (bytesIn t p (length z)) z) where
-  pub zero-name : z ≡ replicate 8 0 → r ≡ allZero (take 8 (recordIn t i))
-  zero-name h = q ∙ rw (e, field-take t (placeOfInode i) 32 (place-fits i) 8 (omega arith)) (zeros-at t (placeOfInode i) 8 z (omega arith) h)
-
-  pub zero-record : z ≡ replicate 32 0 → r ≡ allZero (recordIn t i)
-  zero-record h = q ∙ rw e (zeros-at t (placeOfInode i) 32 z (place-fits i) h)
 
 same-length : (xs ys : List ℕ) → (length xs ≡ length ys → ⊥) → same xs ys ≡ false
 same-length [] [] h = absurd (h refl)
@@ -194,16 +233,6 @@ same-length (x ∷ xs) (y ∷ ys) h = go (eqb x y) (same-length xs ys (λ e. h (
     go : (b : Bool) → same xs ys ≡ false → (b && same xs ys) ≡ false
     go true e = e
     go false e = refl
-
-pub name-other : (t name : List ℕ) (i : ℕ) → (length name ≡ 8 → ⊥) → false ≡ named t name i
-unfolding named
-name-other t name i h =
-    let l : length (take 8 (recordIn t i)) ≡ 8 = ap length (field-take t (placeOfInode i) 32 (place-fits i) 8 (omega arith)) ∙ field-length t (placeOfInode i) 8 (omega arith) in
-    sym (same-length (take 8 (recordIn t i)) name (λ e. h (sym e ∙ l)))
-
-pub name-in : (t name : List ℕ) (i p : ℕ) (r : Bool) → length name ≡ 8 → p ≡ placeOfInode i → r ≡ same (bytesIn t p (length name)) name → r ≡ named t name i
-unfolding named
-name-in t name i p r l e q = q ∙ rw (e, l, field-take t (placeOfInode i) 32 (place-fits i) 8 (omega arith))
 
 -- ---- the lowest number that passes
 
@@ -262,6 +291,12 @@ module _ (m n : ℕ) (f : ℕ → Bool) (i : ℕ) (low : i ≤ m) (high : m ≤ 
 
 -- ---- the search over the table
 
+-- a block copied whole has the same names
+pub named-whole : (t x name : List ℕ) (first n : ℕ) → x ≡ exactly 512 t → lowestTo n (named x name) first ≡ lowestTo n (named t name) first
+unfolding named bytesIn
+named-whole t x name first n e =
+    ap (λ (b : List ℕ). lowestTo n (λ i. same (take 8 (part (placeOfInode i) 32 b)) name) first) (ap (exactly 512) e ∙ exactly-all 512 (exactly 512 t) (length-exactly 512 t))
+
 -- whether record i of a disk has this name
 unfoldable pub namedAt : Disk → List ℕ → ℕ → Bool
 namedAt v name i = same (nameAt v i) name
@@ -289,6 +324,19 @@ module _ (v : Disk) (t name : List ℕ) (first : ℕ) (r : Found) (low : first <
 
   pub find-miss : r ≡ Nothing → lowestTo 128 (namedAt v name) first ≡ lowestTo 128 (namedAt v name) (first + 16)
   find-miss h = lowest-past (first + 16) 128 (namedAt v name) first (omega arith) (omega arith) (in-block ∙ h)
+
+lowest-never : (f : ℕ → Bool) (a n : ℕ) → ((k : ℕ) → f k ≡ false) → lowest a n f ≡ none
+lowest-never f a zero h = refl
+lowest-never f a (suc n) h = rw (h a) (lowest-never f (suc a) n h)
+
+-- no record has a name of another length
+pub find-other : (v : Disk) (name : List ℕ) → ((b : ℕ) → length (v b) ≡ 512) → (length name ≡ 8 → ⊥) → Nothing ≡ foundOf (find v name)
+unfolding find inodeBytes
+find-other v name l h =
+    sym (ap foundOf (lowest-never (λ i. same (nameAt v i) name) 0 128
+    (λ k.
+    let n : length (nameAt v k) ≡ 8 = simp (length-take, length-drop, l) (omega arith) in
+    same-length (nameAt v k) name (λ e. h (sym e ∙ n)))))
 
 -- an empty record is one whose name is zeros
 pub find-zeros : (v : Disk) (name : List ℕ) (r : Found) → ((b : ℕ) → length (v b) ≡ 512) → name ≡ replicate 8 0 → r ≡ foundOf (find v name) → r ≡ foundOf (findEmpty v)

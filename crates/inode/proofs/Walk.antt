@@ -5,15 +5,15 @@ use mathlib.Core.Bool.{Bool, true, false, not, true≢false}
 use mathlib.Core.List.{List, [], _∷_, append-nil}
 use native.Mathlib.Omega.{arith}
 use lib.ListN.{length, take, drop, getD, List·getD-eq-default}
-use lib.Seq.{getD-drop, drop-drop}
+use lib.Seq.{getD-take, getD-drop, drop-drop, take-all}
 use lib.Dec.{eqb, ltb}
 use borrow.Author.Tests.{eqb-true, eqb-false, ltb-true, eq-eqb, ne-eqb, lt-ltb, not-true}
 use Rattle.lists.specs.Tests.{both-true}
 use Rattle.spec.specs.declared.Extent.{Extent}
 use Rattle.spec.specs.Bytes.{exactly, number2}
-use Rattle.spec.specs.Disk.{Disk, blocksOf}
+use Rattle.spec.specs.Disk.{Disk}
 use Rattle.spec.specs.Inode.{extent, slotsIn, slotsAt, used, inodeOf, inodeBytes, inodeAt, blockOfInode, placeOfInode, treeDepth, extentsOf, levelsOf, nodesOf}
-use Rattle.block.proofs.Laws.{part-number2}
+use Rattle.block.proofs.Laws.{exactly-byte}
 use Rattle.inode.specs.declared.Cursor.{Cursor}
 use Rattle.inode.specs.declared.Step.{Step}
 use Rattle.inode.specs.declared.Step.the-variants.{Leaf, Node, End}
@@ -23,24 +23,55 @@ use Rattle.inode.proofs.Laws.{field-slots, inode-at}
 
 -- ---- one slot
 
--- the slot at a byte of a block X, read from its bytes
-pub slot-read : (X lent bytes : List ℕ) (at x y : ℕ) → exactly 512 lent ≡ X → bytes ≡ take 512 (drop (512 * 0) lent)
-    → at < 512 → (x ≡ number2 at bytes) × (x < 65536) → (y ≡ number2 (at + 2) bytes) × (y < 65536) → Slot X at (extent x y)
-unfolding blocksOf
-slot-read X lent bytes at x y e p h f g =
-    let a : x ≡ number2 at X = f .0 ∙ part-number2 lent bytes 0 at p ∙ ap (number2 at) e in
-    let b : y ≡ number2 (at + 2) X = g .0 ∙ part-number2 lent bytes 0 (at + 2) p ∙ ap (number2 (at + 2)) e in
-    record { is = ap₂ extent a b; first = f .1; count = g .1; inside = λ k. h }
+-- the slot at a byte of a block, read from its bytes
+module _ (block : List ℕ) (at : ℕ) (few : length block ≤ 512) where
+  byte-of : (i : ℕ) → getD block i 0 ≡ getD (exactly 512 block) i 0
+  byte-of i = sym (exactly-byte 512 block i ∙ ap (λ (l : List ℕ). getD l i 0) (take-all 512 block few))
 
-pub slot-past : (X : List ℕ) (at : ℕ) → length X ≡ 512 → 512 ≤ at → Slot X at (extent 0 0)
-slot-past X at l h =
-    let zero-at : (i : ℕ) → 512 ≤ i → getD X i 0 ≡ 0 = λ i k. List·getD-eq-default X 0 (rw l k) in
-    record {
-      is = rw (zero-at at h, zero-at (at + 1) (omega arith), zero-at (at + 2) (omega arith), zero-at (at + 2 + 1) (omega arith));
-      first = omega arith;
-      count = omega arith;
-      inside = λ k. absurd (omega arith);
-    }
+  -- from a copy of its four bytes
+  pub slot-read : (bytes : List ℕ) (e : Extent) → at < length block → (e ≡ slotIn 0 bytes) × (e .first < 65536) × (e .count < 65536)
+      → ((i : ℕ) → i < 4 → getD bytes i 0 ≡ getD block (at + i) 0) → Slot (exactly 512 block) at e
+  slot-read bytes e h f g =
+      let z : at + 0 ≡ at = omega arith in
+      let y : at + (2 + 1) ≡ at + 2 + 1 = omega arith in
+      record {
+        is = f .0 ∙ rw (g 0 (omega arith), g 1 (omega arith), g 2 (omega arith), g (2 + 1) (omega arith), z, y, byte-of at, byte-of (at + 1), byte-of (at + 2), byte-of (at + 2 + 1));
+        first = f .1;
+        count = f .2;
+        inside = λ k. omega arith;
+      }
+
+  pub slot-part : (e : Extent) → at + 4 ≤ length block
+      → (e ≡ slotIn 0 (take (at + 4 - at) (drop at block))) × (e .first < 65536) × (e .count < 65536) → Slot (exactly 512 block) at e
+  slot-part e h f =
+      slot-read (take (at + 4 - at) (drop at block)) e (omega arith) f
+      (λ i k. getD-take (at + 4 - at) (drop at block) i 0 (omega arith) ∙ getD-drop at block i 0)
+
+  -- one that the block cuts
+  pub slot-cut : (e : Extent) (p q r s : ℕ) → at < length block → p ≡ getD block at 0 → q ≡ getD block (at + 1) 0 → r ≡ getD block (at + 2) 0 → s ≡ getD block (at + 3) 0
+      → (e ≡ slotIn 0 (p ∷ q ∷ r ∷ s ∷ [])) × (e .first < 65536) × (e .count < 65536) → Slot (exactly 512 block) at e
+  slot-cut e p q r s h a b c d f = slot-read (p ∷ q ∷ r ∷ s ∷ []) e h f go
+    where
+      go : (i : ℕ) → i < 4 → getD (p ∷ q ∷ r ∷ s ∷ []) i 0 ≡ getD block (at + i) 0
+      go zero k = let z : at + 0 ≡ at = omega arith in rw z a
+      go (suc zero) k = b
+      go (suc (suc zero)) k = c
+      go (suc (suc (suc zero))) k = d
+      go (suc (suc (suc (suc i)))) k = absurd (omega arith)
+
+  pub slot-past : length block ≤ at → Slot (exactly 512 block) at (extent 0 0)
+  slot-past h =
+      let zero-at : (i : ℕ) → length block ≤ i → getD (exactly 512 block) i 0 ≡ 0 = λ i k. sym (byte-of i) ∙ List·getD-eq-default block 0 k in
+      record {
+        is = rw (zero-at at h, zero-at (at + 1) (omega arith), zero-at (at + 2) (omega arith), zero-at (at + 2 + 1) (omega arith));
+        first = omega arith;
+        count = omega arith;
+        inside = λ k. absurd (omega arith);
+      }
+
+-- the same of the block of a disk that these bytes are
+pub slot-of : (X Y : List ℕ) (at : ℕ) (e : Extent) → X ≡ Y → Slot X at e → Slot Y at e
+slot-of X Y at e q s = rw q at s
 
 -- a slot that is live is there, lies in the block and has a count
 pub live-left : (n : ℕ) (e : Extent) (r : Bool) → r ≡ live n e → r ≡ true → 0 < n

@@ -1,9 +1,10 @@
 -- Records in a block of the table as code holds it: a lent slice, zeros past its end.
-use Prim.Native.Nat.{ℕ, _-_}
+use Prim.Native.Nat.{ℕ, _+_, _*_, _-_, _<_}
+use mathlib.Core.Path.{_≡_}
 use mathlib.Core.Bool.{Bool}
-use mathlib.Core.List.{List}
+use mathlib.Core.List.{List, [], _∷_}
 use mathlib.Core.Option.{Option, none, some}
-use lib.ListN.{take}
+use lib.ListN.{length, take, getD}
 use Rattle.spec.specs.Bytes.{exactly, part, same, lowest}
 use Rattle.spec.specs.Inode.{placeOfInode}
 use Rattle.inode.specs.declared.Found.{Found}
@@ -16,6 +17,16 @@ bytesIn block at n = part at n (exactly 512 block)
 -- record i, of the block that holds it
 abbrev pub recordIn : List ℕ → ℕ → List ℕ
 recordIn table i = bytesIn table (placeOfInode i) 32
+
+-- bytes as one number, the first the lowest
+unfoldable pub keyOf : List ℕ → ℕ
+keyOf [] = 0
+keyOf (x ∷ xs) = x + 256 * keyOf xs
+
+-- eight bytes
+pub record Name (xs : List ℕ) : Type 0 where
+  pub long : length xs ≡ 8
+  pub small : (i : ℕ) → getD xs i 0 < 256
 
 -- whether record i has this name
 unfoldable pub named : List ℕ → List ℕ → ℕ → Bool

@@ -1,21 +1,25 @@
 // File records and the walk over a file's tree of extents, in the working copy.
 use block::DiskBlock;
-use block::block_in;
+use block::copy_of;
 use block::load;
-use block::load2;
 use block::load4;
 use spec::Extent;
 use spec::Limits;
 use spec::Session;
+use transaction::staged_count;
 use transaction::view_block;
+use transaction::view_in;
 ghost use mathlib.Core.Path.{_≡_};
-ghost use Prim.Native.Nat.{_+_, _*_, _%_, _<_, _≤_};
+ghost use mathlib.Core.List.{List};
+ghost use Prim.Native.Nat.{ℕ, _+_, _*_, _%_, _<_, _≤_};
 ghost use lib.ListN.{length, take, getD};
-ghost use Rattle.spec.specs.Bytes.{exactly, same, allZero};
+ghost use Rattle.spec.specs.Bytes.{exactly, allZero};
+ghost use Rattle.spec.specs.Disk.{Disk};
 ghost use Rattle.spec.specs.Inode.{inodeOf, blockOfInode, find, findEmpty};
 ghost use Rattle.spec.specs.Transaction.{view, stateOf};
-ghost use Rattle.inode.specs.Records.{bytesIn, recordIn, named, foundOf, lowestTo};
-ghost use Rattle.inode.specs.Walk.{Slot, live, Steps, startOf};
+ghost use Rattle.transaction.specs.Places.{viewIn};
+ghost use Rattle.inode.specs.Records.{recordIn, keyOf, Name, named, foundOf, lowestTo};
+ghost use Rattle.inode.specs.Walk.{slotIn, Slot, live, Steps, startOf};
 
 // "file records of 32 bytes, 16 to a block"
 const RECORD_SIZE: usize = 32;
@@ -53,6 +57,14 @@ pub fn inode_block<'a>(device: &'a [u8], work: &'a [u8], s: Session, i: usize) -
     view_block(device, work, s, DiskBlock(table_block(i)))
 }
 
+// The same where these blocks are staged; no longer than a block.
+pub fn inode_block_in<'a>(device: &'a [u8], work: &'a [u8], staged: &[u32], i: usize) -> &'a [u8]
+    requires { ⌜ (i < 128) × (length (now staged) ≤ 32) ⌝ }
+    ensures { λ r. ⌜ (exactly 512 (now r) ≡ viewIn (now (staged .entry)) (now (device .entry)) (now (work .entry)) (blockOfInode i)) × (length (now r) ≤ 512) ⌝ }
+{
+    view_in(device, work, staged, DiskBlock(table_block(i)))
+}
+
 // The size of record i, of a block of the table.
 pub fn size_of(table: &[u8], i: usize) -> u32
     ensures { λ r. ⌜ r ≡ inodeOf (recordIn (now (table .entry)) i) .size ⌝ }
@@ -64,56 +76,6 @@ pub fn depth_of(table: &[u8], i: usize) -> u32
     ensures { λ r. ⌜ (r ≡ inodeOf (recordIn (now (table .entry)) i) .depth) × (r < 256) ⌝ }
 {
     load(table, place_in_block(i) + 12)
-}
-
-// Whether two slices of one length are equal.
-fn same_bytes(a: &[u8], b: &[u8]) -> bool
-    requires { ⌜ length (now a) ≡ length (now b) ⌝ }
-    ensures { λ r. ⌜ r ≡ same (now (a .entry)) (now (b .entry)) ⌝ }
-{
-    let mut equal = true;
-    let mut k: usize = 0;
-    while k < b.len() {
-        equal = equal & (a[k] == b[k]);
-        k += 1;
-    }
-    equal
-}
-
-// Whether these bytes stand at a place of a block that may be cut short.
-fn same_loaded(table: &[u8], at: usize, bytes: &[u8]) -> bool
-    requires { ⌜ at + length (now bytes) ≤ 512 ⌝ }
-    ensures { λ r. ⌜ r ≡ same (bytesIn (now (table .entry)) at (length (now (bytes .entry)))) (now (bytes .entry)) ⌝ }
-{
-    let mut equal = true;
-    let mut k: usize = 0;
-    while k < bytes.len() {
-        equal = equal & (load(table, at + k) == load(bytes, k));
-        k += 1;
-    }
-    equal
-}
-
-// Whether these bytes stand at a place of a block.
-fn same_at(table: &[u8], at: usize, bytes: &[u8]) -> bool
-    requires { ⌜ at + length (now bytes) ≤ 512 ⌝ }
-    ensures { λ r. ⌜ r ≡ same (bytesIn (now (table .entry)) at (length (now (bytes .entry)))) (now (bytes .entry)) ⌝ }
-{
-    let end = at + bytes.len();
-    if end <= table.len() {
-        return same_bytes(&table[at..end], bytes);
-    }
-    same_loaded(table, at, bytes)
-}
-
-// Whether record i has this name.
-pub fn same_name(table: &[u8], i: usize, name: &[u8]) -> bool
-    ensures { λ r. ⌜ r ≡ named (now (table .entry)) (now (name .entry)) i ⌝ }
-{
-    if name.len() != NAME_SIZE {
-        return false;
-    }
-    same_at(table, place_in_block(i), name)
 }
 
 fn byte_in(table: &[u8], at: usize) -> u8
@@ -140,31 +102,53 @@ pub fn name_of(table: &[u8], i: usize) -> [u8; 8]
     ]
 }
 
+fn wide(x: u8) -> u64
+    ensures { λ r. ⌜ (r ≡ x) × (r < 256) ⌝ }
+{
+    x as u64
+}
+
+// Eight bytes as one number, so that two names are compared at once.
+fn key_of(name: &[u8]) -> u64
+    requires { ⌜ length (now name) ≡ 8 ⌝ }
+    ensures { λ r. ⌜ (r ≡ keyOf (now (name .entry))) × Name (now (name .entry)) ⌝ }
+{
+    let high = wide(name[4]) + 256 * (wide(name[5]) + 256 * (wide(name[6]) + 256 * wide(name[7])));
+    let low = wide(name[0]) + 256 * (wide(name[1]) + 256 * (wide(name[2]) + 256 * wide(name[3])));
+    low + 4294967296 * high
+}
+
+// The name of record i as one number.
+fn key_at(table: &[u8], i: usize) -> u64
+    ensures { λ r. ⌜ (r ≡ keyOf (take 8 (recordIn (now (table .entry)) i))) × Name (take 8 (recordIn (now (table .entry)) i)) ⌝ }
+{
+    let at = place_in_block(i);
+    let end = at + NAME_SIZE;
+    if end <= table.len() {
+        return key_of(&table[at..end]);
+    }
+    let name = name_of(table, i);
+    key_of(&name)
+}
+
 // "all zero: record empty"
 pub fn is_empty(table: &[u8], i: usize) -> bool
     ensures { λ r. ⌜ r ≡ allZero (take 8 (recordIn (now (table .entry)) i)) ⌝ }
 {
-    let no_name = [0u8; 8];
-    same_at(table, place_in_block(i), &no_name)
-}
-
-// Whether all bytes of record i are zero.
-pub fn is_zero(table: &[u8], i: usize) -> bool
-    ensures { λ r. ⌜ r ≡ allZero (recordIn (now (table .entry)) i) ⌝ }
-{
-    let zeros = [0u8; 32];
-    same_at(table, place_in_block(i), &zeros)
+    key_at(table, i) == 0
 }
 
 // The lowest of the 16 records from `first` on, which one block of the table holds, that has this name.
-fn find_in(table: &[u8], first: usize, name: &[u8]) -> Found
-    requires { ⌜ first < 128 ⌝ }
-    ensures { λ r. ⌜ r ≡ lowestTo (first + 16) (named (now (table .entry)) (now (name .entry))) first ⌝ }
+fn find_whole(table: &[u8], first: usize, key: u64) -> Found
+    requires { ⌜ (first < 128) × (512 ≤ length (now table)) ⌝ }
+    ensures { λ r. ⌜ ((name : List ℕ) → Name name → key ≡ keyOf name → r ≡ lowestTo (first + 16) (named (now (table .entry)) name) first) ⌝ }
 {
     let end = first + RECORDS_PER_BLOCK;
     let mut i = first;
     while i < end {
-        if same_name(table, i, name) {
+        let at = place_in_block(i);
+        let name_end = at + NAME_SIZE;
+        if key_of(&table[at..name_end]) == key {
             return Found::At(i);
         }
         i += 1;
@@ -172,14 +156,40 @@ fn find_in(table: &[u8], first: usize, name: &[u8]) -> Found
     Found::Nothing
 }
 
+// The same of a block that may end early.
+fn find_block(table: &[u8], first: usize, key: u64) -> Found
+    requires { ⌜ first < 128 ⌝ }
+    ensures { λ r. ⌜ ((name : List ℕ) → Name name → key ≡ keyOf name → r ≡ lowestTo (first + 16) (named (now (table .entry)) name) first) ⌝ }
+{
+    if Limits::BLOCK_SIZE <= table.len() {
+        return find_whole(table, first, key);
+    }
+    let whole = copy_of(table);
+    find_whole(&whole, first, key)
+}
+
 // The record with this name.
 pub fn find<'a>(device: &'a [u8], work: &'a [u8], s: Session, name: &[u8]) -> Found
     ensures { λ r. ⌜ r ≡ foundOf (find (view (stateOf s (now (device .entry)) (now (work .entry)))) (now (name .entry))) ⌝ }
 {
+    let l = s.staged;
+    let n = staged_count(s);
+    find_in(device, work, &l[0..n], name)
+}
+
+// The same where these blocks are staged.
+pub fn find_in<'a>(device: &'a [u8], work: &'a [u8], staged: &[u32], name: &[u8]) -> Found
+    requires { ⌜ length (now staged) ≤ 32 ⌝ }
+    ensures { λ r. ⌜ r ≡ foundOf (find (viewIn (now (staged .entry)) (now (device .entry)) (now (work .entry))) (now (name .entry))) ⌝ }
+{
+    if name.len() != NAME_SIZE {
+        return Found::Nothing;
+    }
+    let key = key_of(name);
     let mut first: usize = 0;
     while first < Limits::INODE_COUNT {
-        let table = inode_block(device, work, s, first);
-        match find_in(table, first, name) {
+        let table = inode_block_in(device, work, staged, first);
+        match find_block(table, first, key) {
             Found::At(i) => {
                 return Found::At(i);
             }
@@ -215,23 +225,55 @@ pub enum Step {
     End,
 }
 
-// The slot at a byte of block b; past the block's end it is unused.
+fn low(x: u8) -> u32
+    ensures { λ r. ⌜ (r ≡ x) × (r < 256) ⌝ }
+{
+    x as u32
+}
+
+// A slot's four bytes.
+fn slot_of(bytes: &[u8]) -> Extent
+    requires { ⌜ length (now bytes) ≡ 4 ⌝ }
+    ensures { λ r. ⌜ (r ≡ slotIn 0 (now (bytes .entry))) × (r .first < 65536) × (r .count < 65536) ⌝ }
+{
+    Extent {
+        first: low(bytes[0]) + 256 * low(bytes[1]),
+        count: low(bytes[2]) + 256 * low(bytes[3]),
+    }
+}
+
+// The slot at a byte of a block; past the block's end it is unused.
+pub fn slot_in(block: &[u8], at: usize) -> Extent
+    requires { ⌜ length (now block) ≤ 512 ⌝ }
+    ensures { λ r. ⌜ Slot (exactly 512 (now (block .entry))) at r ⌝ }
+{
+    if block.len() <= at {
+        return Extent { first: 0, count: 0 };
+    }
+    let end = at + 4;
+    if end <= block.len() {
+        return slot_of(&block[at..end]);
+    }
+    let cut = [
+        load(block, at) as u8,
+        load(block, at + 1) as u8,
+        load(block, at + 2) as u8,
+        load(block, at + 3) as u8,
+    ];
+    slot_of(&cut)
+}
+
+// The slot at a byte of block b.
 fn slot_at<'a>(device: &'a [u8], work: &'a [u8], s: Session, b: u32, at: usize) -> Extent
     ensures { λ r. ⌜ Slot (view (stateOf s (now (device .entry)) (now (work .entry))) b) at r ⌝ }
 {
-    // Cut to one block, so that a load past its end gives 0.
-    let bytes = block_in(view_block(device, work, s, DiskBlock(b)), DiskBlock(0));
-    if at < Limits::BLOCK_SIZE {
-        return Extent {
-            first: load2(bytes, at),
-            count: load2(bytes, at + 2),
-        };
-    }
-    Extent { first: 0, count: 0 }
+    let l = s.staged;
+    let n = staged_count(s);
+    slot_in(view_in(device, work, &l[0..n], DiskBlock(b)), at)
 }
 
 // Whether slots are left and the first of them is used.
-fn is_live(n: usize, e: Extent) -> bool
+pub fn is_live(n: usize, e: Extent) -> bool
     ensures { λ r. ⌜ r ≡ live n e ⌝ }
 {
     (0 < n) & !(e.count == 0)
@@ -279,9 +321,17 @@ pub fn start<'a>(device: &'a [u8], work: &'a [u8], s: Session, i: usize) -> Curs
     requires { ⌜ i < 128 ⌝ }
     ensures { λ r. ⌜ r ≡ startOf (view (stateOf s (now (device .entry)) (now (work .entry)))) i ⌝ }
 {
+    start_at(inode_block(device, work, s, i), i)
+}
+
+// The same, of the block of the table that holds record i.
+pub fn start_at(table: &[u8], i: usize) -> Cursor
+    requires { ⌜ i < 128 ⌝ }
+    ensures { λ r. ⌜ ((v : Disk) → exactly 512 (now (table .entry)) ≡ v (blockOfInode i) → r ≡ startOf v i) ⌝ }
+{
     let tb = table_block(i);
     let slots = place_in_block(i) + 16;
-    let depth = depth_of(inode_block(device, work, s, i), i);
+    let depth = depth_of(table, i);
     if depth == 0 {
         Cursor {
             block: tb,

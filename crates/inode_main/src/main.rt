@@ -86,9 +86,6 @@ fn show_record<'a>(device: &'a [u8], work: &'a [u8], s: Session, i: usize) {
     if inode::is_empty(table, i) {
         text(b", empty");
     }
-    if inode::is_zero(table, i) {
-        text(b", all zero");
-    }
     text(b"\n");
 }
 
@@ -169,7 +166,9 @@ fn show_run<'a>(
     if 127 < i {
         return;
     }
-    match extents::nth_extent(device, work, s, i, from, n, k) {
+    let l = s.staged;
+    let many = transaction::staged_count(s);
+    match extents::nth_extent(device, work, &l[0..many], i, from, n, k) {
         RunOf::Run(e) => {
             show_extent(e);
         }
@@ -204,7 +203,9 @@ fn show_runs<'a>(device: &'a [u8], work: &'a [u8], s: Session, i: usize, from: u
     number(n as u64);
     text(b" of");
     number(i as u64);
-    let many = extents::count_runs(device, work, s, i, from, n);
+    let l = s.staged;
+    let staged = transaction::staged_count(s);
+    let many = extents::count_runs(device, work, &l[0..staged], i, from, n);
     text(b":");
     number(many as u64);
     text(b" runs");

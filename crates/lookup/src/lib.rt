@@ -6,11 +6,16 @@ use checks::sized;
 use inode::Found;
 use inode::find;
 use inode::find_empty;
+use inode::find_in;
 use spec::Refusal;
 use spec::Session;
+use transaction::staged_count;
 ghost use mathlib.Core.Path.{_≡_};
-ghost use Prim.Native.Nat.{_+_};
-ghost use Rattle.spec.specs.Transaction.{stateOf};
+ghost use Prim.Native.Nat.{_+_, _≤_};
+ghost use lib.ListN.{length};
+ghost use Rattle.spec.specs.declared.Session.{Session};
+ghost use Rattle.transaction.specs.Places.{viewIn};
+ghost use Rattle.spec.specs.Transaction.{view, stateOf};
 ghost use Rattle.spec.specs.Calls.{known, emptyInode, fileOk, sizedOk};
 ghost use Rattle.lookup.specs.Looks.{lookedOf, InTable, newOk, unlessTaken, renameOk};
 
@@ -20,11 +25,13 @@ pub enum Looked {
     Bad(Refusal),
 }
 
-// 13
-fn known<'a>(device: &'a [u8], work: &'a [u8], session: Session, name: &[u8]) -> Looked
-    ensures { λ r. ⌜ (lookedOf r ≡ known (stateOf session (now (device .entry)) (now (work .entry))) (now (name .entry))) × InTable r ⌝ }
+// 13, of every session that has these blocks staged
+fn known<'a>(device: &'a [u8], work: &'a [u8], staged: &[u32], name: &[u8]) -> Looked
+    requires { ⌜ length (now staged) ≤ 32 ⌝ }
+    ensures { λ r. ⌜ ((s : Session) → viewIn (now (staged .entry)) (now (device .entry)) (now (work .entry)) ≡ view (stateOf s (now (device .entry)) (now (work .entry)))
+        → (lookedOf r ≡ known (stateOf s (now (device .entry)) (now (work .entry))) (now (name .entry))) × InTable r) ⌝ }
 {
-    match find(device, work, session, name) {
+    match find_in(device, work, staged, name) {
         Found::At(i) => Looked::At(i),
         Found::Nothing => Looked::Bad(Refusal::Unknown),
     }
@@ -44,9 +51,11 @@ fn empty_inode<'a>(device: &'a [u8], work: &'a [u8], session: Session) -> Looked
 pub fn look_up<'a>(device: &'a [u8], work: &'a [u8], session: Session, name: &[u8]) -> Looked
     ensures { λ r. ⌜ (lookedOf r ≡ fileOk (stateOf session (now (device .entry)) (now (work .entry))) (now (name .entry))) × InTable r ⌝ }
 {
+    let l = session.staged;
+    let count = staged_count(session);
     match named(device, work, session, name) {
         Checked::Bad(why) => Looked::Bad(why),
-        Checked::Fine => known(device, work, session, name),
+        Checked::Fine => known(device, work, &l[0..count], name),
     }
 }
 
@@ -61,9 +70,11 @@ pub fn look_up_sized<'a>(
 ) -> Looked
     ensures { λ r. ⌜ (lookedOf r ≡ sizedOk (stateOf session (now (device .entry)) (now (work .entry))) (now (name .entry)) (x + n)) × InTable r ⌝ }
 {
+    let l = session.staged;
+    let count = staged_count(session);
     match sized(device, work, session, name, x, n) {
         Checked::Bad(why) => Looked::Bad(why),
-        Checked::Fine => known(device, work, session, name),
+        Checked::Fine => known(device, work, &l[0..count], name),
     }
 }
 

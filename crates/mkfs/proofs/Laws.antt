@@ -1,18 +1,15 @@
 -- Laws of an empty store. Assumes nothing.
 use Prim.Native.Nat.{ℕ, zero, suc, _+_, _*_, _-_, _/_, _%_, _^_, _<_, _≤_}
 use mathlib.Core.Path.{_≡_, refl, sym, ap, ap₂, _∙_, fun-ext}
-use mathlib.Core.Bool.{Bool, true, false, _&&_}
-use mathlib.Core.List.{List, [], _∷_, _++_, append-assoc}
+use mathlib.Core.List.{List, [], _∷_, _++_}
 use native.Mathlib.Omega.{arith}
 use mathlib.Core.Logic.{⊎-elim}
 use native.Mathlib.Nat.{sub-zero, zero-sub, suc-sub-suc, zero-div, eq-or-lt-of-le}
 use native.Mathlib.Numerals.{add-one}
-use borrow.Author.Tests.{eqb-true, leb-true}
-use lib.Dec.{eqb, leb}
 use lib.ListN.{length, take, drop, getD, set, replicate, length-append, length-replicate, replicate-append-replicate, length-set, getD-replicate, List·getD-append}
 use lib.Seq.{take-suc-set, take-all, ext-getD, getD-set-same, getD-set-other, getD-append-add}
 use Rattle.spec.specs.Bytes.{zeros, exactly}
-use Rattle.spec.specs.Disk.{Disk, blocksOf, isAllowed, sliceOf, withBlock}
+use Rattle.spec.specs.Disk.{Disk, blocksOf, sliceOf, withBlock}
 use Rattle.spec.specs.Bitmap.{bitsOf, bytesOf}
 use Rattle.spec.specs.Calls.{emptyBits, emptyDisk}
 use Rattle.bitmap.specs.Words.{Table}

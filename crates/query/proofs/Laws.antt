@@ -18,6 +18,7 @@ use Rattle.spec.specs.declared.Recorded.{Recorded}
 use Rattle.spec.specs.declared.Recorded.the-variants.{Refused, File, Empty}
 use Rattle.spec.specs.declared.Refusal.{Refusal}
 use Rattle.spec.specs.Answers.{counted, file, noFile, run, noRun, refusalOf, recordedOf, Blank, refuse, accept}
+use Rattle.spec.specs.Disk.{Disk}
 use Rattle.spec.specs.Transaction.{stateOf, view}
 use Rattle.extents.specs.declared.RunOf.the-variants as RunOf
 use Rattle.extents.specs.Stretches.{runOf as asRun}
@@ -92,10 +93,11 @@ module _ (s : Session) (d w : List ℕ) where
   read-bad name buffer x r e = rw (← e)
 
   pub read-fine : (name buffer after : List ℕ) (x i n : ℕ) → accept i ≡ fileOk (stateOf s d w) name
-      → Filled (take (length buffer) (drop x (contentOf (view (stateOf s d w)) (inodeAt (view (stateOf s d w)) i)))) buffer after n
+      → (v : Disk) → v ≡ view (stateOf s d w) → Filled (take (length buffer) (drop x (contentOf v (inodeAt v i)))) buffer after n
       → leftBuffer s d w (counted n) after ≡ read (stateOf s d w) name x buffer
   unfolding read
-  read-fine name buffer after x i n e f =
+  read-fine name buffer after x i n e v q g =
+      let f : Filled (take (length buffer) (drop x (contentOf (view (stateOf s d w)) (inodeAt (view (stateOf s d w)) i)))) buffer after n = rw q at g in
       rw (← e) (ap₂ (λ (k : ℕ) (b : List ℕ). withBuffer (stateOf s d w) (counted k) b) (f .count) (f .bytes))
 
   -- ---- n-th extent

@@ -8,6 +8,7 @@ use checks::ready;
 use extents::RunOf;
 use file::read_file;
 use inode::inode_block;
+use inode::inode_block_in;
 use inode::is_empty;
 use inode::name_of;
 use inode::size_of;
@@ -19,6 +20,7 @@ use spec::Limits;
 use spec::Recorded;
 use spec::Run;
 use spec::Session;
+use transaction::staged_count;
 use transaction::view_block;
 ghost use mathlib.Core.Path.{_≡_};
 ghost use lib.ListN.{replicate};
@@ -38,9 +40,11 @@ pub fn read<'a>(
     ensures { λ r. ⌜ leftBuffer session (now (device .entry)) (now (work .entry)) (countedOf r) (now (buffer .exit))
         ≡ read (stateOf session (now (device .entry)) (now (work .entry))) (now (name .entry)) (x .0) (now (buffer .entry)) ⌝ }
 {
+    let l = session.staged;
+    let count = staged_count(session);
     match look_up(device, work, session, name) {
         Looked::Bad(why) => Counted::Refused(why),
-        Looked::At(i) => Counted::Count(read_file(device, work, session, i, x, buffer)),
+        Looked::At(i) => Counted::Count(read_file(device, work, &l[0..count], i, x, buffer)),
     }
 }
 
@@ -49,10 +53,12 @@ pub fn size<'a>(device: &'a [u8], work: &'a [u8], session: Session, name: &[u8])
     ensures { λ r. ⌜ left session (now (device .entry)) (now (work .entry)) (countedOf r)
         ≡ sizeOf (stateOf session (now (device .entry)) (now (work .entry))) (now (name .entry)) ⌝ }
 {
+    let l = session.staged;
+    let count = staged_count(session);
     match look_up(device, work, session, name) {
         Looked::Bad(why) => Counted::Refused(why),
         Looked::At(i) => {
-            let table = inode_block(device, work, session, i);
+            let table = inode_block_in(device, work, &l[0..count], i);
             Counted::Count(size_of(table, i) as usize)
         }
     }
@@ -122,9 +128,11 @@ pub fn nth_extent<'a>(
         ≡ nthExtent (stateOf session (now (device .entry)) (now (work .entry))) (now (name .entry)) (from .0) n k ⌝ }
 {
     let first = from.0;
+    let l = session.staged;
+    let count = staged_count(session);
     match look_up(device, work, session, name) {
         Looked::Bad(why) => Run::Refused(why),
-        Looked::At(i) => match extents::nth_extent(device, work, session, i, first, n, k) {
+        Looked::At(i) => match extents::nth_extent(device, work, &l[0..count], i, first, n, k) {
             RunOf::Run(e) => Run::Extent(e),
             RunOf::Nothing => Run::Nothing,
         },

@@ -9,6 +9,7 @@ use spec::Counted;
 use spec::Extent;
 use spec::Refusal;
 use spec::Session;
+use transaction::staged_count;
 ghost use mathlib.Core.Path.{_≡_};
 ghost use lib.ListN.{length, getD};
 ghost use Rattle.spec.specs.Inode.{extent};
@@ -30,10 +31,12 @@ fn count_checked<'a>(
     ensures { λ r. ⌜ countsOf r ≡ countOk (stateOf session (now (device .entry)) (now (work .entry))) (now (name .entry)) (from .0) n room ⌝ }
 {
     let first = from.0;
+    let l = session.staged;
+    let many = staged_count(session);
     match look_up(device, work, session, name) {
         Looked::Bad(why) => Counted::Refused(why),
         Looked::At(i) => {
-            let count = count_runs(device, work, session, i, first, n);
+            let count = count_runs(device, work, &l[0..many], i, first, n);
             if count <= room {
                 Counted::Count(count)
             } else {
@@ -56,9 +59,11 @@ fn nth<'a>(
     ensures { λ r. ⌜ r ≡ getD (namedRuns (stateOf session (now (device .entry)) (now (work .entry))) (now (name .entry)) (from .0) n) k (extent 0 0) ⌝ }
 {
     let first = from.0;
+    let l = session.staged;
+    let many = staged_count(session);
     match look_up(device, work, session, name) {
         Looked::Bad(_) => Extent { first: 0, count: 0 },
-        Looked::At(i) => match nth_extent(device, work, session, i, first, n, k) {
+        Looked::At(i) => match nth_extent(device, work, &l[0..many], i, first, n, k) {
             RunOf::Run(e) => e,
             RunOf::Nothing => Extent { first: 0, count: 0 },
         },

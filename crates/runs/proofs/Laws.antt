@@ -13,7 +13,7 @@ use lib.Seq.{take-all, take-suc-set, take-append-le, take-set-lt, take-set-le, g
 use Rattle.spec.specs.declared.Extent.{Extent}
 use Rattle.spec.specs.Bytes.{upFrom}
 use Rattle.spec.specs.Inode.{extent, counts, prepend, runs}
-use Rattle.runs.specs.declared.Runs.{Runs}
+use Rattle.runs.specs.Tree.{Runs}
 use Rattle.runs.specs.Runs.{extentsFrom, listed}
 use Rattle.runs.specs.Push.{Holds, Small, Pushed, Column, firsts, lengths, endFrom, grown}
 

@@ -7,7 +7,7 @@ use lib.ListN.{length, take, getD}
 use lib.Dec.{eqb}
 use Rattle.spec.specs.declared.Extent.{Extent}
 use Rattle.spec.specs.Inode.{extent}
-use Rattle.runs.specs.declared.Runs.{Runs}
+use Rattle.runs.specs.Tree.{Runs}
 use Rattle.runs.specs.declared.End.{End}
 
 -- two columns and where they end, as one value

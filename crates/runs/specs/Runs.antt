@@ -7,8 +7,8 @@ use lib.ListN.{length, take, getD}
 use lib.Dec.{eqb}
 use Rattle.spec.specs.declared.Extent.{Extent}
 use Rattle.spec.specs.Inode.{extent, counts}
-pub use Rattle.runs.specs.declared.Runs.{Runs}
-pub use Rattle.runs.specs.declared.Tree.{Tree}
+pub use Rattle.runs.specs.Tree.{Runs}
+pub use Rattle.runs.specs.Tree.{Tree}
 
 -- n extents of two columns, from place k on
 unfoldable pub extentsFrom : List ℕ → List ℕ → ℕ → ℕ → List Extent

@@ -1,40 +1,8 @@
-// A file's extents by value, and the tree of a file after a change.
-use spec::Limits;
+// A file's extents in two columns.
 ghost use mathlib.Core.Path.{_≡_};
-ghost use mathlib.Core.List.{[]};
 ghost use Prim.Native.Nat.{_+_, _<_};
 ghost use lib.ListN.{length};
-ghost use Rattle.runs.specs.Push.{columns, Holds, Small, Pushed, lastCount};
-
-// The first 512 extents of a list, the number of all of them, and the block after the last one.
-pub struct Runs {
-    pub first: [u32; Limits::MAX_EXTENTS],
-    pub count: [u32; Limits::MAX_EXTENTS],
-    pub len: usize,
-    pub next: usize,
-}
-
-// A file's tree after a change, with the bitmap: its extents, its nodes, how many nodes and how many data blocks it held before.
-pub struct Tree {
-    pub table: [u8; Limits::BLOCK_SIZE],
-    pub runs: Runs,
-    pub node: [u32; 4],
-    pub nodes: usize,
-    pub before: usize,
-    pub held: usize,
-}
-
-// No extents.
-pub fn no_runs() -> Runs
-    ensures { λ q. ⌜ Holds q [] × Small q 0 ⌝ }
-{
-    Runs {
-        first: [0u32; 512],
-        count: [0u32; 512],
-        len: 0,
-        next: 0,
-    }
-}
+ghost use Rattle.runs.specs.Push.{columns, Pushed, lastCount};
 
 // How many extents two columns have, and the block after the last one.
 pub struct End {

@@ -1,10 +1,10 @@
 -- Laws of staging and of the working copy. Assumes nothing.
-use Prim.Native.Nat.{ℕ, suc, _+_, _-_, _<_, _≤_, min}
+use Prim.Native.Nat.{ℕ, suc, _+_, _*_, _-_, _<_, _≤_, min}
 use mathlib.Core.Path.{_≡_, refl, sym, ap, ap₂, _∙_, subst, fun-ext}
 use mathlib.Core.Bool.{Bool, true, false, cond, _&&_, and-true}
 use mathlib.Core.List.{List, [], _∷_, _++_}
 use mathlib.Core.Option.{Option, none, some}
-use lib.ListN.{length, take, drop, getD, set, length-append, length-take, take-append-drop, drop-of-length-le}
+use lib.ListN.{length, take, drop, getD, set, length-append, length-take, length-drop, take-append-drop, drop-of-length-le}
 use lib.Seq.{take-append-seam, take-all, drop-cons, set-split, append-snoc, getD-take, drop-append-add, drop-drop}
 use lib.Dec.{T, eqb}
 use native.Mathlib.Decide.{decLt}
@@ -18,8 +18,9 @@ use Rattle.spec.specs.declared.Session.{Session}
 use Rattle.spec.specs.Session.{opened, inPhase, stagedIn, withStaged}
 use Rattle.spec.specs.Transaction.{State, stateOf, view, BlockStore, put, Staged, stage, stagedOf, withStaging}
 use Rattle.block.specs.Stores.{storedIn}
+use Rattle.block.proofs.Laws.{block-length}
 use Rattle.lists.specs.Places.{place-lt, place-value, place-new, place-other, no-place, distinct-snoc, all-append}
-use Rattle.transaction.specs.Places.{foundAt, spot, blocksWith}
+use Rattle.transaction.specs.Places.{foundAt, spot, blocksWith, viewIn}
 use Rattle.transaction.specs.declared.Place.{Place}
 use Rattle.transaction.specs.declared.Place.the-variants.{At, Nothing}
 
@@ -181,31 +182,30 @@ module _ (s : Session) (h : length (s .staged) ≡ 32) where
       go (yes k) = let q : n ≡ s .count = omega (arith, l) in rw q
       go (no k) = take-all (s .count) (s .staged) (omega arith) ∙ sym (take-all n (s .staged) (omega (arith, l)))
 
--- the place of b from i on among the first n of an array
-unfoldable pub placeIn : List ℕ → ℕ → ℕ → ℕ → Place
-placeIn l n i b = foundAt (placeFrom i b (drop i (take n l)))
+  -- the numbers staged, lent
+  pub staged-lent : (n : ℕ) → n ≡ length (stagedIn s) → take (n - 0) (drop 0 (s .staged)) ≡ stagedIn s
+  staged-lent n e = let z : n - 0 ≡ n = omega arith in rw z (sym (staged-is n e))
 
-module _ (l : List ℕ) (n i b : ℕ) where
-  next : i < n → n ≤ length l → drop i (take n l) ≡ getD l i 0 ∷ drop (suc i) (take n l)
-  next h m =
-      let q : i < length (take n l) = simp length-take (omega arith) in
-      drop-cons (take n l) i 0 q ∙ rw (getD-take n l i 0 h)
+-- the place of b from i on in a list
+unfoldable pub placeIn : List ℕ → ℕ → ℕ → Place
+placeIn l i b = foundAt (placeFrom i b (drop i l))
 
-  pub place-hit : i < n → n ≤ length l → getD l i 0 ≡ b → placeIn l n i b ≡ At i
+module _ (l : List ℕ) (i b : ℕ) where
+  pub place-hit : i < length l → getD l i 0 ≡ b → placeIn l i b ≡ At i
   unfolding placeIn
-  place-hit h m e = rw (next h m, eq-eqb (getD l i 0) b e)
+  place-hit h e = rw (drop-cons l i 0 h, eq-eqb (getD l i 0) b e)
 
-  pub place-miss : i < n → n ≤ length l → (getD l i 0 ≡ b → ⊥) → placeIn l n i b ≡ placeIn l n (i + 1) b
+  pub place-miss : i < length l → (getD l i 0 ≡ b → ⊥) → placeIn l i b ≡ placeIn l (i + 1) b
   unfolding placeIn
-  place-miss h m e = rw (next h m, ne-eqb (getD l i 0) b e, add-one i)
+  place-miss h e = rw (drop-cons l i 0 h, ne-eqb (getD l i 0) b e, add-one i)
 
-  pub place-end : n ≤ i → placeIn l n i b ≡ Nothing
+  pub place-end : length l ≤ i → placeIn l i b ≡ Nothing
   unfolding placeIn
-  place-end h = rw (drop-of-length-le (take n l) (let q : length (take n l) ≤ i = simp length-take (omega arith) in q))
+  place-end h = rw (drop-of-length-le l h)
 
-pub place-staged : (s : Session) (b n : ℕ) → length (s .staged) ≡ 32 → n ≡ length (stagedIn s) → foundAt (place b (stagedIn s)) ≡ placeIn (s .staged) n 0 b
+pub place-start : (l : List ℕ) (b : ℕ) → foundAt (place b l) ≡ placeIn l 0 b
 unfolding placeIn
-place-staged s b n h e = rw (staged-is s h n e)
+place-start l b = refl
 
 -- what an answer of `staged_at` says
 at-place : (o : Option ℕ) (i : ℕ) → foundAt o ≡ At i → o ≡ some i
@@ -216,10 +216,41 @@ no-place-at : (o : Option ℕ) → foundAt o ≡ Nothing → o ≡ none
 no-place-at none e = refl
 no-place-at (some j) e = let z : _≡_ {A = ℕ} 0 1 = cc in absurd (omega arith)
 
-module _ (s : Session) (b : ℕ) where
-  pub at-lt : (i : ℕ) → foundAt (place b (stagedIn s)) ≡ At i → i < length (stagedIn s)
-  at-lt i e = place-lt b i (stagedIn s) (at-place (place b (stagedIn s)) i e)
+pub at-lt : (l : List ℕ) (b i : ℕ) → foundAt (place b l) ≡ At i → i < length l
+at-lt l b i e = place-lt b i l (at-place (place b l) i e)
 
+pub part-few : (xs ys : List ℕ) (b : ℕ) → ys ≡ take 512 (drop (512 * b) xs) → length ys ≤ 512
+part-few xs ys b e = rw e (simp length-take (omega arith))
+
+-- the working copy, of the numbers staged
+module _ (l device work : List ℕ) (b : ℕ) where
+  pub view-at : (i : ℕ) → foundAt (place b l) ≡ At i → viewIn l device work b ≡ blocksOf work i
+  unfolding viewIn
+  view-at i e = rw (at-place (place b l) i e)
+
+  pub view-new : foundAt (place b l) ≡ Nothing → viewIn l device work b ≡ blocksOf device b
+  unfolding viewIn
+  view-new e = rw (no-place-at (place b l) e)
+
+  pub view-in-length : length (viewIn l device work b) ≡ 512
+  unfolding viewIn
+  view-in-length = go (place b l)
+    where
+      go : (o : Option ℕ) → length (found o (blocksOf device b) (blocksOf work)) ≡ 512
+      go none = block-length device b
+      go (some i) = block-length work i
+
+-- a session's working copy is that of the numbers that it has staged, however they are lent
+pub view-lent : (s : Session) (device work : List ℕ) (n : ℕ) → length (s .staged) ≡ 32 → n ≡ length (stagedIn s)
+    → viewIn (take (n - 0) (drop 0 (s .staged))) device work ≡ view (stateOf s device work)
+unfolding view viewIn
+view-lent s device work n h e = rw (staged-lent s h n e)
+
+-- fewer than 33 are lent
+pub lent-few : (s : Session) (n : ℕ) → length (s .staged) ≡ 32 → n ≤ 32 → length (take (n - 0) (drop 0 (s .staged))) ≤ 32
+lent-few s n h k = simp (length-take, length-drop) (omega arith)
+
+module _ (s : Session) (b : ℕ) where
   pub spot-at : (i : ℕ) → foundAt (place b (stagedIn s)) ≡ At i → i ≡ spot s b
   unfolding spot
   spot-at i e = sym (rw (at-place (place b (stagedIn s)) i e))
@@ -235,15 +266,6 @@ module _ (s : Session) (b : ℕ) where
       go : (o : Option ℕ) → place b (stagedIn s) ≡ o → spot s b ≤ length (stagedIn s)
       go none e = rw e (omega arith)
       go (some i) e = rw e (omega (arith, place-lt b i (stagedIn s) e))
-
-  module _ (device work : List ℕ) where
-    pub view-at : (i : ℕ) → foundAt (place b (stagedIn s)) ≡ At i → view (stateOf s device work) b ≡ blocksOf work i
-    unfolding view
-    view-at i e = rw (at-place (place b (stagedIn s)) i e)
-
-    pub view-new : foundAt (place b (stagedIn s)) ≡ Nothing → view (stateOf s device work) b ≡ blocksOf device b
-    unfolding view
-    view-new e = rw (no-place-at (place b (stagedIn s)) e)
 
   -- the session's cells after staging: all as they were, or one more in use
   pub with-at : (n i : ℕ) → length (s .staged) ≡ 32 → n ≡ length (stagedIn s) → foundAt (place b (stagedIn s)) ≡ At i

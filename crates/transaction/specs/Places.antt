@@ -4,6 +4,7 @@ use mathlib.Core.List.{List, [], _∷_, _++_}
 use mathlib.Core.Option.{Option, none, some}
 use lib.ListN.{length}
 use Rattle.spec.specs.Bytes.{found, place}
+use Rattle.spec.specs.Disk.{Disk, blocksOf}
 use Rattle.spec.specs.declared.Session.{Session}
 use Rattle.spec.specs.Session.{stagedIn}
 use Rattle.transaction.specs.declared.Place.{Place}
@@ -13,6 +14,10 @@ use Rattle.transaction.specs.declared.Place.the-variants.{At, Nothing}
 abbrev pub foundAt : Option ℕ → Place
 foundAt none = Nothing
 foundAt (some i) = At i
+
+-- the working copy where these blocks are staged
+unfoldable pub viewIn : List ℕ → List ℕ → List ℕ → Disk
+viewIn staged device work b = found (place b staged) (blocksOf device b) (blocksOf work)
 
 -- the place that block b has among the images, or gets
 unfoldable pub spot : Session → ℕ → ℕ

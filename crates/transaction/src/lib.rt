@@ -11,7 +11,7 @@ ghost use lib.ListN.{length};
 ghost use Rattle.spec.specs.Bytes.{exactly, place};
 ghost use Rattle.spec.specs.Session.{stagedIn, withStaged};
 ghost use Rattle.spec.specs.Transaction.{view, stateOf, put, stage, stagedOf, withStaging};
-ghost use Rattle.transaction.specs.Places.{foundAt, spot, blocksWith};
+ghost use Rattle.transaction.specs.Places.{foundAt, spot, blocksWith, viewIn};
 
 // Where a block stands among the staged ones.
 pub enum Place {
@@ -30,15 +30,14 @@ pub fn staged_count(s: Session) -> usize
     Limits::LOG_LENGTH
 }
 
-pub fn staged_at(s: Session, b: DiskBlock) -> Place
-    ensures { λ r. ⌜ r ≡ foundAt (place (b .0) (stagedIn s)) ⌝ }
+// Where block b stands among these.
+fn place_in(staged: &[u32], b: DiskBlock) -> Place
+    ensures { λ r. ⌜ r ≡ foundAt (place (b .0) (now (staged .entry))) ⌝ }
 {
-    let l = s.staged;
-    let n = staged_count(s);
     let want = b.0;
     let mut i: usize = 0;
-    while i < n {
-        if l[i] == want {
+    while i < staged.len() {
+        if staged[i] == want {
             return Place::At(i);
         }
         i += 1;
@@ -46,14 +45,33 @@ pub fn staged_at(s: Session, b: DiskBlock) -> Place
     Place::Nothing
 }
 
+pub fn staged_at(s: Session, b: DiskBlock) -> Place
+    ensures { λ r. ⌜ r ≡ foundAt (place (b .0) (stagedIn s)) ⌝ }
+{
+    let l = s.staged;
+    let n = staged_count(s);
+    place_in(&l[0..n], b)
+}
+
+// The working copy of block b where these blocks are staged: its image, or the device's block; it may end early, zeros follow.
+// The staged blocks are lent rather than the session that holds them, so that no call copies it.
+pub fn view_in<'a>(device: &'a [u8], work: &'a [u8], staged: &[u32], b: DiskBlock) -> &'a [u8]
+    requires { ⌜ length (now staged) ≤ 32 ⌝ }
+    ensures { λ r. ⌜ (exactly 512 (now r) ≡ viewIn (now (staged .entry)) (now (device .entry)) (now (work .entry)) (b .0)) × (length (now r) ≤ 512) ⌝ }
+{
+    match place_in(staged, b) {
+        Place::At(i) => block_in(work, DiskBlock(i as u32)),
+        Place::Nothing => block_in(device, b),
+    }
+}
+
 // The working copy of block b: its image where it is staged, else the device's block; zeros where the bytes end.
 pub fn view_block<'a>(device: &'a [u8], work: &'a [u8], s: Session, b: DiskBlock) -> &'a [u8]
     ensures { λ r. ⌜ exactly 512 (now r) ≡ view (stateOf s (now (device .entry)) (now (work .entry))) (b .0) ⌝ }
 {
-    match staged_at(s, b) {
-        Place::At(i) => block_in(work, DiskBlock(i as u32)),
-        Place::Nothing => block_in(device, b),
-    }
+    let l = s.staged;
+    let n = staged_count(s);
+    view_in(device, work, &l[0..n], b)
 }
 
 // The place among the images that block b has or gets.

@@ -4,20 +4,17 @@ use mathlib.Core.Path.{_≡_, refl, sym, ap₂, _∙_}
 use mathlib.Core.Bool.{Bool, true, false, cond, not, _&&_, _||_, true≢false}
 use mathlib.Core.List.{List, [], _∷_, _++_}
 use native.Mathlib.Omega.{arith}
-use native.Mathlib.Numerals.{add-one}
 use borrow.Author.Tests.{eqb-false}
 use lib.Dec.{eqb}
-use lib.ListN.{length, drop, getD}
-use lib.Seq.{drop-drop, drop-cons, getD-drop}
+use lib.ListN.{length, drop}
+use lib.Seq.{drop-drop, getD-drop}
 use Rattle.spec.specs.declared.Extent.{Extent}
-use Rattle.spec.specs.Bytes.{exactly, number2, all, allZero}
+use Rattle.spec.specs.Bytes.{exactly, number2, all}
 use Rattle.spec.specs.Inode.{extent, slotsIn, used, counts}
 use Rattle.spec.specs.Sound.{slotsPacked}
-use Rattle.block.proofs.Laws.{length-exactly, getD-exactly, number2-exactly}
-use Rattle.inode.specs.Records.{bytesIn}
+use Rattle.block.proofs.Laws.{number2-exactly}
 use Rattle.inode.specs.Walk.{slotIn}
 use Rattle.tree.specs.Reached.{usedFrom}
-use Rattle.tree.proofs.Runs.{and-assoc, and-right}
 
 -- a slot as the code reads it
 pub slot-read : (t : List ℕ) (at x y : ℕ) → at + 4 ≤ 512 → x ≡ number2 at t → y ≡ number2 (at + 2) t → extent x y ≡ slotIn at (exactly 512 t)

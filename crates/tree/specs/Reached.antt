@@ -1,13 +1,11 @@
 -- The blocks that the walk over a file's tree marks.
 use Prim.Native.Nat.{ℕ, _-_}
-use mathlib.Core.Path.{_≡_}
-use mathlib.Core.Bool.{Bool, true, cond}
+use mathlib.Core.Bool.{Bool, cond}
 use mathlib.Core.List.{List, [], _++_, map}
 use lib.ListN.{take}
 use Rattle.spec.specs.declared.Extent.{Extent}
 use Rattle.spec.specs.Disk.{Disk}
-use Rattle.spec.specs.Inode.{inodeAt, used, below, blocksIn, dataOf, nodesOf}
-use Rattle.marks.specs.Marks.{Kept}
+use Rattle.spec.specs.Inode.{used, below, blocksIn}
 
 -- the used ones of some slots; none is used behind one that is not
 unfoldable pub usedFrom : Bool → List Extent → List Extent

@@ -1,14 +1,13 @@
 -- The tests of a file's tree as running results over its extents and nodes.
-use Prim.Native.Nat.{ℕ, _+_, _-_, _%_}
-use mathlib.Core.Bool.{Bool, true, cond, not, _&&_, Bool·beq}
+use Prim.Native.Nat.{ℕ, _+_, _-_}
+use mathlib.Core.Bool.{true, cond, not, _&&_}
 use mathlib.Core.List.{List, [], _∷_}
-use lib.ListN.{length, drop}
+use lib.ListN.{length}
 use lib.Dec.{eqb, leb, ltb}
 use Rattle.spec.specs.declared.Extent.{Extent}
-use Rattle.spec.specs.Bytes.{all, allZero}
 use Rattle.spec.specs.Disk.{Disk, inData}
-use Rattle.spec.specs.Inode.{Inode, slotsAt, used, counts, treeDepth, extentsOf, levelsOf, nodesOf, blocksFor, nodesFor}
-use Rattle.spec.specs.Sound.{slotsPacked, extentInside, countsAgree, apart, levelPacked, tailZero}
+use Rattle.spec.specs.Inode.{slotsAt, used, counts}
+use Rattle.spec.specs.Sound.{slotsPacked, extentInside, apart}
 use Rattle.tree.specs.declared.Run.{Run}
 use Rattle.tree.specs.declared.Nodes.{Nodes}
 

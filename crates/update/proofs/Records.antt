@@ -11,8 +11,7 @@ use Rattle.spec.specs.Inode.{Inode, inodeOf, inodeAt, nameAt, inodeWith, bytesO
 use Rattle.spec.specs.declared.Extent.{Extent}
 use Rattle.inode.specs.Records.{bytesIn, recordIn}
 use Rattle.inode.proofs.Laws.{field-byte, field-length, record-at, inode-at}
-use Rattle.runs.specs.declared.Runs.{Runs}
-use Rattle.runs.specs.declared.Tree.{Tree}
+use Rattle.runs.specs.Tree.{Runs, Tree}
 use Rattle.runs.specs.Runs.{listed, nodesIn, Bounded}
 use Rattle.runs.specs.Push.{Holds, Small}
 use Rattle.runs.proofs.Laws.{listed-is}

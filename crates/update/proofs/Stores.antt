@@ -18,14 +18,14 @@ use Rattle.spec.specs.Plan as plan
 use Rattle.spec.specs.Plan.{Edit, edit, ifChanged, storesOf, inodeEdit, bitmapEdit, nodeEdits, levelEdits, dataEdits, lowestLevel, surplus, resized, fits, creates, removes, renames, rewrites}
 use Rattle.lists.specs.Extents.{runs-blocks}
 use Rattle.inode.proofs.Laws.{drop-take}
-use Rattle.runs.specs.declared.Tree.{Tree}
+use Rattle.runs.specs.Tree.{Tree}
 use Rattle.runs.specs.Runs.{listed, nodesIn, levelsIn}
 use Rattle.spec.specs.Answers.{accept}
 use Rattle.checks.specs.declared.Checked.{Checked}
 use Rattle.checks.specs.declared.Checked.the-variants.{Fine, Bad}
 use Rattle.alloc.specs.declared.Draft.{Draft}
 use Rattle.alloc.specs.Draft.{resizedAt, tableOf, Built, resultWith, treeIn, Drafted}
-use Rattle.change.specs.declared.Change.{Change}
+use Rattle.change.specs.Change.{Change}
 use Rattle.content.specs.Content.{withRecord}
 use Rattle.change.specs.Change.{changeStores}
 use Rattle.update.specs.Records.{recordStores}

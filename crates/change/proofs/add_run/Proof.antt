@@ -4,7 +4,7 @@ use native.Mathlib.Omega.{arith}
 use Rattle.spec.specs.Disk.{Disk}
 use Rattle.spec.specs.Transaction.{ascending}
 use Rattle.agenda.specs.Agenda.{Lists}
-use Rattle.change.specs.declared.Change.{Change}
+use Rattle.change.specs.Change.{Change}
 use Rattle.change.specs.Contents.{contentIn, dataStores, Numbers, IsBlock}
 use Rattle.change.proofs.Outside.{in-gap}
 use Rattle.change.proofs.Steps.{data-cast, data-over, run-gap}

@@ -1,54 +1,40 @@
+use mathlib.Core.Path.{_≡_, ap, _∙_, subst}
 use native.Mathlib.Omega.{arith}
-use Rattle.extents.proofs.Laws.{sought-in, sought-none, no-room, no-piece, piece-in}
+use lib.ListN.{length}
+use Rattle.spec.specs.Disk.{Disk}
+use Rattle.spec.specs.Transaction.{view, stateOf}
+use Rattle.transaction.proofs.Laws.{view-lent, lent-few}
+use Rattle.extents.specs.Stretches.{Pieces}
 use borrow.Author.Needs.{needs}
 use Rattle.extents.proofs.next_piece.Statement.{statement}
 use Rattle.extents.proofs.next_piece.Tie as tie
 
+staged-count-requires : tie.Need-staged-count-requires
+staged-count-requires c κs = search needs
+
+sub-next-piece-in : tie.Need-sub-next-piece-in
+sub-next-piece-in c = search needs
+
+part-next-piece-in-start : tie.Need-part-next-piece-in-start
+part-next-piece-in-start c = search needs
+
+part-next-piece-in-end : tie.Need-part-next-piece-in-end
+part-next-piece-in-end c = let l : length (c .before .before .before .before .before .args .s .staged) ≡ 32 = search needs in omega (arith, l, c .before .staged-count .ensures .1)
+
+next-piece-in-requires : tie.Need-next-piece-in-requires
+next-piece-in-requires c κs = let l : length (c .before .before .before .before .before .before .args .s .staged) ≡ 32 = search needs in lent-few (c .before .before .before .before .before .before .args .s) _ l (c .before .before .staged-count .ensures .1)
+
 returns : tie.Need-returns
-returns c = no-room _ _ _ (c .if1 .taken)
-
-seek-requires : tie.Need-seek-requires
-seek-requires c κs = search needs
-
-enum-known-e : tie.Need-enum-known-e
-enum-known-e c = search needs
-
-sub-at-most : tie.Need-sub-at-most
-sub-at-most c = omega (arith, sought-in _ _ _ _ _ _ _ _ (c .before .before .before .before .seek .ensures) (c .before .before .e .given .1) .inside)
-
-at-most-requires : tie.Need-at-most-requires
-at-most-requires c κs = search needs
-
-add-t15 : tie.Need-add-t15
-add-t15 c = let r = sought-in _ _ _ _ _ _ _ _ (c .before .before .before .before .before .before .seek .ensures) (c .before .before .before .before .e .given .1) in omega (arith, r .inside, r .first, r .count)
-
-cast-t17 : tie.Need-cast-t17
-cast-t17 c = search needs
-
-sub-t18 : tie.Need-sub-t18
-sub-t18 c = search needs
-
-enum-told : tie.Need-enum-told
-enum-told c = search needs
-
-returns-2 : tie.Need-returns-2
-returns-2 c = piece-in _ _ _ _ _ _ _ (sought-in _ _ _ _ _ _ _ _ (c .before .before .before .before .before .before .seek .ensures) (c .before .before .before .before .e .given .1)) (c .before .before .before .before .before .before .before .before .if1 .left) (c .before .at-most .ensures)
-
-returns-3 : tie.Need-returns-3
-returns-3 c = no-piece _ _ _ (sought-none _ _ _ _ _ (c .before .before .seek .ensures) (c .enum-told .given .1))
+returns c = let l : length (c .before .before .before .before .before .before .before .args .s .staged) ≡ 32 = search needs in let a = c .before .before .before .before .before .before .before .args in
+    subst (λ (v : Disk). Pieces v (a .tb) (a .scan) (c .next-piece-in .result)) (view-lent (a .s) (a .device .now) (a .work .now) _ l (c .before .before .before .staged-count .ensures .0)) (c .next-piece-in .ensures)
 
 pub next-piece-spec : {M : Type 1} → statement M
 next-piece-spec =
     tie.close
     (tie.spec
-    returns
-    seek-requires
-    enum-known-e
-    sub-at-most
-    at-most-requires
-    add-t15
-    cast-t17
-    sub-t18
-    enum-told
-    returns-2
-    returns-3)
+    staged-count-requires
+    sub-next-piece-in
+    part-next-piece-in-start
+    part-next-piece-in-end
+    next-piece-in-requires
+    returns)

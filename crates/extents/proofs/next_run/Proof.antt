@@ -1,78 +1,40 @@
-use mathlib.Core.Path.{refl}
+use borrow.Author.Needs.{needs}
+use mathlib.Core.Path.{_≡_, ap, _∙_, subst}
 use native.Mathlib.Omega.{arith}
 use lib.ListN.{length}
+use Rattle.spec.specs.Disk.{Disk}
 use Rattle.spec.specs.Transaction.{view, stateOf}
-use Rattle.extents.specs.Stretches.{pending}
-use Rattle.extents.proofs.Laws.{on-piece, on-last, Grown, piece-less, grow-first, grow-join, grow-apart, grow-none, grow-last}
-use borrow.Author.Needs.{needs}
+use Rattle.transaction.proofs.Laws.{view-lent, lent-few}
+use Rattle.extents.specs.Stretches.{RunSteps}
 use Rattle.extents.proofs.next_run.Statement.{statement}
 use Rattle.extents.proofs.next_run.Tie as tie
 
-abbrev Inv-loop : tie.InvT-loop
-Inv-loop device work s tb run₀ scan₀ run scan = Grown (view (stateOf s device work)) tb (record { run = run₀; scan = scan₀ }) (record { run = run; scan = scan })
+staged-count-requires : tie.Need-staged-count-requires
+staged-count-requires c κs = search needs
 
-abbrev μ-loop : tie.MeasureT-loop
-μ-loop device work s tb run₀ scan₀ run scan = length (pending (view (stateOf s device work)) tb scan)
+sub-next-run-in : tie.Need-sub-next-run-in
+sub-next-run-in c = search needs
 
-loop-holds : tie.Need-loop-holds Inv-loop μ-loop
-loop-holds c = record { runs = refl; fits = c .before .before .before .before .pre }
+part-next-run-in-start : tie.Need-part-next-run-in-start
+part-next-run-in-start c = search needs
 
-next-piece-requires : tie.Need-next-piece-requires Inv-loop μ-loop
-next-piece-requires c κs = search needs
+part-next-run-in-end : tie.Need-part-next-run-in-end
+part-next-run-in-end c = let l : length (c .before .before .before .before .before .args .s .staged) ≡ 32 = search needs in omega (arith, l, c .before .staged-count .ensures .1)
 
-enum-known-e : tie.Need-enum-known-e Inv-loop μ-loop
-enum-known-e c = search needs
+next-run-in-requires : tie.Need-next-run-in-requires
+next-run-in-requires c κs = let l : length (c .before .before .before .before .before .before .args .s .staged) ≡ 32 = search needs in (c .before .before .before .before .before .before .pre, lent-few (c .before .before .before .before .before .before .args .s) _ l (c .before .before .staged-count .ensures .1))
 
-add-if2 : tie.Need-add-if2 Inv-loop μ-loop
-add-if2 c = let f = c .before .before .before .before .before .before .before .loop .inv .fits in omega (arith, f .first, f .count)
-
-add-run : tie.Need-add-run Inv-loop μ-loop
-add-run c = omega (arith, c .before .before .before .before .before .before .before .before .before .before .before .loop .inv .fits .count, on-piece _ _ _ _ _ _ (c .before .before .before .before .before .before .before .before .before .before .next-piece .ensures) (c .before .before .before .before .before .before .before .before .e .given .1) .room)
-
-returns : tie.Need-returns Inv-loop μ-loop
-returns c = grow-apart _ _ _ _ (c .before .before .before .before .before .before .before .before .before .loop .inv) _ _ (on-piece _ _ _ _ _ _ (c .before .before .before .before .before .before .before .before .next-piece .ensures) (c .before .before .before .before .before .before .e .given .1)) (c .before .before .before .if1 .left) (c .if2 .left)
-
-loop-less : tie.Need-loop-less Inv-loop μ-loop
-loop-less c = piece-less _ _ _ _ _ (on-piece _ _ _ _ _ _ (c .before .before .before .before .before .next-piece .ensures) (c .before .before .before .e .given .1))
-
-loop-again : tie.Need-loop-again Inv-loop μ-loop
-loop-again c = grow-first _ _ _ _ (c .before .before .before .before .before .before .loop .inv) _ _ (on-piece _ _ _ _ _ _ (c .before .before .before .before .before .next-piece .ensures) (c .before .before .before .e .given .1)) (c .if1 .taken)
-
-loop-less-2 : tie.Need-loop-less-2 Inv-loop μ-loop
-loop-less-2 c = piece-less _ _ _ _ _ (on-piece _ _ _ _ _ _ (c .before .before .before .before .before .before .before .before .before .before .next-piece .ensures) (c .before .before .before .before .before .before .before .before .e .given .1))
-
-loop-again-2 : tie.Need-loop-again-2 Inv-loop μ-loop
-loop-again-2 c = grow-join _ _ _ _ (c .before .before .before .before .before .before .before .before .before .before .before .loop .inv) _ _ (on-piece _ _ _ _ _ _ (c .before .before .before .before .before .before .before .before .before .before .next-piece .ensures) (c .before .before .before .before .before .before .before .before .e .given .1)) (c .before .before .if2 .taken)
-
-enum-told : tie.Need-enum-told Inv-loop μ-loop
-enum-told c = search needs
-
-returns-2 : tie.Need-returns-2 Inv-loop μ-loop
-returns-2 c = grow-none _ _ _ _ (c .before .before .before .before .before .loop .inv) (on-last _ _ _ _ (c .before .before .before .before .next-piece .ensures) (c .before .before .enum-told .given .1)) (c .if3 .taken)
-
-growing-from-requires : tie.Need-growing-from-requires Inv-loop μ-loop
-growing-from-requires c κs = search needs
-
-returns-3 : tie.Need-returns-3 Inv-loop μ-loop
-returns-3 c = grow-last _ _ _ _ (c .before .before .before .before .before .before .loop .inv) (on-last _ _ _ _ (c .before .before .before .before .before .next-piece .ensures) (c .before .before .before .enum-told .given .1)) (c .before .if3 .left) _ (c .growing-from .ensures)
+returns : tie.Need-returns
+returns c = let l : length (c .before .before .before .before .before .before .before .args .s .staged) ≡ 32 = search needs in let a = c .before .before .before .before .before .before .before .args in
+    subst (λ (v : Disk). RunSteps v (a .tb) (a .from) (c .next-run-in .result)) (view-lent (a .s) (a .device .now) (a .work .now) _ l (c .before .before .before .staged-count .ensures .0)) (c .next-run-in .ensures)
 
 pub next-run-spec : {M : Type 1} → statement M
 next-run-spec =
     tie.close
     (tie.spec
-    Inv-loop
-    μ-loop
-    loop-holds
-    next-piece-requires
-    enum-known-e
-    add-if2
-    add-run
-    returns
-    loop-less
-    loop-again
-    loop-less-2
-    loop-again-2
-    enum-told
-    returns-2
-    growing-from-requires
-    returns-3)
+    staged-count-requires
+    sub-next-run-in
+    part-next-run-in-start
+    part-next-run-in-end
+    next-run-in-requires
+    returns)

@@ -1,123 +1,68 @@
-use Prim.Native.Nat.{ℕ, _+_, _*_, _-_, _/_, _%_, _<_, _≤_}
-use mathlib.Core.Path.{_≡_, refl, sym, ap, _∙_}
-use native.Mathlib.Omega.{arith}
-use lib.ListN.{length, take, drop, length-take, length-drop}
-use Rattle.spec.specs.Transaction.{view, stateOf}
-use Rattle.inode.proofs.Laws.{view-length}
-use Rattle.file.specs.Bytes.{runBytes}
-use Rattle.file.proofs.Laws.{landed, landed-none, landed-step, landed-all, part-of, stretch-length, run-next}
+use Prim.Native.Nat.{_+_, _*_}
+use mathlib.Core.Path.{_∙_}
+use borrow.Author.Tests.{eqb-true, leb-true}
+use lib.Dec.{eqb, leb}
+use lib.ListN.{length}
+use Rattle.lists.specs.Tests.{both-true}
+use Rattle.file.proofs.Laws.{run-direct}
 use borrow.Author.Needs.{needs}
 use Rattle.file.proofs.copy_run.Statement.{statement}
 use Rattle.file.proofs.copy_run.Tie as tie
 
-abbrev Inv-loop : tie.InvT-loop
-Inv-loop device work s skip to₀ first done₀ to done =
-    (done ≤ length to₀) × (length to ≡ length to₀) × (first < 131072) × (skip + length to₀ ≤ 1048576)
-    × ((count : ℕ) → skip + length to₀ ≤ 512 * count → to ≡ landed (take (length to₀) (drop skip (runBytes (view (stateOf s device work)) first count))) done to₀)
+cast-from : tie.Need-cast-from
+cast-from c = search needs
 
-abbrev μ-loop : tie.MeasureT-loop
-μ-loop device work s skip to₀ first done₀ to done = length to₀ - done
+mul-from : tie.Need-mul-from
+mul-from c = search needs
 
-loop-holds : tie.Need-loop-holds Inv-loop μ-loop
-loop-holds c = (omega arith, refl, omega arith, omega arith, λ count h. landed-none _ _)
+add-from : tie.Need-add-from
+add-from c = search needs
 
-add-at : tie.Need-add-at Inv-loop μ-loop
-add-at c = search needs
-
-sub-least : tie.Need-sub-least Inv-loop μ-loop
-sub-least c = search needs
-
-sub-least-2 : tie.Need-sub-least-2 Inv-loop μ-loop
-sub-least-2 c = search needs
-
-least-requires : tie.Need-least-requires Inv-loop μ-loop
-least-requires c κs = search needs
-
-add-end : tie.Need-add-end Inv-loop μ-loop
+add-end : tie.Need-add-end
 add-end c = search needs
 
-cast-t18 : tie.Need-cast-t18 Inv-loop μ-loop
-cast-t18 c = search needs
+sub-copy : tie.Need-sub-copy
+sub-copy c = search needs
 
-add-t19 : tie.Need-add-t19 Inv-loop μ-loop
-add-t19 c = search needs
+part-copy-start : tie.Need-part-copy-start
+part-copy-start c = search needs
 
-view-block-requires : tie.Need-view-block-requires Inv-loop μ-loop
-view-block-requires c κs = search needs
+part-copy-end : tie.Need-part-copy-end
+part-copy-end c = let b = both-true (eqb (length (c .before .before .before .before .before .before .args .staged .now)) 0) (leb (512 * c .before .before .before .before .before .before .args .run .first + c .before .before .before .before .before .before .args .skip + length (c .before .before .before .before .before .before .args .to .now)) (length (c .before .before .before .before .before .before .args .device .now))) (c .if1 .taken) in leb-true _ _ (b .1)
 
-sub-copy-part : tie.Need-sub-copy-part Inv-loop μ-loop
-sub-copy-part c = search needs
+copy-requires : tie.Need-copy-requires
+copy-requires c κs = search needs
 
-part-copy-part-start : tie.Need-part-copy-part-start Inv-loop μ-loop
-part-copy-part-start c = search needs
-
-part-copy-part-end : tie.Need-part-copy-part-end Inv-loop μ-loop
-part-copy-part-end c = search needs
-
-copy-part-requires : tie.Need-copy-part-requires Inv-loop μ-loop
-copy-part-requires c κs = search needs
-
-loop-less : tie.Need-loop-less Inv-loop μ-loop
-loop-less c = search needs
-
-loop-again : tie.Need-loop-again Inv-loop μ-loop
-loop-again c =
-    let a = c .before .before .before .before .before .before .before .before .before .before .before .args in
-    let v = view (stateOf (a .s) (a .device .now) (a .work .now)) in
-    let w = view-length (a .s) (a .device .now) (a .work .now) in
-    let len = length (a .to .now) in
-    let done = c .before .before .before .before .before .before .before .loop .done in
-    let to = c .before .before .before .before .before .before .before .loop .to in
-    let n = c .before .before .before .before .before .least .result in
-    let q = a .skip + done in
-    let few : n ≤ len - done = omega (arith, c .before .before .before .before .before .least .ensures) in
-    let fits : q % 512 + n ≤ 512 = omega (arith, c .before .before .before .before .before .least .ensures) in
-    let some : 0 < n = omega (arith, c .before .before .before .before .before .least .ensures) in
-    let k : done + n - done ≡ n = omega arith in
-    let lent : length (take (done + n - done) (drop done to)) ≡ n = simp (length-take, length-drop) (omega arith) in (
-      omega arith,
-      search needs,
-      omega arith,
-      omega arith,
-      λ count h.
-          let l = stretch-length v w (a .run .first) count (a .skip) len h in
-          landed-step (take len (drop (a .skip) (runBytes v (a .run .first) count))) (a .to .now) to _ done n (done + n - done) (c .before .before .before .before .before .before .before .loop .inv .4 count h)
-          (omega arith) (omega arith) k
-          (part-of (c .before .before .before .before .view-block .result .now) _ (take (done + n - done) (drop done to)) _ (q % 512) n (c .before .before .copy-part .ensures) lent (c .before .before .before .before .view-block .ensures)
-          ∙ sym (run-next v w (a .run .first) count (a .skip) len done n h (omega arith) some fits)),
-    )
-
-same-length : tie.Need-same-length Inv-loop μ-loop
+same-length : tie.Need-same-length
 same-length c = search needs
 
-returns : tie.Need-returns Inv-loop μ-loop
-returns c =
-    let a = c .before .before .before .before .before .args in
-    let v = view (stateOf (a .s) (a .device .now) (a .work .now)) in
-    let h = c .before .before .before .before .before .pre .0 in
-    landed-all _ (a .to .now) _ (c .before .loop .done) (c .before .loop .inv .4 (a .run .count) h)
-    (stretch-length v (view-length (a .s) (a .device .now) (a .work .now)) (a .run .first) (a .run .count) (a .skip) (length (a .to .now)) h) (omega arith)
+returns : tie.Need-returns
+returns c = let b = both-true (eqb (length (c .before .before .before .before .before .before .before .before .before .before .before .args .staged .now)) 0) (leb (512 * c .before .before .before .before .before .before .before .before .before .before .before .args .run .first + c .before .before .before .before .before .before .before .before .before .before .before .args .skip + length (c .before .before .before .before .before .before .before .before .before .before .before .args .to .now)) (length (c .before .before .before .before .before .before .before .before .before .before .before .args .device .now))) (c .before .before .before .before .before .if1 .taken) in let a = c .before .before .before .before .before .before .before .before .before .before .before .args in
+    c .before .before .copy .ensures ∙ run-direct (a .staged .now) (a .device .now) (a .work .now) (a .run .first) (a .run .count) (a .skip) (length (a .to .now)) (eqb-true _ _ (b .0)) (c .before .before .before .before .before .before .before .before .before .before .before .pre .0) (leb-true _ _ (b .1))
+
+copy-blocks-requires : tie.Need-copy-blocks-requires
+copy-blocks-requires c κs = search needs
+
+same-length-2 : tie.Need-same-length-2
+same-length-2 c = search needs
+
+returns-2 : tie.Need-returns-2
+returns-2 c = search needs
 
 pub copy-run-spec : {M : Type 1} → statement M
 copy-run-spec =
     tie.close
     (tie.spec
-    Inv-loop
-    μ-loop
-    loop-holds
-    add-at
-    sub-least
-    sub-least-2
-    least-requires
+    cast-from
+    mul-from
+    add-from
     add-end
-    cast-t18
-    add-t19
-    view-block-requires
-    sub-copy-part
-    part-copy-part-start
-    part-copy-part-end
-    copy-part-requires
-    loop-less
-    loop-again
+    sub-copy
+    part-copy-start
+    part-copy-end
+    copy-requires
     same-length
-    returns)
+    returns
+    copy-blocks-requires
+    same-length-2
+    returns-2)

@@ -1,63 +1,44 @@
 use mathlib.Core.Path.{refl}
 use Rattle.marks.proofs.Laws.{disk-fault}
-use Rattle.fsck.proofs.Shape.{inode-damaged, block-damaged, nothing-damaged}
+use Rattle.fsck.proofs.Records.{inode-damaged, block-damaged, nothing-damaged}
 use borrow.Author.Needs.{needs}
 use Rattle.fsck.proofs.find_damage.Statement.{statement}
 use Rattle.fsck.proofs.find_damage.Tie as tie
-use Rattle.fsck.proofs.find_damage.Reads as reads
-use Rattle.fsck.proofs.find_damage.Lts as lts
-use Rattle.block.proofs.copy_of.Reads as copy-of-reads
-use Rattle.fsck.proofs.inode_fault.Reads as inode-fault-reads
-use Rattle.marks.proofs.lowest_wrong.Reads as lowest-wrong-reads
-use Rattle.marks.proofs.no_marks.Reads as no-marks-reads
-use Rattle.tree.proofs.block_at.Reads as block-at-reads
 
--- src/lib.rt:293:20
 no-marks-requires : tie.Need-no-marks-requires
 no-marks-requires c κs = search needs
 
--- src/lib.rt:295:11
 inode-fault-requires : tie.Need-inode-fault-requires
 inode-fault-requires c κs = search needs
 
--- src/lib.rt:296:19
 enum-known-i : tie.Need-enum-known-i
 enum-known-i c = search needs
 
--- src/lib.rt:298:34
 enum-told : tie.Need-enum-told
 enum-told c = search needs
 
--- src/lib.rt:298:34
 block-at-requires : tie.Need-block-at-requires
 block-at-requires c κs = search needs
 
--- src/lib.rt:298:26
 copy-of-requires : tie.Need-copy-of-requires
 copy-of-requires c κs = search needs
 
--- src/lib.rt:299:19
 lowest-wrong-requires : tie.Need-lowest-wrong-requires
 lowest-wrong-requires c κs = search needs
 
--- src/lib.rt:300:27
 enum-known-b : tie.Need-enum-known-b
 enum-known-b c = search needs
 
--- src/lib.rt:301:35
 enum-told-2 : tie.Need-enum-told-2
 enum-told-2 c = search needs
 
--- src/lib.rt:289:1
 returns : tie.Need-returns
 returns c = inode-damaged _ _ _ (c .before .before .before .inode-fault .ensures .0) _ (c .before .i .given .1)
 
--- src/lib.rt:289:1
 returns-2 : tie.Need-returns-2
 returns-2 c = let f = c .before .before .before .before .before .before .before .before .before .before .before .inode-fault .ensures in let n = c .before .before .before .before .before .before .before .before .before .enum-told .given .1 in
     block-damaged _ _ _ (f .0) _ n (disk-fault _ _ _ _ _ _ _ _ (c .before .before .before .before .before .before .before .before .block-at .result .now) _ refl (c .before .before .before .before .before .before .before .before .before .before .before .before .before .before .no-marks .ensures) refl (f .1 n) (c .before .before .before .before .before .before .before .before .block-at .ensures) (c .before .before .before .before .before .before .before .copy-of .ensures) (c .before .before .before .lowest-wrong .ensures)) _ (c .before .b .given .1)
 
--- src/lib.rt:289:1
 returns-3 : tie.Need-returns-3
 returns-3 c = let f = c .before .before .before .before .before .before .before .before .before .before .inode-fault .ensures in let n = c .before .before .before .before .before .before .before .before .enum-told .given .1 in
     nothing-damaged _ _ _ (f .0) _ n (disk-fault _ _ _ _ _ _ _ _ (c .before .before .before .before .before .before .before .block-at .result .now) _ refl (c .before .before .before .before .before .before .before .before .before .before .before .before .before .no-marks .ensures) refl (f .1 n) (c .before .before .before .before .before .before .before .block-at .ensures) (c .before .before .before .before .before .before .copy-of .ensures) (c .before .before .lowest-wrong .ensures)) (c .enum-told2 .given .1)

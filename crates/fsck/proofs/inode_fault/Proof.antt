@@ -11,13 +11,10 @@ use Rattle.marks.proofs.Laws.{kept-start, kept-on, kept-end, reach-start, reach
 use Rattle.fsck.specs.Damage.{unsound}
 use Rattle.fsck.specs.Names.{Names, Seen}
 use Rattle.fsck.proofs.Names.{names-start, seen-start}
-use Rattle.fsck.proofs.Shape.{fault-all, found-some}
+use Rattle.fsck.proofs.Records.{fault-all, found-some}
 use borrow.Author.Needs.{needs}
 use Rattle.fsck.proofs.inode_fault.Statement.{statement}
 use Rattle.fsck.proofs.inode_fault.Tie as tie
-use Rattle.fsck.proofs.inode_fault.Reads as reads
-use Rattle.fsck.proofs.inode_fault.Lts as lts
-use Rattle.fsck.proofs.records_fault.Reads as records-fault-reads
 
 abbrev Inv-loop : tie.InvT-loop
 Inv-loop once₀ twice₀ device blocks numbers₀ seen₀ first₀ once twice numbers seen first = (first ≤ 128) × (first % 16 ≡ 0) × (lowestTo 128 (unsound blocks (blocksOf device)) 0 ≡ lowestTo 128 (unsound blocks (blocksOf device)) first)
@@ -27,19 +24,15 @@ Inv-loop once₀ twice₀ device blocks numbers₀ seen₀ first₀ once twice n
 abbrev μ-loop : tie.MeasureT-loop
 μ-loop once₀ twice₀ device blocks numbers₀ seen₀ first₀ once twice numbers seen first = 128 - first
 
--- src/lib.rt:279:5
 loop-holds : tie.Need-loop-holds Inv-loop μ-loop
 loop-holds c = (omega arith, refl, refl, kept-start _ _ _ _ _ (reach-start _), names-start _ (block-length _) _ refl, seen-start _ _ refl)
 
--- src/lib.rt:280:31
 records-fault-requires : tie.Need-records-fault-requires Inv-loop μ-loop
 records-fault-requires c κs = let i = c .before .before .before .before .before .loop .inv in (c .before .before .before .before .before .before .before .pre, omega arith, i .1, i .4, i .5)
 
--- src/lib.rt:280:26
 enum-known-i : tie.Need-enum-known-i Inv-loop μ-loop
 enum-known-i c = search needs
 
--- src/lib.rt:281:13
 returns : tie.Need-returns Inv-loop μ-loop
 returns c = let l = c .before .before .before .before .before .before .before .before .before .loop in let m = c .before .before .before .before .before .before .before .before .loop-test .taken in let i = l .inv in
     (sym (fault-all _ _ ∙ i .2 ∙ lowest-in _ 128 _ (l .first) (omega arith) (omega (arith, i .1)) _ (sym (c .before .before .before .records-fault .ensures .0) ∙ c .before .i .given .1)), λ h. found-some _ h)
@@ -47,15 +40,12 @@ returns c = let l = c .before .before .before .before .before .before .before .b
 enum-told : tie.Need-enum-told Inv-loop μ-loop
 enum-told c = search needs
 
--- src/lib.rt:283:9
 add-first : tie.Need-add-first Inv-loop μ-loop
 add-first c = omega (arith, c .before .before .before .before .before .before .before .loop-test .taken)
 
--- src/lib.rt:279:5
 loop-less : tie.Need-loop-less Inv-loop μ-loop
 loop-less c = omega (arith, c .before .before .before .before .before .before .before .loop-test .taken)
 
--- src/lib.rt:279:5
 loop-again : tie.Need-loop-again Inv-loop μ-loop
 loop-again c = let l = c .before .before .before .before .before .before .before .before .loop in let m = c .before .before .before .before .before .before .before .loop-test .taken in let i = l .inv in let p = i .1 in let r = c .before .before .records-fault .ensures in let n = c .enum-told .given .1 in let q = r .1 n in (
   omega arith,
@@ -66,7 +56,6 @@ loop-again c = let l = c .before .before .before .before .before .before .before
   q .remainders,
 )
 
--- src/lib.rt:271:1
 returns-2 : tie.Need-returns-2 Inv-loop μ-loop
 returns-2 c = let l = c .before .loop in (sym (fault-all _ _ ∙ l .inv .2 ∙ lowest-none _ _ _ (c .loop-test .left)), λ _. kept-end _ _ _ _ _ _ _ (l .inv .3) _ (reach-end _ _ _ (c .loop-test .left)) refl)
 

@@ -6,8 +6,6 @@ use Rattle.fsck.proofs.Names.{seen-first, seen-more, seen-end}
 use borrow.Author.Needs.{needs}
 use Rattle.fsck.proofs.is_among.Statement.{statement}
 use Rattle.fsck.proofs.is_among.Tie as tie
-use Rattle.fsck.proofs.is_among.Reads as reads
-use Rattle.fsck.proofs.is_among.Lts as lts
 
 abbrev Inv-loop : tie.InvT-loop
 Inv-loop numbers i number among₀ j₀ among j = (j ≤ i) × (among ≡ seenTo j number numbers)
@@ -15,39 +13,30 @@ Inv-loop numbers i number among₀ j₀ among j = (j ≤ i) × (among ≡ seenTo
 abbrev μ-loop : tie.MeasureT-loop
 μ-loop numbers i number among₀ j₀ among j = i - j
 
--- src/lib.rt:188:18
 mul-number : tie.Need-mul-number Inv-loop μ-loop
 mul-number c = search needs
 
--- src/lib.rt:188:18
 element-copy-out-number : tie.Need-element-copy-out-number Inv-loop μ-loop
 element-copy-out-number c = search needs
 
--- src/lib.rt:191:5
 loop-holds : tie.Need-loop-holds Inv-loop μ-loop
 loop-holds c = (omega arith, seen-first _ _ _ refl)
 
--- src/lib.rt:192:26
 mul-among : tie.Need-mul-among Inv-loop μ-loop
 mul-among c = search needs
 
--- src/lib.rt:192:26
 element-copy-out-among : tie.Need-element-copy-out-among Inv-loop μ-loop
 element-copy-out-among c = search needs
 
--- src/lib.rt:193:9
 add-j : tie.Need-add-j Inv-loop μ-loop
 add-j c = search needs
 
--- src/lib.rt:191:5
 loop-less : tie.Need-loop-less Inv-loop μ-loop
 loop-less c = search needs
 
--- src/lib.rt:191:5
 loop-again : tie.Need-loop-again Inv-loop μ-loop
 loop-again c = let l = c .before .before .loop in (omega arith, seen-more _ _ (l .j) (l .among) (l .inv .1))
 
--- src/lib.rt:184:1
 returns : tie.Need-returns Inv-loop μ-loop
 returns c = let l = c .before .loop in seen-end _ _ (l .j) _ (l .among) (l .inv .1) (omega arith)
 

@@ -1,4 +1,4 @@
-use Rattle.fsck.proofs.Shape.{inode-unsound, block-unsound, all-sound}
+use Rattle.fsck.proofs.Records.{inode-unsound, block-unsound, all-sound}
 use borrow.Author.Needs.{needs}
 use Rattle.fsck.proofs.is_sound.Statement.{statement}
 use Rattle.fsck.proofs.is_sound.Tie as tie

@@ -1,10 +1,9 @@
-use Prim.Native.Nat.{_+_, _-_, _≤_, _<_}
+use Prim.Native.Nat.{_+_, _-_, _≤_}
 use mathlib.Core.Path.{_≡_, refl, sym, ap, _∙_}
 use native.Mathlib.Omega.{arith}
 use borrow.Author.Tests.{not-false}
 use lib.Seq.{getD-set-same}
 use Rattle.spec.specs.Disk.{blocksOf}
-use Rattle.spec.specs.Inode.{blockOfInode}
 use Rattle.block.proofs.Laws.{block-length}
 use Rattle.inode.specs.Records.{lowestTo}
 use Rattle.inode.proofs.Laws.{lowest-hit, lowest-miss, lowest-none}
@@ -13,18 +12,10 @@ use Rattle.marks.proofs.Laws.{kept-start, kept-on, reach-more}
 use Rattle.fsck.specs.Damage.{unsound}
 use Rattle.fsck.specs.Names.{Names, Seen}
 use Rattle.fsck.proofs.Names.{names-more, seen-set, seen-add}
-use Rattle.fsck.proofs.Shape.{unsound-by, found-some, zero-fault, zero-passed, table-holds, passed-end}
+use Rattle.fsck.proofs.Records.{unsound-by, found-some, zero-fault, zero-passed, table-holds, passed-end}
 use borrow.Author.Needs.{needs}
 use Rattle.fsck.proofs.records_fault.Statement.{statement}
 use Rattle.fsck.proofs.records_fault.Tie as tie
-use Rattle.fsck.proofs.records_fault.Reads as reads
-use Rattle.fsck.proofs.records_fault.Lts as lts
-use Rattle.block.proofs.copy_of.Reads as copy-of-reads
-use Rattle.fsck.proofs.inode_sound.Reads as inode-sound-reads
-use Rattle.fsck.proofs.number_in.Reads as number-in-reads
-use Rattle.inode.proofs.table_block.Reads as table-block-reads
-use Rattle.tree.proofs.block_at.Reads as block-at-reads
-use Rattle.zeros.proofs.is_zero.Reads as is-zero-reads
 
 abbrev Inv-loop : tie.InvT-loop
 Inv-loop once₀ twice₀ numbers₀ seen₀ device blocks first table end i₀ once twice numbers seen i = (first ≤ i) × (i ≤ first + 16) × (lowestTo (first + 16) (unsound blocks (blocksOf device)) first ≡ lowestTo (first + 16) (unsound blocks (blocksOf device)) i)
@@ -34,83 +25,64 @@ Inv-loop once₀ twice₀ numbers₀ seen₀ device blocks first table end i₀ 
 abbrev μ-loop : tie.MeasureT-loop
 μ-loop once₀ twice₀ numbers₀ seen₀ device blocks first table end i₀ once twice numbers seen i = first + 16 - i
 
--- src/lib.rt:252:42
 table-block-requires : tie.Need-table-block-requires Inv-loop μ-loop
 table-block-requires c κs = search needs
 
--- src/lib.rt:252:25
 block-at-requires : tie.Need-block-at-requires Inv-loop μ-loop
 block-at-requires c κs = search needs
 
--- src/lib.rt:252:17
 copy-of-requires : tie.Need-copy-of-requires Inv-loop μ-loop
 copy-of-requires c κs = search needs
 
--- src/lib.rt:253:16
 slice-aggregate-is-zero : tie.Need-slice-aggregate-is-zero Inv-loop μ-loop
 slice-aggregate-is-zero c = search needs
 
--- src/lib.rt:253:8
 is-zero-requires : tie.Need-is-zero-requires Inv-loop μ-loop
 is-zero-requires c κs = search needs
 
--- src/lib.rt:254:9
 returns : tie.Need-returns Inv-loop μ-loop
 returns c = let s = c .before .before .before .before .before .before .before in let a = s .args in let p = s .pre in let v = blocksOf (a .device .now) in
     let e = c .before .before .before .copy-of .ensures ∙ c .before .before .before .before .block-at .ensures ∙ ap v (c .before .before .before .before .before .table-block .ensures) in let z = sym (c .before .is-zero .ensures) ∙ c .if1 .taken in
     (zero-fault (a .blocks) v (a .first) (p .2) _ e z, λ _. zero-passed (a .blocks) v (a .first) (p .2) _ e z (block-length (a .device .now)) _ _ _ _ (p .3) (p .4))
 
--- src/lib.rt:256:15
 add-end : tie.Need-add-end Inv-loop μ-loop
 add-end c = search needs
 
--- src/lib.rt:258:5
 loop-holds : tie.Need-loop-holds Inv-loop μ-loop
 loop-holds c = let p = c .before .before .before .before .before .before .before .pre in (omega arith, omega arith, refl, kept-start _ _ _ _ _ refl, p .3, p .4)
 
--- src/lib.rt:259:32
 slice-aggregate-number-in : tie.Need-slice-aggregate-number-in Inv-loop μ-loop
 slice-aggregate-number-in c = search needs
 
--- src/lib.rt:259:13
 number-in-requires : tie.Need-number-in-requires Inv-loop μ-loop
 number-in-requires c κs = search needs
 
--- src/lib.rt:260:9
 mul-numbers : tie.Need-mul-numbers Inv-loop μ-loop
 mul-numbers c = search needs
 
--- src/lib.rt:260:9
 element-write-numbers : tie.Need-element-write-numbers Inv-loop μ-loop
 element-write-numbers c = search needs
 
--- src/lib.rt:261:61
 slice-aggregate-inode-sound : tie.Need-slice-aggregate-inode-sound Inv-loop μ-loop
 slice-aggregate-inode-sound c = search needs
 
--- src/lib.rt:261:13
 inode-sound-requires : tie.Need-inode-sound-requires Inv-loop μ-loop
 inode-sound-requires c κs = let s = c .before .before .before .before .before .before .before .before .before .before .before .before .before .before .before .before in let a = s .args in let p = s .pre in let v = blocksOf (a .device .now) in let l = c .before .before .before .before .before .before .before .before .loop in let m = c .before .before .before .before .before .before .before .loop-test .taken in let w = c .before .before .before .before .before .number-in .ensures in
     let t = table-holds v (c .before .before .before .before .before .before .before .before .before .before .before .before .copy-of .result) (c .before .before .before .before .before .before .before .before .before .before .before .before .before .block-at .result .now) (a .first) _ (l .i) (c .before .before .before .before .before .before .before .before .before .before .before .before .copy-of .ensures) (c .before .before .before .before .before .before .before .before .before .before .before .before .before .block-at .ensures) (c .before .before .before .before .before .before .before .before .before .before .before .before .before .before .table-block .ensures) (p .2) (l .inv .0) m in
     (p .0, omega (arith, p .1, p .2, l .inv .0), names-more v (block-length (a .device .now)) (l .numbers) _ (l .i) _ (l .inv .4) (omega (arith, p .1, p .2, l .inv .0)) t (w .0) (w .1), seen-set (l .numbers) (l .seen) (l .i) _ (l .inv .5), t)
 
--- src/lib.rt:262:13
 returns-2 : tie.Need-returns-2 Inv-loop μ-loop
 returns-2 c = let l = c .before .before .before .before .before .before .before .before .before .before .loop in let m = c .before .before .before .before .before .before .before .before .before .loop-test .taken in (sym (l .inv .2 ∙ lowest-hit _ _ _ m (unsound-by _ _ _ _ _ (c .before .inode-sound .ensures .answer) (c .if2 .taken))), λ h. found-some _ h)
 
--- src/lib.rt:264:9
 element-write-seen : tie.Need-element-write-seen Inv-loop μ-loop
 element-write-seen c = search needs
 
--- src/lib.rt:265:9
 add-i : tie.Need-add-i Inv-loop μ-loop
 add-i c = search needs
 
--- src/lib.rt:258:5
 loop-less : tie.Need-loop-less Inv-loop μ-loop
 loop-less c = search needs
 
--- src/lib.rt:258:5
 loop-again : tie.Need-loop-again Inv-loop μ-loop
 loop-again c = let s = c .before .before .before .before .before .before .before .before .before .before .before .before .before .before .before .before .before .before in let a = s .args in let p = s .pre in let v = blocksOf (a .device .now) in let l = c .before .before .before .before .before .before .before .before .before .before .loop in let m = c .before .before .before .before .before .before .before .before .before .loop-test .taken in let w = c .before .before .before .before .before .before .before .number-in .ensures in
     let t = table-holds v (c .before .before .before .before .before .before .before .before .before .before .before .before .before .before .copy-of .result) (c .before .before .before .before .before .before .before .before .before .before .before .before .before .before .before .block-at .result .now) (a .first) _ (l .i) (c .before .before .before .before .before .before .before .before .before .before .before .before .before .before .copy-of .ensures) (c .before .before .before .before .before .before .before .before .before .before .before .before .before .before .before .block-at .ensures) (c .before .before .before .before .before .before .before .before .before .before .before .before .before .before .before .before .table-block .ensures) (p .2) (l .inv .0) m in let r = c .before .inode-sound .ensures in let g = l .inv .4 in (
@@ -122,7 +94,6 @@ loop-again c = let s = c .before .before .before .before .before .before .before
       seen-add _ (l .seen) (l .i) (c .before .before .before .before .before .before .before .number-in .result) (seen-set (l .numbers) (l .seen) (l .i) _ (l .inv .5)) (getD-set-same (l .numbers) (l .i) _ 0 (omega (arith, p .1, p .2, l .inv .0, g .full))),
     )
 
--- src/lib.rt:237:1
 returns-3 : tie.Need-returns-3 Inv-loop μ-loop
 returns-3 c = let l = c .before .loop in let s = c .before .before .before .before .before .before .before .before .before in let e : l .i ≡ s .args .first + 16 = omega (arith, l .inv .1, c .loop-test .left) in (sym (l .inv .2 ∙ lowest-none _ _ _ (c .loop-test .left)), λ _. passed-end _ _ _ (l .i) _ _ _ _ _ _ _ e (l .inv .3) (l .inv .4) (l .inv .5))
 

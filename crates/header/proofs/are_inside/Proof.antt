@@ -9,9 +9,6 @@ use Rattle.header.proofs.Loops.{inside-more, inside-end}
 use borrow.Author.Needs.{needs}
 use Rattle.header.proofs.are_inside.Statement.{statement}
 use Rattle.header.proofs.are_inside.Tie as tie
-use Rattle.header.proofs.are_inside.Reads as reads
-use Rattle.header.proofs.are_inside.Lts as lts
-use Rattle.block.proofs.is_target.Reads as is-target-reads
 
 abbrev Inv-loop : tie.InvT-loop
 Inv-loop blocks l inside₀ i₀ inside i = (i ≤ length l) × (all (isTarget blocks) l ≡ inside && all (isTarget blocks) (drop i l))
@@ -19,35 +16,27 @@ Inv-loop blocks l inside₀ i₀ inside i = (i ≤ length l) × (all (isTarget b
 abbrev μ-loop : tie.MeasureT-loop
 μ-loop blocks l inside₀ i₀ inside i = length l - i
 
--- src/lib.rt:135:5
 loop-holds : tie.Need-loop-holds Inv-loop μ-loop
 loop-holds c = (omega arith, refl)
 
--- src/lib.rt:136:17
 mul-b : tie.Need-mul-b Inv-loop μ-loop
 mul-b c = search needs
 
--- src/lib.rt:136:17
 shared-slice-read-b : tie.Need-shared-slice-read-b Inv-loop μ-loop
 shared-slice-read-b c = search needs
 
--- src/lib.rt:137:27
 is-target-requires : tie.Need-is-target-requires Inv-loop μ-loop
 is-target-requires c κs = search needs
 
--- src/lib.rt:138:9
 add-i : tie.Need-add-i Inv-loop μ-loop
 add-i c = search needs
 
--- src/lib.rt:135:5
 loop-less : tie.Need-loop-less Inv-loop μ-loop
 loop-less c = search needs
 
--- src/lib.rt:135:5
 loop-again : tie.Need-loop-again Inv-loop μ-loop
 loop-again c = let l = c .before .before .before .loop in (omega arith, inside-more _ _ (l .i) (l .inside) (l .inv .1) _ (omega arith) (c .is-target .ensures))
 
--- src/lib.rt:130:1
 returns : tie.Need-returns Inv-loop μ-loop
 returns c = let l = c .before .loop in inside-end _ _ (l .i) (l .inside) (l .inv .1) (c .loop-test .left)
 

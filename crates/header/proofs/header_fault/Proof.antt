@@ -1,16 +1,10 @@
 use Prim.Native.Nat.{_-_, _≤_}
 use mathlib.Core.Path.{_≡_, refl, sym, _∙_}
 use native.Mathlib.Omega.{arith}
-use lib.ListN.{length}
 use Rattle.header.proofs.Loops.{faultFrom, fault-start, fault-hit, fault-miss, fault-end, fault-zero}
 use borrow.Author.Needs.{needs}
 use Rattle.header.proofs.header_fault.Statement.{statement}
 use Rattle.header.proofs.header_fault.Tie as tie
-use Rattle.header.proofs.header_fault.Reads as reads
-use Rattle.header.proofs.header_fault.Lts as lts
-use Rattle.header.proofs.is_record_wrong.Reads as is-record-wrong-reads
-use Rattle.header.proofs.record_targets.Reads as record-targets-reads
-use Rattle.zeros.proofs.is_zero.Reads as is-zero-reads
 
 abbrev Inv-loop : tie.InvT-loop
 Inv-loop blocks head l i₀ i = (i ≤ 32) × (faultFrom blocks head 0 ≡ faultFrom blocks head i)
@@ -18,47 +12,36 @@ Inv-loop blocks head l i₀ i = (i ≤ 32) × (faultFrom blocks head 0 ≡ fault
 abbrev μ-loop : tie.MeasureT-loop
 μ-loop blocks head l i₀ i = 32 - i
 
--- src/lib.rt:94:8
 is-zero-requires : tie.Need-is-zero-requires Inv-loop μ-loop
 is-zero-requires c κs = search needs
 
--- src/lib.rt:95:9
 returns : tie.Need-returns Inv-loop μ-loop
 returns c = fault-zero _ _ (sym (c .before .is-zero .ensures) ∙ c .if1 .taken)
 
--- src/lib.rt:97:13
 record-targets-requires : tie.Need-record-targets-requires Inv-loop μ-loop
 record-targets-requires c κs = search needs
 
--- src/lib.rt:99:5
 loop-holds : tie.Need-loop-holds Inv-loop μ-loop
 loop-holds c = (omega arith, refl)
 
--- src/lib.rt:100:42
 slice-aggregate-is-record-wrong : tie.Need-slice-aggregate-is-record-wrong Inv-loop μ-loop
 slice-aggregate-is-record-wrong c = search needs
 
--- src/lib.rt:100:12
 is-record-wrong-requires : tie.Need-is-record-wrong-requires Inv-loop μ-loop
 is-record-wrong-requires c κs = search needs
 
--- src/lib.rt:101:13
 returns-2 : tie.Need-returns-2 Inv-loop μ-loop
 returns-2 c = sym (fault-start _ _ ∙ c .before .before .before .before .loop .inv .1 ∙ fault-hit _ _ _ (omega arith) (sym (c .before .is-record-wrong .ensures) ∙ c .if2 .taken))
 
--- src/lib.rt:103:9
 add-i : tie.Need-add-i Inv-loop μ-loop
 add-i c = search needs
 
--- src/lib.rt:99:5
 loop-less : tie.Need-loop-less Inv-loop μ-loop
 loop-less c = search needs
 
--- src/lib.rt:99:5
 loop-again : tie.Need-loop-again Inv-loop μ-loop
 loop-again c = (omega arith, c .before .before .before .before .loop .inv .1 ∙ fault-miss _ _ _ (omega arith) (sym (c .before .is-record-wrong .ensures) ∙ c .if2 .left))
 
--- src/lib.rt:91:1
 returns-3 : tie.Need-returns-3 Inv-loop μ-loop
 returns-3 c = sym (fault-start _ _ ∙ c .before .loop .inv .1 ∙ fault-end _ _ _ (omega arith))
 

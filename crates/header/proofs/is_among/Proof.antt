@@ -8,8 +8,6 @@ use Rattle.header.proofs.Loops.{among-more, among-end}
 use borrow.Author.Needs.{needs}
 use Rattle.header.proofs.is_among.Statement.{statement}
 use Rattle.header.proofs.is_among.Tie as tie
-use Rattle.header.proofs.is_among.Reads as reads
-use Rattle.header.proofs.is_among.Lts as lts
 
 abbrev Inv-loop : tie.InvT-loop
 Inv-loop l b among₀ i₀ among i = (i ≤ length l) × (member b l ≡ (among || member b (drop i l)))
@@ -17,31 +15,24 @@ Inv-loop l b among₀ i₀ among i = (i ≤ length l) × (member b l ≡ (among 
 abbrev μ-loop : tie.MeasureT-loop
 μ-loop l b among₀ i₀ among i = length l - i
 
--- src/lib.rt:54:5
 loop-holds : tie.Need-loop-holds Inv-loop μ-loop
 loop-holds c = (omega arith, refl)
 
--- src/lib.rt:55:26
 mul-among : tie.Need-mul-among Inv-loop μ-loop
 mul-among c = search needs
 
--- src/lib.rt:55:26
 shared-slice-read-among : tie.Need-shared-slice-read-among Inv-loop μ-loop
 shared-slice-read-among c = search needs
 
--- src/lib.rt:56:9
 add-i : tie.Need-add-i Inv-loop μ-loop
 add-i c = search needs
 
--- src/lib.rt:54:5
 loop-less : tie.Need-loop-less Inv-loop μ-loop
 loop-less c = search needs
 
--- src/lib.rt:54:5
 loop-again : tie.Need-loop-again Inv-loop μ-loop
 loop-again c = let l = c .before .before .loop in (omega arith, among-more _ _ (l .i) (l .among) (l .inv .1) (omega arith))
 
--- src/lib.rt:49:1
 returns : tie.Need-returns Inv-loop μ-loop
 returns c = let l = c .before .loop in among-end _ _ (l .i) (l .among) (l .inv .1) (c .loop-test .left)
 

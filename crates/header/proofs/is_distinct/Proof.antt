@@ -7,10 +7,6 @@ use Rattle.header.proofs.Loops.{ascends-distinct, distinct-fail, distin
 use borrow.Author.Needs.{needs}
 use Rattle.header.proofs.is_distinct.Statement.{statement}
 use Rattle.header.proofs.is_distinct.Tie as tie
-use Rattle.header.proofs.is_distinct.Reads as reads
-use Rattle.header.proofs.is_distinct.Lts as lts
-use Rattle.header.proofs.is_among.Reads as is-among-reads
-use Rattle.header.proofs.is_ascending.Reads as is-ascending-reads
 
 abbrev Inv-loop : tie.InvT-loop
 Inv-loop l i₀ i = (i ≤ length l) × (distinct l ≡ distinct (drop i l))
@@ -18,67 +14,51 @@ Inv-loop l i₀ i = (i ≤ length l) × (distinct l ≡ distinct (drop i l))
 abbrev μ-loop : tie.MeasureT-loop
 μ-loop l i₀ i = length l - i
 
--- src/lib.rt:160:8
 is-ascending-requires : tie.Need-is-ascending-requires Inv-loop μ-loop
 is-ascending-requires c κs = search needs
 
--- src/lib.rt:161:9
 returns : tie.Need-returns Inv-loop μ-loop
 returns c = ascends-distinct _ (sym (c .before .is-ascending .ensures) ∙ c .if1 .taken)
 
--- src/lib.rt:164:5
 loop-holds : tie.Need-loop-holds Inv-loop μ-loop
 loop-holds c = (omega arith, refl)
 
--- src/lib.rt:165:24
 add-is-among : tie.Need-add-is-among Inv-loop μ-loop
 add-is-among c = search needs
 
--- src/lib.rt:165:21
 mul-is-among : tie.Need-mul-is-among Inv-loop μ-loop
 mul-is-among c = search needs
 
--- src/lib.rt:165:21
 sub-is-among : tie.Need-sub-is-among Inv-loop μ-loop
 sub-is-among c = search needs
 
--- src/lib.rt:165:21
 part-is-among-start : tie.Need-part-is-among-start Inv-loop μ-loop
 part-is-among-start c = search needs
 
--- src/lib.rt:165:21
 part-is-among-end : tie.Need-part-is-among-end Inv-loop μ-loop
 part-is-among-end c = search needs
 
--- src/lib.rt:165:34
 mul-is-among-2 : tie.Need-mul-is-among-2 Inv-loop μ-loop
 mul-is-among-2 c = search needs
 
--- src/lib.rt:165:34
 shared-slice-read-is-among : tie.Need-shared-slice-read-is-among Inv-loop μ-loop
 shared-slice-read-is-among c = search needs
 
--- src/lib.rt:165:12
 is-among-requires : tie.Need-is-among-requires Inv-loop μ-loop
 is-among-requires c κs = search needs
 
--- src/lib.rt:166:13
 returns-2 : tie.Need-returns-2 Inv-loop μ-loop
 returns-2 c = let l = c .before .before .before .before .before .loop in sym (l .inv .1 ∙ distinct-fail _ (l .i) _ (c .before .before .before .before .loop-test .taken) (c .before .is-among .ensures) (c .if2 .taken))
 
--- src/lib.rt:168:9
 add-i : tie.Need-add-i Inv-loop μ-loop
 add-i c = search needs
 
--- src/lib.rt:164:5
 loop-less : tie.Need-loop-less Inv-loop μ-loop
 loop-less c = search needs
 
--- src/lib.rt:164:5
 loop-again : tie.Need-loop-again Inv-loop μ-loop
 loop-again c = let l = c .before .before .before .before .before .loop in (omega (arith, c .before .before .before .before .loop-test .taken), l .inv .1 ∙ distinct-pass _ (l .i) _ (c .before .before .before .before .loop-test .taken) (c .before .is-among .ensures) (c .if2 .left))
 
--- src/lib.rt:157:1
 returns-3 : tie.Need-returns-3 Inv-loop μ-loop
 returns-3 c = let l = c .before .loop in sym (l .inv .1 ∙ distinct-end _ (l .i) (c .loop-test .left))
 

@@ -1,41 +1,58 @@
-use Prim.Native.Nat.{_+_, _-_, _≤_}
+use Prim.Native.Nat.{_-_, _%_, _≤_}
 use mathlib.Core.Path.{_≡_, refl, sym, _∙_}
 use native.Mathlib.Omega.{arith}
-use Rattle.inode.specs.Records.{named, lowestTo}
-use Rattle.inode.proofs.Laws.{lowest-hit, lowest-miss, lowest-none}
 use borrow.Author.Needs.{needs}
+use Rattle.transaction.specs.Places.{viewIn}
+use Rattle.transaction.proofs.Laws.{view-in-length}
+use Rattle.inode.specs.Records.{lowestTo}
+use Rattle.inode.proofs.Laws.{namedAt, find-all, find-hit, find-miss, find-other, lowest-none}
 use Rattle.inode.proofs.find_in.Statement.{statement}
 use Rattle.inode.proofs.find_in.Tie as tie
 
 abbrev Inv-loop : tie.InvT-loop
-Inv-loop table first name end i₀ i = (i ≤ end) × (end ≡ first + 16) × (lowestTo (first + 16) (named table name) first ≡ lowestTo (first + 16) (named table name) i)
+Inv-loop device work staged name key first₀ first = (first ≤ 128) × (first % 16 ≡ 0) × (lowestTo 128 (namedAt (viewIn staged device work) name) 0 ≡ lowestTo 128 (namedAt (viewIn staged device work) name) first)
 
 abbrev μ-loop : tie.MeasureT-loop
-μ-loop table first name end i₀ i = end - i
+μ-loop device work staged name key first₀ first = 128 - first
 
-add-end : tie.Need-add-end Inv-loop μ-loop
-add-end c = search needs
+returns : tie.Need-returns Inv-loop μ-loop
+returns c = let a = c .before .before .before .before .before .args in find-other _ _ (view-in-length (a .staged .now) (a .device .now) (a .work .now)) (c .if1 .taken)
+
+key-of-requires : tie.Need-key-of-requires Inv-loop μ-loop
+key-of-requires c κs = search needs
 
 loop-holds : tie.Need-loop-holds Inv-loop μ-loop
 loop-holds c = (omega arith, omega arith, refl)
 
-same-name-requires : tie.Need-same-name-requires Inv-loop μ-loop
-same-name-requires c κs = search needs
+inode-block-in-requires : tie.Need-inode-block-in-requires Inv-loop μ-loop
+inode-block-in-requires c κs = search needs
 
-returns : tie.Need-returns Inv-loop μ-loop
-returns c = sym (c .before .before .before .loop .inv .2 ∙ lowest-hit _ _ _ (omega arith) (sym (c .before .same-name .ensures) ∙ c .if1 .taken))
+find-block-requires : tie.Need-find-block-requires Inv-loop μ-loop
+find-block-requires c κs = search needs
 
-add-i : tie.Need-add-i Inv-loop μ-loop
-add-i c = search needs
+enum-known-i : tie.Need-enum-known-i Inv-loop μ-loop
+enum-known-i c = search needs
+
+returns-2 : tie.Need-returns-2 Inv-loop μ-loop
+returns-2 c = let a = c .before .before .before .before .before .before .before .before .before .before .before .before .before .args in let l = c .before .before .before .before .before .before .loop in let k = c .before .before .before .before .before .before .before .key-of .ensures in
+    sym (find-all (viewIn (a .staged .now) (a .device .now) (a .work .now)) _ ∙ l .inv .2 ∙ find-hit _ _ _ _ _ (omega arith) (l .inv .1) (c .before .before .before .before .inode-block-in .ensures .0) (c .before .before .before .find-block .ensures _ (k .1) (k .0)) _ (c .before .i .given .1))
+
+enum-told : tie.Need-enum-told Inv-loop μ-loop
+enum-told c = search needs
+
+add-first : tie.Need-add-first Inv-loop μ-loop
+add-first c = search needs
 
 loop-less : tie.Need-loop-less Inv-loop μ-loop
 loop-less c = search needs
 
 loop-again : tie.Need-loop-again Inv-loop μ-loop
-loop-again c = (omega arith, c .before .before .before .loop .inv .1, c .before .before .before .loop .inv .2 ∙ lowest-miss _ _ _ (omega arith) (sym (c .before .same-name .ensures) ∙ c .if1 .left))
+loop-again c = let l = c .before .before .before .before .before .loop in let k = c .before .before .before .before .before .before .key-of .ensures in
+    (omega arith, omega arith, l .inv .2 ∙ find-miss _ _ _ _ _ (omega arith) (l .inv .1) (c .before .before .before .inode-block-in .ensures .0) (c .before .before .find-block .ensures _ (k .1) (k .0)) (c .enum-told .given .1))
 
-returns-2 : tie.Need-returns-2 Inv-loop μ-loop
-returns-2 c = sym (c .before .loop .inv .2 ∙ lowest-none _ _ _ (omega arith))
+returns-3 : tie.Need-returns-3 Inv-loop μ-loop
+returns-3 c = let a = c .before .before .before .before .before .before .before .before .args in
+    sym (find-all (viewIn (a .staged .now) (a .device .now) (a .work .now)) _ ∙ c .before .loop .inv .2 ∙ lowest-none _ _ _ (omega arith))
 
 pub find-in-spec : {M : Type 1} → statement M
 find-in-spec =
@@ -43,11 +60,15 @@ find-in-spec =
     (tie.spec
     Inv-loop
     μ-loop
-    add-end
-    loop-holds
-    same-name-requires
     returns
-    add-i
+    key-of-requires
+    loop-holds
+    inode-block-in-requires
+    find-block-requires
+    enum-known-i
+    returns-2
+    enum-told
+    add-first
     loop-less
     loop-again
-    returns-2)
+    returns-3)

@@ -1,39 +1,44 @@
+use mathlib.Core.Path.{_≡_, ap, _∙_}
 use native.Mathlib.Omega.{arith}
-use Rattle.inode.proofs.Laws.{view-length}
-use Rattle.inode.proofs.Walk.{slot-read, slot-past}
+use lib.ListN.{length}
+use Rattle.spec.specs.Disk.{Disk}
+use Rattle.transaction.proofs.Laws.{view-lent, lent-few}
+use Rattle.inode.proofs.Walk.{slot-of}
 use borrow.Author.Needs.{needs}
 use Rattle.inode.proofs.slot_at.Statement.{statement}
 use Rattle.inode.proofs.slot_at.Tie as tie
 
-view-block-requires : tie.Need-view-block-requires
-view-block-requires c κs = search needs
+staged-count-requires : tie.Need-staged-count-requires
+staged-count-requires c κs = search needs
 
-block-in-requires : tie.Need-block-in-requires
-block-in-requires c κs = search needs
+sub-view-in : tie.Need-sub-view-in
+sub-view-in c = search needs
 
-load2-requires : tie.Need-load2-requires
-load2-requires c κs = search needs
+part-view-in-start : tie.Need-part-view-in-start
+part-view-in-start c = search needs
 
-add-load2 : tie.Need-add-load2
-add-load2 c = search needs
+part-view-in-end : tie.Need-part-view-in-end
+part-view-in-end c = let l : length (c .before .before .before .before .before .args .s .staged) ≡ 32 = search needs in omega (arith, l, c .before .staged-count .ensures .1)
 
-load2-requires-2 : tie.Need-load2-requires-2
-load2-requires-2 c κs = search needs
+view-in-requires : tie.Need-view-in-requires
+view-in-requires c κs = let s = c .before .before .before .before .before .before .args .s in let l : length (s .staged) ≡ 32 = search needs in lent-few s _ l (c .before .before .staged-count .ensures .1)
+
+slot-in-requires : tie.Need-slot-in-requires
+slot-in-requires c κs = c .view-in .ensures .1
 
 returns : tie.Need-returns
-returns c = slot-read _ (c .before .before .before .before .view-block .result .now) (c .before .before .before .block-in .result .now) _ _ _ (c .before .before .before .before .view-block .ensures) (c .before .before .before .block-in .ensures) (c .before .before .if1 .taken) (c .before .load2 .ensures) (c .load22 .ensures)
-
-returns-2 : tie.Need-returns-2
-returns-2 c = slot-past _ _ (view-length (c .before .before .before .before .before .args .s) (c .before .before .before .before .before .args .device .now) (c .before .before .before .before .before .args .work .now) _) (omega arith)
+returns c = let a = c .before .before .before .before .before .before .before .before .args in
+    let l : length (a .s .staged) ≡ 32 = search needs in
+    slot-of _ _ _ _ (c .before .view-in .ensures .0 ∙ ap (λ (v : Disk). v (a .b)) (view-lent (a .s) (a .device .now) (a .work .now) _ l (c .before .before .before .before .staged-count .ensures .0))) (c .slot-in .ensures)
 
 pub slot-at-spec : {M : Type 1} → statement M
 slot-at-spec =
     tie.close
     (tie.spec
-    view-block-requires
-    block-in-requires
-    load2-requires
-    add-load2
-    load2-requires-2
-    returns
-    returns-2)
+    staged-count-requires
+    sub-view-in
+    part-view-in-start
+    part-view-in-end
+    view-in-requires
+    slot-in-requires
+    returns)

@@ -1,37 +1,15 @@
-use Rattle.inode.proofs.Walk.{start-flat, start-deep}
 use borrow.Author.Needs.{needs}
 use Rattle.inode.proofs.start.Statement.{statement}
 use Rattle.inode.proofs.start.Tie as tie
 
-table-block-requires : tie.Need-table-block-requires
-table-block-requires c κs = search needs
-
-place-in-block-requires : tie.Need-place-in-block-requires
-place-in-block-requires c κs = search needs
-
-add-slots : tie.Need-add-slots
-add-slots c = search needs
-
 inode-block-requires : tie.Need-inode-block-requires
 inode-block-requires c κs = search needs
 
-depth-of-requires : tie.Need-depth-of-requires
-depth-of-requires c κs = search needs
+start-at-requires : tie.Need-start-at-requires
+start-at-requires c κs = search needs
 
 returns : tie.Need-returns
-returns c = start-flat _ _ _ _ _ _ (c .before .before .before .before .table-block .ensures) (c .before .before .before .place-in-block .ensures .0) (c .before .before .inode-block .ensures) (c .before .depth-of .ensures .0) (c .if1 .taken)
-
-returns-2 : tie.Need-returns-2
-returns-2 c = start-deep _ _ _ _ _ _ (c .before .before .before .before .table-block .ensures) (c .before .before .before .place-in-block .ensures .0) (c .before .before .inode-block .ensures) (c .before .depth-of .ensures .0) (c .if1 .left)
+returns c = c .start-at .ensures _ (c .before .inode-block .ensures)
 
 pub start-spec : {M : Type 1} → statement M
-start-spec =
-    tie.close
-    (tie.spec
-    table-block-requires
-    place-in-block-requires
-    add-slots
-    inode-block-requires
-    depth-of-requires
-    returns
-    returns-2)
+start-spec = tie.close (tie.spec inode-block-requires start-at-requires returns)

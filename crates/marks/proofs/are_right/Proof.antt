@@ -6,8 +6,6 @@ use Rattle.marks.proofs.Laws.{right-none, right-more, right-end}
 use borrow.Author.Needs.{needs}
 use Rattle.marks.proofs.are_right.Statement.{statement}
 use Rattle.marks.proofs.are_right.Tie as tie
-use Rattle.marks.proofs.are_right.Reads as reads
-use Rattle.marks.proofs.are_right.Lts as lts
 
 abbrev Inv-loop : tie.InvT-loop
 Inv-loop once twice bitmap o t bits right₀ k₀ right k = (k ≤ 512) × (right ≡ rightTo k once twice bitmap)
@@ -15,35 +13,27 @@ Inv-loop once twice bitmap o t bits right₀ k₀ right k = (k ≤ 512) × (righ
 abbrev μ-loop : tie.MeasureT-loop
 μ-loop once twice bitmap o t bits right₀ k₀ right k = 512 - k
 
--- src/lib.rt:99:5
 loop-holds : tie.Need-loop-holds Inv-loop μ-loop
 loop-holds c = (omega arith, right-none _ _ _ _ refl)
 
--- src/lib.rt:100:27
 shared-slice-read-right : tie.Need-shared-slice-read-right Inv-loop μ-loop
 shared-slice-read-right c = omega arith
 
--- src/lib.rt:100:35
 shared-slice-read-right-2 : tie.Need-shared-slice-read-right-2 Inv-loop μ-loop
 shared-slice-read-right-2 c = omega arith
 
--- src/lib.rt:100:47
 shared-slice-read-right-3 : tie.Need-shared-slice-read-right-3 Inv-loop μ-loop
 shared-slice-read-right-3 c = omega arith
 
--- src/lib.rt:101:9
 add-k : tie.Need-add-k Inv-loop μ-loop
 add-k c = search needs
 
--- src/lib.rt:99:5
 loop-less : tie.Need-loop-less Inv-loop μ-loop
 loop-less c = search needs
 
--- src/lib.rt:99:5
 loop-again : tie.Need-loop-again Inv-loop μ-loop
 loop-again c = let l = c .before .before .before .before .loop in (omega arith, right-more _ _ _ (l .k) (l .right) (l .inv .1))
 
--- src/lib.rt:90:1
 returns : tie.Need-returns Inv-loop μ-loop
 returns c = let l = c .before .loop in right-end _ _ _ (l .k) (l .right) (l .inv .1) (omega arith)
 

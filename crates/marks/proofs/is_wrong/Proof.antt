@@ -2,23 +2,16 @@ use Rattle.marks.specs.Marks.{wrong}
 use borrow.Author.Needs.{needs}
 use Rattle.marks.proofs.is_wrong.Statement.{statement}
 use Rattle.marks.proofs.is_wrong.Tie as tie
-use Rattle.marks.proofs.is_wrong.Reads as reads
-use Rattle.marks.proofs.is_wrong.Lts as lts
-use Rattle.marks.proofs.bit_is.Reads as bit-is-reads
 
--- src/lib.rt:86:5
 bit-is-requires : tie.Need-bit-is-requires
 bit-is-requires c κs = search needs
 
--- src/lib.rt:86:25
 bit-is-requires-2 : tie.Need-bit-is-requires-2
 bit-is-requires-2 c κs = search needs
 
--- src/lib.rt:86:44
 bit-is-requires-3 : tie.Need-bit-is-requires-3
 bit-is-requires-3 c κs = search needs
 
--- src/lib.rt:82:1
 returns : tie.Need-returns
 unfolding wrong
 returns c = rw (c .before .before .bit-is .ensures, c .before .bit-is2 .ensures, c .bit-is3 .ensures)

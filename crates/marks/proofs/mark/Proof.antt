@@ -5,24 +5,16 @@ use Rattle.marks.proofs.Laws.{data-low, mark-out}
 use borrow.Author.Needs.{needs}
 use Rattle.marks.proofs.mark.Statement.{statement}
 use Rattle.marks.proofs.mark.Tie as tie
-use Rattle.marks.proofs.mark.Reads as reads
-use Rattle.marks.proofs.mark.Lts as lts
-use Rattle.block.proofs.in_data.Reads as in-data-reads
-use Rattle.marks.proofs.mark_byte.Reads as mark-byte-reads
 
--- src/lib.rt:61:9
 in-data-requires : tie.Need-in-data-requires
 in-data-requires c κs = search needs
 
--- src/lib.rt:62:9
 returns : tie.Need-returns
 returns c = mark-out _ _ _ _ _ (c .before .in-data .ensures) (c .if1 .taken)
 
--- src/lib.rt:64:5
 mark-byte-requires : tie.Need-mark-byte-requires
 mark-byte-requires c κs = let d = data-low _ _ (sym (c .before .before .before .in-data .ensures) ∙ not-false _ (c .before .before .if1 .left)) in (d .0, omega arith, omega arith, omega (arith, d .1))
 
--- src/lib.rt:57:1
 returns-2 : tie.Need-returns-2
 returns-2 c = let d = data-low _ _ (sym (c .before .before .before .before .in-data .ensures) ∙ not-false _ (c .before .before .before .if1 .left)) in c .mark-byte .ensures _ (omega (arith, d .1))
 

@@ -7,11 +7,6 @@ use Rattle.marks.proofs.Laws.{run-start, run-more, run-end, kept-on, ke
 use borrow.Author.Needs.{needs}
 use Rattle.marks.proofs.mark_run.Statement.{statement}
 use Rattle.marks.proofs.mark_run.Tie as tie
-use Rattle.marks.proofs.mark_run.Reads as reads
-use Rattle.marks.proofs.mark_run.Lts as lts
-use Rattle.marks.proofs.least.Reads as least-reads
-use Rattle.marks.proofs.mark_byte.Reads as mark-byte-reads
-use Rattle.marks.proofs.most.Reads as most-reads
 
 abbrev Inv-loop : tie.InvT-loop
 Inv-loop once₀ twice₀ blocks first count end b₀ once twice b = (42 ≤ b) × (end ≤ blocks) × (blocks ≤ 4096) × Kept blocks once twice (upFrom b (end - b)) once₀ twice₀ (upFrom first count)
@@ -19,56 +14,43 @@ Inv-loop once₀ twice₀ blocks first count end b₀ once twice b = (42 ≤ b) 
 abbrev μ-loop : tie.MeasureT-loop
 μ-loop once₀ twice₀ blocks first count end b₀ once twice b = end - b
 
--- src/lib.rt:72:21
 add-least : tie.Need-add-least Inv-loop μ-loop
 add-least c = search needs
 
--- src/lib.rt:72:36
 cast-least : tie.Need-cast-least Inv-loop μ-loop
 cast-least c = search needs
 
--- src/lib.rt:72:9
 least-requires : tie.Need-least-requires Inv-loop μ-loop
 least-requires c κs = search needs
 
--- src/lib.rt:73:9
 most-requires : tie.Need-most-requires Inv-loop μ-loop
 most-requires c κs = search needs
 
--- src/lib.rt:74:5
 loop-holds : tie.Need-loop-holds Inv-loop μ-loop
 loop-holds c = (omega (arith, c .most .ensures), omega (arith, c .before .least .ensures), c .before .before .pre .0, run-start _ _ _ _ _ _ _ (c .most .ensures) (c .before .least .ensures))
 
--- src/lib.rt:75:23
 sub-least : tie.Need-sub-least Inv-loop μ-loop
 sub-least c = search needs
 
--- src/lib.rt:75:34
 sub-least-2 : tie.Need-sub-least-2 Inv-loop μ-loop
 sub-least-2 c = search needs
 
--- src/lib.rt:75:13
 least-requires-2 : tie.Need-least-requires-2 Inv-loop μ-loop
 least-requires-2 c κs = search needs
 
--- src/lib.rt:76:9
 mark-byte-requires : tie.Need-mark-byte-requires Inv-loop μ-loop
 mark-byte-requires c κs = let l = c .before .before .before .before .loop in let n = c .before .before .least2 .ensures in (l .inv .0, omega arith, omega arith, omega arith)
 
--- src/lib.rt:77:9
 add-b : tie.Need-add-b Inv-loop μ-loop
 add-b c = let n = c .before .before .before .least2 .ensures in let i = c .before .before .before .before .before .loop .inv in omega arith
 
--- src/lib.rt:74:5
 loop-less : tie.Need-loop-less Inv-loop μ-loop
 loop-less c = let n = c .before .before .before .least2 .ensures in let i = c .before .before .before .before .before .loop .inv in omega arith
 
--- src/lib.rt:74:5
 loop-again : tie.Need-loop-again Inv-loop μ-loop
 loop-again c = let l = c .before .before .before .before .before .loop in let n = c .before .before .before .least2 .ensures in
     (omega arith, l .inv .1, l .inv .2, kept-on _ _ _ _ _ _ _ (l .inv .3) _ _ _ _ (run-more (l .b) (c .before .before .before .before .before .before .before .least .result) (c .before .before .before .least2 .result) (omega arith)) (c .mark-byte .ensures _ (omega arith)))
 
--- src/lib.rt:68:1
 returns : tie.Need-returns Inv-loop μ-loop
 returns c = kept-end _ _ _ _ _ _ _ (c .before .loop .inv .3) _ (run-end _ _ (c .loop-test .left)) refl
 

@@ -1,5 +1,5 @@
 use Prim.Native.Nat.{_≤_, _-_}
-use mathlib.Core.Path.{_≡_, refl, _∙_}
+use mathlib.Core.Path.{_≡_, _∙_}
 use native.Mathlib.Omega.{arith}
 use lib.ListN.{length, take, replicate, length-set}
 use Rattle.mkfs.proofs.Laws.{cleared-more, cleared-all}

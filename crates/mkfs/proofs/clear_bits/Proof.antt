@@ -1,16 +1,10 @@
 use Prim.Native.Nat.{_-_, _≤_}
-use mathlib.Core.Path.{_≡_, ap}
-use Prim.Native.Nat.{ℕ}
 use native.Mathlib.Omega.{arith}
 use Rattle.mkfs.specs.Table.{Cleared}
 use Rattle.mkfs.proofs.Laws.{cleared-bit, cleared-on}
 use borrow.Author.Needs.{needs}
 use Rattle.mkfs.proofs.clear_bits.Statement.{statement}
 use Rattle.mkfs.proofs.clear_bits.Tie as tie
-use Rattle.mkfs.proofs.clear_bits.Reads as reads
-use Rattle.mkfs.proofs.clear_bits.Lts as lts
-use Rattle.bitmap.proofs.clear_bit.Reads as clear-bit-reads
-use Rattle.bitmap.proofs.known.Reads as known-reads
 
 abbrev Inv-loop : tie.InvT-loop
 Inv-loop t₀ from end b₀ t b = (42 ≤ b) × (b ≤ end) × (end ≤ 4096) × Cleared t b
@@ -18,31 +12,24 @@ Inv-loop t₀ from end b₀ t b = (42 ≤ b) × (b ≤ end) × (end ≤ 4096) ×
 abbrev μ-loop : tie.MeasureT-loop
 μ-loop t₀ from end b₀ t b = end - b
 
--- src/lib.rt:36:5
 loop-holds : tie.Need-loop-holds Inv-loop μ-loop
 loop-holds c = let p = c .pre in (p .0, p .1, p .2, p .3)
 
--- src/lib.rt:37:9
 clear-bit-requires : tie.Need-clear-bit-requires Inv-loop μ-loop
 clear-bit-requires c κs = search needs
 
--- src/lib.rt:38:9
 known-requires : tie.Need-known-requires Inv-loop μ-loop
 known-requires c κs = search needs
 
--- src/lib.rt:39:9
 add-b : tie.Need-add-b Inv-loop μ-loop
 add-b c = search needs
 
--- src/lib.rt:36:5
 loop-less : tie.Need-loop-less Inv-loop μ-loop
 loop-less c = search needs
 
--- src/lib.rt:36:5
 loop-again : tie.Need-loop-again Inv-loop μ-loop
 loop-again c = let l = c .before .before .before .before .before .loop in (omega arith, omega arith, l .inv .2, cleared-bit _ _ (l .b) (l .inv .3) (l .inv .0) (omega arith) (c .known .ensures .full) (c .before .before .clear-bit .ensures))
 
--- src/lib.rt:31:1
 returns : tie.Need-returns Inv-loop μ-loop
 returns c = let l = c .before .loop in cleared-on _ _ _ (l .inv .3) (omega arith)
 

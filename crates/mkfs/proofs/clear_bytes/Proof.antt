@@ -5,8 +5,6 @@ use Rattle.mkfs.proofs.Laws.{cleared-byte, cleared-on}
 use borrow.Author.Needs.{needs}
 use Rattle.mkfs.proofs.clear_bytes.Statement.{statement}
 use Rattle.mkfs.proofs.clear_bytes.Tie as tie
-use Rattle.mkfs.proofs.clear_bytes.Reads as reads
-use Rattle.mkfs.proofs.clear_bytes.Lts as lts
 
 abbrev Inv-loop : tie.InvT-loop
 Inv-loop t₀ from end i₀ t i = (6 ≤ i) × (i ≤ end) × (end ≤ 512) × Cleared t (8 * i)
@@ -14,27 +12,21 @@ Inv-loop t₀ from end i₀ t i = (6 ≤ i) × (i ≤ end) × (end ≤ 512) × C
 abbrev μ-loop : tie.MeasureT-loop
 μ-loop t₀ from end i₀ t i = end - i
 
--- src/lib.rt:49:5
 loop-holds : tie.Need-loop-holds Inv-loop μ-loop
 loop-holds c = let p = c .pre in (p .0, p .1, p .2, p .3)
 
--- src/lib.rt:50:9
 element-write-t : tie.Need-element-write-t Inv-loop μ-loop
 element-write-t c = omega (arith, c .before .loop .inv .2)
 
--- src/lib.rt:51:9
 add-i : tie.Need-add-i Inv-loop μ-loop
 add-i c = search needs
 
--- src/lib.rt:49:5
 loop-less : tie.Need-loop-less Inv-loop μ-loop
 loop-less c = search needs
 
--- src/lib.rt:49:5
 loop-again : tie.Need-loop-again Inv-loop μ-loop
 loop-again c = let l = c .before .loop in (omega arith, omega arith, l .inv .2, cleared-byte _ (l .i) (l .inv .3) (l .inv .0) (omega arith))
 
--- src/lib.rt:44:1
 returns : tie.Need-returns Inv-loop μ-loop
 returns c = let l = c .before .loop in cleared-on _ _ _ (l .inv .3) (omega arith)
 

@@ -1,51 +1,36 @@
 use native.Mathlib.Omega.{arith}
-use Rattle.mkfs.proofs.Laws.{cleared-start, cleared-on, cleared-table}
+use Rattle.mkfs.proofs.Laws.{cleared-start, cleared-table}
 use borrow.Author.Needs.{needs}
 use Rattle.mkfs.proofs.empty_table.Statement.{statement}
 use Rattle.mkfs.proofs.empty_table.Tie as tie
-use Rattle.mkfs.proofs.empty_table.Reads as reads
-use Rattle.mkfs.proofs.empty_table.Lts as lts
-use Rattle.bitmap.proofs.known.Reads as known-reads
-use Rattle.mkfs.proofs.clear_bits.Reads as clear-bits-reads
-use Rattle.mkfs.proofs.clear_bytes.Reads as clear-bytes-reads
 
--- src/lib.rt:62:9
 clear-bits-requires : tie.Need-clear-bits-requires
 clear-bits-requires c κs = (omega arith, omega arith, omega arith, cleared-start)
 
--- src/lib.rt:63:9
 known-requires : tie.Need-known-requires
 known-requires c κs = search needs
 
--- src/lib.rt:64:9
 returns : tie.Need-returns
 returns c = (cleared-table _ (c .before .before .before .before .pre .0) (c .before .before .before .before .pre .1) _ (c .known .ensures) (c .before .clear-bits .ensures), c .before .clear-bits .ensures)
 
--- src/lib.rt:66:5
 clear-bits-requires-2 : tie.Need-clear-bits-requires-2
 clear-bits-requires-2 c κs = (omega arith, omega arith, omega arith, cleared-start)
 
--- src/lib.rt:68:28
 cast-clear-bytes : tie.Need-cast-clear-bytes
 cast-clear-bytes c = search needs
 
--- src/lib.rt:68:5
 clear-bytes-requires : tie.Need-clear-bytes-requires
 clear-bytes-requires c κs = search needs
 
--- src/lib.rt:69:24
 mul-clear-bits : tie.Need-mul-clear-bits
 mul-clear-bits c = search needs
 
--- src/lib.rt:69:5
 clear-bits-requires-3 : tie.Need-clear-bits-requires-3
 clear-bits-requires-3 c κs = search needs
 
--- src/lib.rt:70:5
 known-requires-2 : tie.Need-known-requires-2
 known-requires-2 c κs = search needs
 
--- src/lib.rt:56:1
 returns-2 : tie.Need-returns-2
 returns-2 c = let p = c .before .before .before .before .before .before .before .before .pre in (cleared-table _ (p .0) (p .1) _ (c .known2 .ensures) (c .before .clear-bits3 .ensures), c .before .clear-bits3 .ensures)
 

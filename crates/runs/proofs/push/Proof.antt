@@ -4,7 +4,7 @@ use mathlib.Core.Logic.{⊎-elim}
 use native.Mathlib.Omega.{arith}
 use borrow.Author.Tests.{eqb-true, eqb-false}
 use borrow.Author.Needs.{needs}
-use Rattle.runs.specs.declared.Runs.{Runs}
+use Rattle.runs.specs.Tree.{Runs}
 use Rattle.runs.specs.Push.{columns}
 use Rattle.runs.proofs.Laws.{push-joined, push-joined-over, push-another, push-another-over, small-joined, small-over, small-another, small-another-over}
 use Rattle.runs.proofs.push.Statement.{statement}

@@ -1,66 +1,42 @@
-use Prim.Native.Nat.{_≤_, _-_}
-use mathlib.Core.Path.{_≡_, refl, sym, _∙_}
+use Prim.Native.Nat.{ℕ}
+use mathlib.Core.Path.{_≡_, ap, _∙_}
+use mathlib.Core.List.{List}
 use native.Mathlib.Omega.{arith}
-use borrow.Author.Needs.{needs}
 use lib.ListN.{length}
-use Rattle.transaction.proofs.Laws.{placeIn, place-hit, place-miss, place-end, place-staged}
+use Rattle.spec.specs.Bytes.{place}
+use Rattle.transaction.specs.Places.{foundAt}
+use Rattle.transaction.proofs.Laws.{staged-lent}
+use borrow.Author.Needs.{needs}
 use Rattle.transaction.proofs.staged_at.Statement.{statement}
 use Rattle.transaction.proofs.staged_at.Tie as tie
 
-abbrev Inv-loop : tie.InvT-loop
-Inv-loop l n want i₀ i = (i ≤ n) × (n ≤ 32) × (length l ≡ 32) × (placeIn l n 0 want ≡ placeIn l n i want)
-
-abbrev μ-loop : tie.MeasureT-loop
-μ-loop l n want i₀ i = n - i
-
-staged-count-requires : tie.Need-staged-count-requires Inv-loop μ-loop
+staged-count-requires : tie.Need-staged-count-requires
 staged-count-requires c κs = search needs
 
-loop-holds : tie.Need-loop-holds Inv-loop μ-loop
-loop-holds c = (omega arith, omega arith, search needs, refl)
+sub-place-in : tie.Need-sub-place-in
+sub-place-in c = search needs
 
-mul-if1 : tie.Need-mul-if1 Inv-loop μ-loop
-mul-if1 c = omega arith
+part-place-in-start : tie.Need-part-place-in-start
+part-place-in-start c = search needs
 
-array-read-if1 : tie.Need-array-read-if1 Inv-loop μ-loop
-array-read-if1 c = omega arith
+part-place-in-end : tie.Need-part-place-in-end
+part-place-in-end c = let l : length (c .before .before .before .args .s .staged) ≡ 32 = search needs in omega (arith, l, c .before .staged-count .ensures .1)
 
-returns : tie.Need-returns Inv-loop μ-loop
-returns c =
-    sym (place-staged (c .before .before .before .before .before .args .s) _ _ (c .before .before .loop .inv .2) (c .before .before .before .staged-count .ensures .0)
-    ∙ c .before .before .loop .inv .3 ∙ place-hit _ _ _ _ (omega arith) (omega arith) (c .if1 .taken))
+place-in-requires : tie.Need-place-in-requires
+place-in-requires c κs = search needs
 
-add-i : tie.Need-add-i Inv-loop μ-loop
-add-i c = omega arith
-
-loop-less : tie.Need-loop-less Inv-loop μ-loop
-loop-less c = omega arith
-
-loop-again : tie.Need-loop-again Inv-loop μ-loop
-loop-again c = (
-  omega arith,
-  omega arith,
-  c .before .before .loop .inv .2,
-  c .before .before .loop .inv .3 ∙ place-miss _ _ _ _ (omega arith) (omega arith) (c .if1 .left),
-)
-
-returns-2 : tie.Need-returns-2 Inv-loop μ-loop
-returns-2 c =
-    sym (place-staged (c .before .before .before .before .args .s) _ _ (c .before .loop .inv .2) (c .before .before .staged-count .ensures .0)
-    ∙ c .before .loop .inv .3 ∙ place-end _ _ _ _ (omega arith))
+returns : tie.Need-returns
+returns c = let s = c .before .before .before .before .before .args .s in
+    let l : length (s .staged) ≡ 32 = search needs in
+    c .place-in .ensures ∙ ap (λ (x : List ℕ). foundAt (place (c .before .before .before .before .before .args .b .0) x)) (staged-lent s l _ (c .before .before .before .staged-count .ensures .0))
 
 pub staged-at-spec : {M : Type 1} → statement M
 staged-at-spec =
     tie.close
     (tie.spec
-    Inv-loop
-    μ-loop
     staged-count-requires
-    loop-holds
-    mul-if1
-    array-read-if1
-    returns
-    add-i
-    loop-less
-    loop-again
-    returns-2)
+    sub-place-in
+    part-place-in-start
+    part-place-in-end
+    place-in-requires
+    returns)

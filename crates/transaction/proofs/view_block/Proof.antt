@@ -1,53 +1,39 @@
-use Rattle.spec.specs.Bytes.{exactly}
-use Rattle.block.proofs.Laws.{block-is}
-use mathlib.Core.Path.{_≡_, sym, ap, _∙_}
+use mathlib.Core.Path.{_≡_, ap, _∙_}
 use native.Mathlib.Omega.{arith}
 use lib.ListN.{length}
-use Rattle.transaction.proofs.Laws.{at-lt, length-staged, view-at, view-new}
+use Rattle.spec.specs.Disk.{Disk}
+use Rattle.transaction.proofs.Laws.{view-lent, lent-few}
 use borrow.Author.Needs.{needs}
 use Rattle.transaction.proofs.view_block.Statement.{statement}
 use Rattle.transaction.proofs.view_block.Tie as tie
 
-staged-at-requires : tie.Need-staged-at-requires
-staged-at-requires c κs = search needs
+staged-count-requires : tie.Need-staged-count-requires
+staged-count-requires c κs = search needs
 
-enum-known-i : tie.Need-enum-known-i
-enum-known-i c = search needs
+sub-view-in : tie.Need-sub-view-in
+sub-view-in c = search needs
 
-cast-t8 : tie.Need-cast-t8
-cast-t8 c =
-    let s = c .before .before .before .before .before .before .args .s in
-    let l : length (s .staged) ≡ 32 = search needs in
-    omega (arith, at-lt s _ _ (sym (c .before .before .before .staged-at .ensures) ∙ c .before .i .given .1), length-staged s l)
+part-view-in-start : tie.Need-part-view-in-start
+part-view-in-start c = search needs
 
-block-in-requires : tie.Need-block-in-requires
-block-in-requires c κs = search needs
+part-view-in-end : tie.Need-part-view-in-end
+part-view-in-end c = let l : length (c .before .before .before .before .before .args .s .staged) ≡ 32 = search needs in omega (arith, l, c .before .staged-count .ensures .1)
 
-enum-told : tie.Need-enum-told
-enum-told c = search needs
-
-block-in-requires-2 : tie.Need-block-in-requires-2
-block-in-requires-2 c κs = search needs
+view-in-requires : tie.Need-view-in-requires
+view-in-requires c κs = let s = c .before .before .before .before .before .before .args .s in let l : length (s .staged) ≡ 32 = search needs in lent-few s _ l (c .before .before .staged-count .ensures .1)
 
 returns : tie.Need-returns
-returns c =
-    ap (exactly 512) (c .block-in .ensures) ∙ sym (block-is _ _)
-    ∙ sym (view-at _ _ (c .before .before .before .before .before .before .before .args .device .now) _ _ (sym (c .before .before .before .before .staged-at .ensures) ∙ c .before .before .i .given .1))
-
-returns-2 : tie.Need-returns-2
-returns-2 c =
-    ap (exactly 512) (c .block-in2 .ensures) ∙ sym (block-is _ _)
-    ∙ sym (view-new _ _ _ (c .before .before .before .before .before .before .args .work .now) (sym (c .before .before .before .staged-at .ensures) ∙ c .before .enum-told .given .1))
+returns c = let a = c .before .before .before .before .before .before .before .args in
+    let l : length (a .s .staged) ≡ 32 = search needs in
+    c .view-in .ensures .0 ∙ ap (λ (v : Disk). v (a .b .0)) (view-lent (a .s) (a .device .now) (a .work .now) _ l (c .before .before .before .staged-count .ensures .0))
 
 pub view-block-spec : {M : Type 1} → statement M
 view-block-spec =
     tie.close
     (tie.spec
-    staged-at-requires
-    enum-known-i
-    cast-t8
-    block-in-requires
-    enum-told
-    block-in-requires-2
-    returns
-    returns-2)
+    staged-count-requires
+    sub-view-in
+    part-view-in-start
+    part-view-in-end
+    view-in-requires
+    returns)

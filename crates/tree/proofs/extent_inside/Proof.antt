@@ -1,4 +1,3 @@
-use mathlib.Core.Path.{refl}
 use borrow.Author.Needs.{needs}
 use Rattle.tree.proofs.extent_inside.Statement.{statement}
 use Rattle.tree.proofs.extent_inside.Tie as tie

@@ -1,4 +1,3 @@
-use mathlib.Core.Path.{refl}
 use borrow.Author.Needs.{needs}
 use Rattle.tree.proofs.no_nodes.Statement.{statement}
 use Rattle.tree.proofs.no_nodes.Tie as tie

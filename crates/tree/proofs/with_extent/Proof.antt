@@ -1,4 +1,3 @@
-use mathlib.Core.Path.{refl}
 use Rattle.tree.specs.Runs.{withExtent}
 use borrow.Author.Needs.{needs}
 use Rattle.tree.proofs.with_extent.Statement.{statement}

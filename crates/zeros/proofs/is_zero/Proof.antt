@@ -8,8 +8,6 @@ use Rattle.zeros.proofs.Laws.{zero-more, zero-all}
 use borrow.Author.Needs.{needs}
 use Rattle.zeros.proofs.is_zero.Statement.{statement}
 use Rattle.zeros.proofs.is_zero.Tie as tie
-use Rattle.zeros.proofs.is_zero.Reads as reads
-use Rattle.zeros.proofs.is_zero.Lts as lts
 
 abbrev Inv-loop : tie.InvT-loop
 Inv-loop bytes zero₀ k₀ zero k = (k ≤ length bytes) × (allZero bytes ≡ zero && allZero (drop k bytes))
@@ -17,27 +15,21 @@ Inv-loop bytes zero₀ k₀ zero k = (k ≤ length bytes) × (allZero bytes ≡ 
 abbrev μ-loop : tie.MeasureT-loop
 μ-loop bytes zero₀ k₀ zero k = length bytes - k
 
--- src/lib.rt:11:5
 loop-holds : tie.Need-loop-holds Inv-loop μ-loop
 loop-holds c = (omega arith, refl)
 
--- src/lib.rt:12:24
 shared-slice-read-zero : tie.Need-shared-slice-read-zero Inv-loop μ-loop
 shared-slice-read-zero c = search needs
 
--- src/lib.rt:13:9
 add-k : tie.Need-add-k Inv-loop μ-loop
 add-k c = search needs
 
--- src/lib.rt:11:5
 loop-less : tie.Need-loop-less Inv-loop μ-loop
 loop-less c = search needs
 
--- src/lib.rt:11:5
 loop-again : tie.Need-loop-again Inv-loop μ-loop
 loop-again c = let l = c .before .before .loop in (omega arith, zero-more _ (l .k) (l .zero) (l .inv .1) (omega arith))
 
--- src/lib.rt:6:1
 returns : tie.Need-returns Inv-loop μ-loop
 returns c = let l = c .before .loop in zero-all _ (l .k) (l .zero) (l .inv .1) (c .loop-test .left)
 

@@ -1,0 +1,41 @@
+use mathlib.Core.Path.{ap}
+use native.Mathlib.Omega.{arith}
+use Rattle.tree.specs.declared.Run.{Run}
+use Rattle.filecheck.proofs.Shape.{flat-marked}
+use borrow.Author.Needs.{needs}
+use Rattle.filecheck.proofs.flat_sound.Statement.{statement}
+use Rattle.filecheck.proofs.flat_sound.Tie as tie
+
+mul-at : tie.Need-mul-at
+mul-at c = search needs
+
+add-at : tie.Need-add-at
+add-at c = search needs
+
+no-run-requires : tie.Need-no-run-requires
+no-run-requires c κs = search needs
+
+extents-over-requires : tie.Need-extents-over-requires
+extents-over-requires c κs = let z = c .no-run .ensures in (c .before .before .before .before .before .pre .0, omega arith, omega (arith, ap (λ (x : Run). x .extents) z), omega (arith, ap (λ (x : Run). x .blocks) z))
+
+last-clear-requires : tie.Need-last-clear-requires
+last-clear-requires c κs = search needs
+
+blocks-for-requires : tie.Need-blocks-for-requires
+blocks-for-requires c κs = search needs
+
+returns : tie.Need-returns
+returns c = let p = c .before .before .before .before .before .before .before .before .before .before .before .before .before .pre in let x = c .before .before .before .before .before .before .before .extents-over .ensures in
+    flat-marked _ _ _ _ _ (p .5) (p .2) (p .3) (p .4) _ _ _ _ _ _ _ _ _ (c .before .before .before .before .before .before .before .before .no-run .ensures) (x .0) (x .1) (x .2) (x .4) (c .before .before .before .before .before .last-clear .ensures) (c .before .before .before .before .blocks-for .ensures)
+
+pub flat-sound-spec : {M : Type 1} → statement M
+flat-sound-spec =
+    tie.close
+    (tie.spec
+    mul-at
+    add-at
+    no-run-requires
+    extents-over-requires
+    last-clear-requires
+    blocks-for-requires
+    returns)

@@ -47,16 +47,6 @@ module _ (fs cs : List ℕ) where
       let s = counts-append (extentsFrom fs cs a k) (extent (getD fs (a + k) 0) (getD cs (a + k) 0) ∷ []) in
       rw (add-one k, extents-more fs cs a k (a + k) refl) (s ∙ omega arith)
 
-  counts-part : (a k n : ℕ) → a + k ≤ n → counts (extentsFrom fs cs a k) ≤ counts (extentsFrom fs cs 0 n)
-  counts-part a k n h =
-      let e : n ≡ a + (k + (n - (a + k))) = omega arith in
-      let z : 0 + a ≡ a = omega arith in
-      let p = ap counts (ap (extentsFrom fs cs 0) e ∙ extents-join 0 a (k + (n - (a + k)))) in
-      let q = counts-append (extentsFrom fs cs 0 a) (extentsFrom fs cs (0 + a) (k + (n - (a + k)))) in
-      let r = ap counts (ap (λ (b : ℕ). extentsFrom fs cs b (k + (n - (a + k)))) z ∙ extents-join a k (n - (a + k))) in
-      let s = counts-append (extentsFrom fs cs a k) (extentsFrom fs cs (a + k) (n - (a + k))) in
-      omega arith
-
 module _ (r : Runs) (k : ℕ) where
   pub extent-is : k < r .len → extent (getD (r .first) k 0) (getD (r .count) k 0) ≡ getD (listed r) k (extent 0 0)
   unfolding listed
@@ -88,14 +78,6 @@ module _ (cs : List ℕ) (a : ℕ) where
   below-more n k e = let s = counts-one [] cs a k in omega arith
 
 module _ (r : Runs) (j : ℕ) where
-  pub below-room : (n k : ℕ) → n ≡ countsFrom (r .count) (128 * j) k → 128 * j + (k + 1) ≤ r .len → n + getD (r .count) (128 * j + k) 0 ≤ counts (listed r)
-  unfolding countsFrom listed
-  below-room n k e h =
-      let m = below-more (r .count) (128 * j) n k e in
-      let p = counts-part [] (r .count) (128 * j) (k + 1) (r .len) h in
-      let q = any-first [] (r .first) (r .count) 0 (r .len) in
-      omega arith
-
   pub below-all : (n k : ℕ) → n ≡ countsFrom (r .count) (128 * j) k → k ≡ min 128 (r .len - 128 * j) → n ≡ countsBelow r j
   unfolding countsFrom countsBelow listed
   below-all n k e q =

@@ -11,10 +11,6 @@ use Rattle.spec.specs.Inode.{Inode, inodeOf, inodeAt, nameAt, inodeWith, bytesO
 use Rattle.spec.specs.declared.Extent.{Extent}
 use Rattle.inode.specs.Records.{bytesIn, recordIn}
 use Rattle.inode.proofs.Laws.{field-byte, field-length, record-at, inode-at}
-use Rattle.runs.specs.Tree.{Runs, Tree}
-use Rattle.runs.specs.Runs.{listed, nodesIn, Bounded}
-use Rattle.runs.specs.Push.{Holds, Small}
-use Rattle.runs.proofs.Laws.{listed-is}
 use Rattle.update.specs.Records.{renamedIn}
 
 module _ (name block : List ℕ) (at : ℕ) (l : length name ≡ 8) (fits : at + 32 ≤ 512) where
@@ -41,29 +37,6 @@ module _ (name block : List ℕ) (at : ℕ) (l : length name ≡ 8) (fits : at +
 pub new-record : (name : List ℕ) → renamedIn name [] 0 ≡ bytesOfInode (inodeWith name 0 [] [])
 unfolding renamedIn bytesIn bytesOfInode
 new-record name = refl
-
--- a tree of no extents
-module _ (r : Runs) (table node : List ℕ) (h : Holds r []) (s : Small r 0) where
-  abbrev bare : Tree
-  bare = record { table = table; runs = r; node = node; nodes = 0; before = 0; held = 0 }
-
-  no-extents : listed r ≡ []
-  no-extents = let l = s .len in listed-is r [] 0 h s (omega arith)
-
-  pub bare-tree : (nodesIn bare ≡ []) × (listed r ≡ []) × Bounded bare
-  unfolding nodesIn
-  bare-tree = (
-    refl,
-    no-extents,
-    record {
-      extents = let l = s .len in omega arith;
-      nodes = omega arith;
-      blocks = rw no-extents (omega arith);
-      first = s .first;
-      count = λ k. let l = s .count k in omega arith;
-      held = omega arith;
-    },
-  )
 
 -- the record of the working copy under another name
 pub renamed-record : (v : Disk) (i : ℕ) (block name : List ℕ) → exactly 512 block ≡ v (blockOfInode i) → renamedIn name block (placeOfInode i) ≡ name ++ drop 8 (inodeBytes v i)

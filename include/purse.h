@@ -97,22 +97,27 @@ typedef struct {
     uint32_t count;
 } purse_extent;
 
-/* ---- What the library exports: the session goes in by value and comes back in the result. The functions further below are easier to use. */
+/* ---- What the library exports: the numbers of the session go in by value and come back in the result; `staged` is its 32 cells, lent. The
+ * functions further below are easier to use. */
 
 typedef struct {
-    purse_session session;
+    uint64_t blocks, phase, place, count;
+} purse_head;
+
+typedef struct {
+    purse_head head;
     uint32_t refusal;
     uint64_t fault; /* refusal 10: the record of block 0 that is damaged; else 0 */
 } purse_finished;
 
 typedef struct {
-    purse_session session;
+    purse_head head;
     uint32_t refusal;
     uint64_t stores;
 } purse_committed;
 
 typedef struct {
-    purse_session session;
+    purse_head head;
     uint32_t refusal;
     uint64_t block, last, number;
 } purse_advanced;
@@ -133,51 +138,66 @@ typedef struct {
     uint32_t first, count;
 } purse_run;
 
-purse_finished purse_format_v(uint8_t *device, size_t len, purse_session session);
-purse_finished purse_open_v(const uint8_t *device, size_t len, purse_session session);
-purse_advanced purse_advance_v(uint8_t *device, size_t len, const uint8_t *work, size_t work_len, purse_session session);
-purse_committed purse_commit_v(const uint8_t *device, size_t len, const uint8_t *work, size_t work_len, purse_session session);
-purse_finished purse_abort_v(const uint8_t *device, size_t len, const uint8_t *work, size_t work_len, purse_session session);
-purse_finished purse_create_v(const uint8_t *device, size_t len, uint8_t *work, size_t work_len, purse_session session, const uint8_t *name,
-    size_t name_len);
-purse_finished purse_remove_v(const uint8_t *device, size_t len, uint8_t *work, size_t work_len, purse_session session, const uint8_t *name,
-    size_t name_len);
-purse_finished purse_rename_v(const uint8_t *device, size_t len, uint8_t *work, size_t work_len, purse_session session, const uint8_t *name,
-    size_t name_len, const uint8_t *new_name, size_t new_name_len);
-purse_finished purse_write_v(const uint8_t *device, size_t len, uint8_t *work, size_t work_len, purse_session session, const uint8_t *name,
-    size_t name_len, uint64_t x, const uint8_t *bytes, size_t n);
-purse_finished purse_set_size_v(const uint8_t *device, size_t len, uint8_t *work, size_t work_len, purse_session session, const uint8_t *name,
-    size_t name_len, uint64_t size);
-purse_counted purse_read_v(const uint8_t *device, size_t len, const uint8_t *work, size_t work_len, purse_session session, const uint8_t *name,
-    size_t name_len, uint64_t x, uint8_t *buffer, size_t n);
-purse_counted purse_size_v(const uint8_t *device, size_t len, const uint8_t *work, size_t work_len, purse_session session, const uint8_t *name,
-    size_t name_len);
-purse_counted purse_free_count_v(const uint8_t *device, size_t len, const uint8_t *work, size_t work_len, purse_session session);
-purse_recorded purse_record_v(const uint8_t *device, size_t len, const uint8_t *work, size_t work_len, purse_session session, uint64_t i);
-purse_run purse_nth_extent_v(const uint8_t *device, size_t len, const uint8_t *work, size_t work_len, purse_session session, const uint8_t *name,
-    size_t name_len, uint64_t from, uint64_t n, uint64_t k);
-purse_counted purse_run_list_v(const uint8_t *device, size_t len, const uint8_t *work, size_t work_len, purse_session session,
+purse_finished purse_format_v(uint8_t *device, size_t len, purse_head head, uint32_t *staged);
+purse_finished purse_open_v(const uint8_t *device, size_t len, purse_head head, uint32_t *staged);
+purse_advanced purse_advance_v(uint8_t *device, size_t len, const uint8_t *work, size_t work_len, purse_head head, uint32_t *staged);
+purse_committed purse_commit_v(const uint8_t *device, size_t len, const uint8_t *work, size_t work_len, purse_head head, uint32_t *staged);
+purse_finished purse_abort_v(const uint8_t *device, size_t len, const uint8_t *work, size_t work_len, purse_head head, uint32_t *staged);
+purse_finished purse_create_v(const uint8_t *device, size_t len, uint8_t *work, size_t work_len, purse_head head, uint32_t *staged,
+    const uint8_t *name, size_t name_len);
+purse_finished purse_remove_v(const uint8_t *device, size_t len, uint8_t *work, size_t work_len, purse_head head, uint32_t *staged,
+    const uint8_t *name, size_t name_len);
+purse_finished purse_rename_v(const uint8_t *device, size_t len, uint8_t *work, size_t work_len, purse_head head, uint32_t *staged,
+    const uint8_t *name, size_t name_len, const uint8_t *new_name, size_t new_name_len);
+purse_finished purse_write_v(const uint8_t *device, size_t len, uint8_t *work, size_t work_len, purse_head head, uint32_t *staged,
+    const uint8_t *name, size_t name_len, uint64_t x, const uint8_t *bytes, size_t n);
+purse_finished purse_set_size_v(const uint8_t *device, size_t len, uint8_t *work, size_t work_len, purse_head head, uint32_t *staged,
+    const uint8_t *name, size_t name_len, uint64_t size);
+purse_counted purse_read_v(const uint8_t *device, size_t len, const uint8_t *work, size_t work_len, purse_head head, const uint32_t *staged,
+    const uint8_t *name, size_t name_len, uint64_t x, uint8_t *buffer, size_t n);
+purse_counted purse_size_v(const uint8_t *device, size_t len, const uint8_t *work, size_t work_len, purse_head head, const uint32_t *staged,
+    const uint8_t *name, size_t name_len);
+purse_counted purse_free_count_v(const uint8_t *device, size_t len, const uint8_t *work, size_t work_len, purse_head head, const uint32_t *staged);
+purse_recorded purse_record_v(const uint8_t *device, size_t len, const uint8_t *work, size_t work_len, purse_head head, const uint32_t *staged,
+    uint64_t i);
+purse_run purse_nth_extent_v(const uint8_t *device, size_t len, const uint8_t *work, size_t work_len, purse_head head, const uint32_t *staged,
+    const uint8_t *name, size_t name_len, uint64_t from, uint64_t n, uint64_t k);
+purse_counted purse_run_list_v(const uint8_t *device, size_t len, const uint8_t *work, size_t work_len, purse_head head, const uint32_t *staged,
     const uint8_t *name, size_t name_len, uint64_t from, uint64_t n, uint32_t *list, size_t cells);
 
 /* ---- The calls */
 
+static inline purse_head purse_head_of(const purse_session *s)
+{
+    purse_head h = { s->blocks, s->phase, s->place, s->count };
+    return h;
+}
+
+static inline void purse_keep(purse_session *s, purse_head h)
+{
+    s->blocks = h.blocks;
+    s->phase = h.phase;
+    s->place = h.place;
+    s->count = h.count;
+}
+
 static inline uint32_t purse_finish(purse_finished r, purse_session *s)
 {
-    *s = r.session;
+    purse_keep(s, r.head);
     return r.refusal;
 }
 
 /* Makes an empty store of the device, whatever was on it; the session is then closed. Write the whole image through. */
 static inline uint32_t purse_format(uint8_t *device, size_t len, purse_session *s)
 {
-    return purse_finish(purse_format_v(device, len, *s), s);
+    return purse_finish(purse_format_v(device, len, purse_head_of(s), s->staged), s);
 }
 
 /* Opens the device, whatever the session was. It is then ready, or recovering if the power was cut in a commit: advance until the last store,
  * then open again. *record: for refusal 10 the damaged record of block 0, else 0. */
 static inline uint32_t purse_open(const uint8_t *device, size_t len, purse_session *s, uint64_t *record)
 {
-    purse_finished r = purse_open_v(device, len, *s);
+    purse_finished r = purse_open_v(device, len, purse_head_of(s), s->staged);
     *record = r.fault;
     return purse_finish(r, s);
 }
@@ -186,69 +206,69 @@ static inline uint32_t purse_open(const uint8_t *device, size_t len, purse_sessi
  * call. After the last store of a commit the session is ready, after that of a recovery closed. */
 static inline uint32_t purse_advance(uint8_t *device, size_t len, const uint8_t *work, size_t work_len, purse_session *s, purse_store *out)
 {
-    purse_advanced r = purse_advance_v(device, len, work, work_len, *s);
+    purse_advanced r = purse_advance_v(device, len, work, work_len, purse_head_of(s), s->staged);
     out->block = r.block;
     out->last = r.last;
     out->number = r.number;
-    *s = r.session;
+    purse_keep(s, r.head);
     return r.refusal;
 }
 
 /* Starts the commit of the transaction. *stores: how many advances it takes, 0 if nothing was changed. */
 static inline uint32_t purse_commit(const uint8_t *device, size_t len, const uint8_t *work, size_t work_len, purse_session *s, uint64_t *stores)
 {
-    purse_committed r = purse_commit_v(device, len, work, work_len, *s);
+    purse_committed r = purse_commit_v(device, len, work, work_len, purse_head_of(s), s->staged);
     *stores = r.stores;
-    *s = r.session;
+    purse_keep(s, r.head);
     return r.refusal;
 }
 
 /* Gives up the changes of this transaction. */
 static inline uint32_t purse_abort(const uint8_t *device, size_t len, const uint8_t *work, size_t work_len, purse_session *s)
 {
-    return purse_finish(purse_abort_v(device, len, work, work_len, *s), s);
+    return purse_finish(purse_abort_v(device, len, work, work_len, purse_head_of(s), s->staged), s);
 }
 
 /* Makes an empty file. */
 static inline uint32_t purse_create(const uint8_t *device, size_t len, uint8_t *work, size_t work_len, purse_session *s, const uint8_t *name,
     size_t name_len)
 {
-    return purse_finish(purse_create_v(device, len, work, work_len, *s, name, name_len), s);
+    return purse_finish(purse_create_v(device, len, work, work_len, purse_head_of(s), s->staged, name, name_len), s);
 }
 
 /* Removes a file; its blocks are free at once. */
 static inline uint32_t purse_remove(const uint8_t *device, size_t len, uint8_t *work, size_t work_len, purse_session *s, const uint8_t *name,
     size_t name_len)
 {
-    return purse_finish(purse_remove_v(device, len, work, work_len, *s, name, name_len), s);
+    return purse_finish(purse_remove_v(device, len, work, work_len, purse_head_of(s), s->staged, name, name_len), s);
 }
 
 /* Gives a file a name that no file has. */
 static inline uint32_t purse_rename(const uint8_t *device, size_t len, uint8_t *work, size_t work_len, purse_session *s, const uint8_t *name,
     size_t name_len, const uint8_t *new_name, size_t new_name_len)
 {
-    return purse_finish(purse_rename_v(device, len, work, work_len, *s, name, name_len, new_name, new_name_len), s);
+    return purse_finish(purse_rename_v(device, len, work, work_len, purse_head_of(s), s->staged, name, name_len, new_name, new_name_len), s);
 }
 
 /* Writes n bytes into a file from byte x on. The file grows where they end behind it; a gap before x is zeros. */
 static inline uint32_t purse_write(const uint8_t *device, size_t len, uint8_t *work, size_t work_len, purse_session *s, const uint8_t *name,
     size_t name_len, uint64_t x, const uint8_t *bytes, size_t n)
 {
-    return purse_finish(purse_write_v(device, len, work, work_len, *s, name, name_len, x, bytes, n), s);
+    return purse_finish(purse_write_v(device, len, work, work_len, purse_head_of(s), s->staged, name, name_len, x, bytes, n), s);
 }
 
 /* Cuts a file to a size, or lengthens it by zeros. */
 static inline uint32_t purse_set_size(const uint8_t *device, size_t len, uint8_t *work, size_t work_len, purse_session *s, const uint8_t *name,
     size_t name_len, uint64_t size)
 {
-    return purse_finish(purse_set_size_v(device, len, work, work_len, *s, name, name_len, size), s);
+    return purse_finish(purse_set_size_v(device, len, work, work_len, purse_head_of(s), s->staged, name, name_len, size), s);
 }
 
 /* Reads up to n bytes of a file from byte x on, changes of this transaction included. *count: how many; the rest of the buffer stays. */
 static inline uint32_t purse_read(const uint8_t *device, size_t len, const uint8_t *work, size_t work_len, const purse_session *s,
     const uint8_t *name, size_t name_len, uint64_t x, uint8_t *buffer, size_t n, uint64_t *count)
 {
-    purse_counted r = purse_read_v(device, len, work, work_len, *s, name, name_len, x, buffer, n);
+    purse_counted r = purse_read_v(device, len, work, work_len, purse_head_of(s), s->staged, name, name_len, x, buffer, n);
     *count = r.count;
     return r.refusal;
 }
@@ -257,7 +277,7 @@ static inline uint32_t purse_read(const uint8_t *device, size_t len, const uint8
 static inline uint32_t purse_size(const uint8_t *device, size_t len, const uint8_t *work, size_t work_len, const purse_session *s,
     const uint8_t *name, size_t name_len, uint64_t *size)
 {
-    purse_counted r = purse_size_v(device, len, work, work_len, *s, name, name_len);
+    purse_counted r = purse_size_v(device, len, work, work_len, purse_head_of(s), s->staged, name, name_len);
     *size = r.count;
     return r.refusal;
 }
@@ -266,7 +286,7 @@ static inline uint32_t purse_size(const uint8_t *device, size_t len, const uint8
 static inline uint32_t purse_free_count(const uint8_t *device, size_t len, const uint8_t *work, size_t work_len, const purse_session *s,
     uint64_t *count)
 {
-    purse_counted r = purse_free_count_v(device, len, work, work_len, *s);
+    purse_counted r = purse_free_count_v(device, len, work, work_len, purse_head_of(s), s->staged);
     *count = r.count;
     return r.refusal;
 }
@@ -275,7 +295,7 @@ static inline uint32_t purse_free_count(const uint8_t *device, size_t len, const
 static inline uint32_t purse_record(const uint8_t *device, size_t len, const uint8_t *work, size_t work_len, const purse_session *s, uint64_t i,
     purse_file *out)
 {
-    purse_recorded r = purse_record_v(device, len, work, work_len, *s, i);
+    purse_recorded r = purse_record_v(device, len, work, work_len, purse_head_of(s), s->staged, i);
     out->used = r.used;
     out->size = r.size;
     for (size_t k = 0; k < sizeof out->name; k++)
@@ -287,7 +307,7 @@ static inline uint32_t purse_record(const uint8_t *device, size_t len, const uin
 static inline uint32_t purse_nth_extent(const uint8_t *device, size_t len, const uint8_t *work, size_t work_len, const purse_session *s,
     const uint8_t *name, size_t name_len, uint64_t from, uint64_t n, uint64_t k, purse_extent *out)
 {
-    purse_run r = purse_nth_extent_v(device, len, work, work_len, *s, name, name_len, from, n, k);
+    purse_run r = purse_nth_extent_v(device, len, work, work_len, purse_head_of(s), s->staged, name, name_len, from, n, k);
     out->first = r.first;
     out->count = r.count;
     return r.refusal;
@@ -298,7 +318,7 @@ static inline uint32_t purse_nth_extent(const uint8_t *device, size_t len, const
 static inline uint32_t purse_run_list(const uint8_t *device, size_t len, const uint8_t *work, size_t work_len, const purse_session *s,
     const uint8_t *name, size_t name_len, uint64_t from, uint64_t n, uint32_t *list, size_t cells, uint64_t *count)
 {
-    purse_counted r = purse_run_list_v(device, len, work, work_len, *s, name, name_len, from, n, list, cells);
+    purse_counted r = purse_run_list_v(device, len, work, work_len, purse_head_of(s), s->staged, name, name_len, from, n, list, cells);
     *count = r.count;
     return r.refusal;
 }

@@ -15,7 +15,7 @@ use Rattle.spec.specs.declared.Counted.{Counted}
 use Rattle.spec.specs.declared.Counted.the-variants.{Refused, Count}
 use Rattle.spec.specs.declared.Refusal.{Refusal}
 use Rattle.spec.specs.declared.Refusal.the-variants.{ListShort}
-use Rattle.spec.specs.declared.Session.{Session}
+use Rattle.spec.specs.declared.Phase.{Phase}
 use Rattle.spec.specs.Inode.{extent, blockOfInode}
 use Rattle.spec.specs.Answers.{refuse, accept, countedOf as answerOf}
 use Rattle.spec.specs.Transaction.{State, stateOf, view}
@@ -29,7 +29,11 @@ use Rattle.extents.proofs.Laws.{BegunIn, Grown, grow-none, grow-last}
 use Rattle.runlist.specs.Lists.{countsOf, countOk, namedRuns, manyOf, filled}
 use Rattle.runlist.proofs.Laws.{Told, told, count-bad, count-fine, count-short}
 use Rattle.mirror.specs.declared.CCounted.{CCounted}
-use Rattle.mirror.specs.Mirror.{countedOf, Lists, extentsOf, withExtents}
+use Rattle.mirror.specs.declared.CHead.{CHead}
+use Rattle.mirror.specs.Mirror.{phaseOf, decode, countedOf, Lists, extentsOf, withExtents}
+use Rattle.checks.specs.Checks.{Seen}
+use Rattle.lookup.proofs.Laws.{seen-lent}
+use Rattle.transaction.proofs.Laws.{length-staged, lent-few}
 use Rattle.capi.specs.Cells.{putAt, Put, Last, Listed}
 use Rattle.mirror.proofs.Cells.{length-extents, with-none, with-next, with-rest}
 
@@ -205,7 +209,17 @@ module _ (s : State) (name : List ℕ) (from n : ℕ) (cells : List ℕ) where
     pub list-short : length cells / 2 < count → Lists (countedOf (answerOf (Refused ListShort))) cells cells (runList s name from n (extentsOf cells))
     list-short h = listed (Refused ListShort) (count-short s name from n (length cells / 2) i count e c h) cells (sym (with-none cells))
 
--- the same in numbers, at the session that the numbers given stand for
-pub at-decoded : (r q : CCounted) (before after device work name : List ℕ) (from n : ℕ) (s t : Session) → r ≡ q → s ≡ t
-    → Lists q before after (runList (stateOf s device work) name from n (extentsOf before)) → Lists r before after (runList (stateOf t device work) name from n (extentsOf before))
-at-decoded r q before after device work name from n s t e f l = rw (e, ← f) l
+-- ---- the session that numbers and cells stand for
+
+module _ (h : CHead) (l : List ℕ) (n : ℕ) (k : length l ≡ 32) (e : n ≡ min (h .count) 32) where
+  -- it is seen by the numbers and the cells in use
+  pub seen : (p : Phase) → p ≡ phaseOf (h .phase) (h .place) → Seen (h .blocks) p (take (n - 0) (drop 0 l)) (decode h l)
+  seen p f =
+      record { head = record { size = refl; at-phase = sym f }; numbers = seen-lent (decode h l) n k (e ∙ sym (length-staged (decode h l) k)) .numbers }
+
+  pub few : length (take (n - 0) (drop 0 l)) ≤ 32
+  few = lent-few (decode h l) n k (omega (arith, e))
+
+-- the run list in numbers
+pub in-numbers : (r q : CCounted) (before after : List ℕ) (o : Outcome) → r ≡ q → Lists q before after o → Lists r before after o
+in-numbers r q before after o e l = rw e l

@@ -1,5 +1,6 @@
 // The calls of the store for C: structs of numbers by value, and lent slices, each a pointer and a length. include/purse.h declares them.
-// Each promise: all that is returned and left is the call's outcome, in numbers, at the session that the numbers given stand for.
+// A session is its numbers by value and its 32 cells lent. Each promise: all that is returned and left is the call's outcome, in numbers, at
+// the session that the numbers and the cells given stand for.
 // A refusal hands back that session in its own numbers: phase 0 where the number given was none, place 0 where the phase has none.
 use block::ByteOffset;
 use block::DiskBlock;
@@ -17,36 +18,37 @@ use mirror::CAdvanced;
 use mirror::CCommitted;
 use mirror::CCounted;
 use mirror::CFinished;
+use mirror::CHead;
 use mirror::CRecord;
 use mirror::CRun;
-use mirror::CSession;
 use mirror::advanced;
 use mirror::committed;
 use mirror::counted;
 use mirror::decode;
 use mirror::finished;
+use mirror::phase_in;
 use mirror::recorded;
 use mirror::run;
+use mirror::staged_in;
+use query::free_count_in;
+use query::nth_extent_in;
+use query::read_in;
+use query::record_in;
+use query::size_in;
 use spec::Counted;
 use spec::Extent;
+use spec::Phase;
 use spec::Refusal;
-use spec::Session;
 use store::abort;
 use store::advance;
 use store::commit;
 use store::create;
 use store::format;
-use store::free_count;
-use store::nth_extent;
 use store::open_store;
-use store::read;
-use store::record_at;
 use store::remove;
 use store::rename;
 use store::set_size;
-use store::size;
 use store::write;
-use transaction::staged_count;
 use transaction::view_in;
 ghost use mathlib.Core.Path.{_≡_};
 ghost use mathlib.Core.List.{List};
@@ -55,6 +57,8 @@ ghost use lib.ListN.{length};
 ghost use Rattle.spec.specs.Answers.{countedOf as answerOf};
 ghost use Rattle.spec.specs.Transaction.{stateOf};
 ghost use Rattle.spec.specs.Calls.{format, openStore, advance, commit, abort, create, remove, rename, write, setSize, read, sizeOf, freeCount, recordAt, nthExtent, runList};
+ghost use Rattle.spec.specs.declared.Session.{Session};
+ghost use Rattle.checks.specs.Checks.{Seen};
 ghost use Rattle.transaction.specs.Places.{viewIn};
 ghost use Rattle.extents.specs.Stretches.{runsIn};
 ghost use Rattle.capi.specs.Cells.{Put, Last, Listed};
@@ -62,54 +66,88 @@ ghost use Rattle.mirror.specs.Mirror.{decode, countedOf, recordedOf, runOf, Fin
 
 // Makes an empty store. The work space is not lent: whatever it holds stays.
 #[no_mangle]
-pub extern "C" fn purse_format_v(device: &mut [u8], session: CSession) -> CFinished
-    ensures { λ r. ⌜ ((work : List ℕ) → Finishes r (now (device .exit)) work (format (stateOf (decode session) (now (device .entry)) work))) ⌝ }
+pub extern "C" fn purse_format_v(
+    device: &mut [u8],
+    head: CHead,
+    staged: &mut [u32; 32],
+) -> CFinished
+    ensures { λ r. ⌜ ((work : List ℕ) → Finishes r (now (staged .exit)) (now (device .exit)) work (format (stateOf (decode head (now (staged .entry))) (now (device .entry)) work))) ⌝ }
 {
-    let before = decode(session);
+    let before = decode(head, *staged);
     let after = format(device, before);
+    let s = after.session;
+    let cells = s.staged;
+    *staged = cells;
     finished(after)
 }
 
 // Opens a device: recovering where its header lists targets, else ready.
 #[no_mangle]
-pub extern "C" fn purse_open_v(device: &[u8], session: CSession) -> CFinished
-    ensures { λ r. ⌜ ((work : List ℕ) → Finishes r (now (device .entry)) work (openStore (stateOf (decode session) (now (device .entry)) work))) ⌝ }
+pub extern "C" fn purse_open_v(device: &[u8], head: CHead, staged: &mut [u32; 32]) -> CFinished
+    ensures { λ r. ⌜ ((work : List ℕ) → Finishes r (now (staged .exit)) (now (device .entry)) work (openStore (stateOf (decode head (now (staged .entry))) (now (device .entry)) work))) ⌝ }
 {
-    let before = decode(session);
+    let before = decode(head, *staged);
     let after = open_store(device, before);
+    let s = after.session;
+    let cells = s.staged;
+    *staged = cells;
     finished(after)
 }
 
 // Stores the next block of a commit or a recovery under way.
 #[no_mangle]
-pub extern "C" fn purse_advance_v(device: &mut [u8], work: &[u8], session: CSession) -> CAdvanced
-    ensures { λ r. ⌜ Advances r (now (device .exit)) (now (work .entry))
-        (advance (stateOf (decode session) (now (device .entry)) (now (work .entry)))) ⌝ }
+pub extern "C" fn purse_advance_v(
+    device: &mut [u8],
+    work: &[u8],
+    head: CHead,
+    staged: &mut [u32; 32],
+) -> CAdvanced
+    ensures { λ r. ⌜ Advances r (now (staged .exit)) (now (device .exit)) (now (work .entry))
+        (advance (stateOf (decode head (now (staged .entry))) (now (device .entry)) (now (work .entry)))) ⌝ }
 {
-    let before = decode(session);
+    let before = decode(head, *staged);
     let after = advance(device, work, before);
+    let s = after.session;
+    let cells = s.staged;
+    *staged = cells;
     advanced(after)
 }
 
 // Starts the stores of a commit and tells how many they are.
 #[no_mangle]
-pub extern "C" fn purse_commit_v(device: &[u8], work: &[u8], session: CSession) -> CCommitted
-    ensures { λ r. ⌜ Commits r (now (device .entry)) (now (work .entry))
-        (commit (stateOf (decode session) (now (device .entry)) (now (work .entry)))) ⌝ }
+pub extern "C" fn purse_commit_v(
+    device: &[u8],
+    work: &[u8],
+    head: CHead,
+    staged: &mut [u32; 32],
+) -> CCommitted
+    ensures { λ r. ⌜ Commits r (now (staged .exit)) (now (device .entry)) (now (work .entry))
+        (commit (stateOf (decode head (now (staged .entry))) (now (device .entry)) (now (work .entry)))) ⌝ }
 {
-    let before = decode(session);
+    let before = decode(head, *staged);
     let after = commit(device, work, before);
+    let s = after.session;
+    let cells = s.staged;
+    *staged = cells;
     committed(after)
 }
 
 // Empties the transaction.
 #[no_mangle]
-pub extern "C" fn purse_abort_v(device: &[u8], work: &[u8], session: CSession) -> CFinished
-    ensures { λ r. ⌜ Finishes r (now (device .entry)) (now (work .entry))
-        (abort (stateOf (decode session) (now (device .entry)) (now (work .entry)))) ⌝ }
+pub extern "C" fn purse_abort_v(
+    device: &[u8],
+    work: &[u8],
+    head: CHead,
+    staged: &mut [u32; 32],
+) -> CFinished
+    ensures { λ r. ⌜ Finishes r (now (staged .exit)) (now (device .entry)) (now (work .entry))
+        (abort (stateOf (decode head (now (staged .entry))) (now (device .entry)) (now (work .entry)))) ⌝ }
 {
-    let before = decode(session);
+    let before = decode(head, *staged);
     let after = abort(device, work, before);
+    let s = after.session;
+    let cells = s.staged;
+    *staged = cells;
     finished(after)
 }
 
@@ -118,14 +156,18 @@ pub extern "C" fn purse_abort_v(device: &[u8], work: &[u8], session: CSession) -
 pub extern "C" fn purse_create_v(
     device: &[u8],
     work: &mut [u8],
-    session: CSession,
+    head: CHead,
+    staged: &mut [u32; 32],
     name: &[u8],
 ) -> CFinished
-    ensures { λ r. ⌜ Finishes r (now (device .entry)) (now (work .exit))
-        (create (stateOf (decode session) (now (device .entry)) (now (work .entry))) (now (name .entry))) ⌝ }
+    ensures { λ r. ⌜ Finishes r (now (staged .exit)) (now (device .entry)) (now (work .exit))
+        (create (stateOf (decode head (now (staged .entry))) (now (device .entry)) (now (work .entry))) (now (name .entry))) ⌝ }
 {
-    let before = decode(session);
+    let before = decode(head, *staged);
     let after = create(device, work, before, name);
+    let s = after.session;
+    let cells = s.staged;
+    *staged = cells;
     finished(after)
 }
 
@@ -134,14 +176,18 @@ pub extern "C" fn purse_create_v(
 pub extern "C" fn purse_remove_v(
     device: &[u8],
     work: &mut [u8],
-    session: CSession,
+    head: CHead,
+    staged: &mut [u32; 32],
     name: &[u8],
 ) -> CFinished
-    ensures { λ r. ⌜ Finishes r (now (device .entry)) (now (work .exit))
-        (remove (stateOf (decode session) (now (device .entry)) (now (work .entry))) (now (name .entry))) ⌝ }
+    ensures { λ r. ⌜ Finishes r (now (staged .exit)) (now (device .entry)) (now (work .exit))
+        (remove (stateOf (decode head (now (staged .entry))) (now (device .entry)) (now (work .entry))) (now (name .entry))) ⌝ }
 {
-    let before = decode(session);
+    let before = decode(head, *staged);
     let after = remove(device, work, before, name);
+    let s = after.session;
+    let cells = s.staged;
+    *staged = cells;
     finished(after)
 }
 
@@ -150,15 +196,19 @@ pub extern "C" fn purse_remove_v(
 pub extern "C" fn purse_rename_v(
     device: &[u8],
     work: &mut [u8],
-    session: CSession,
+    head: CHead,
+    staged: &mut [u32; 32],
     name: &[u8],
     new: &[u8],
 ) -> CFinished
-    ensures { λ r. ⌜ Finishes r (now (device .entry)) (now (work .exit))
-        (rename (stateOf (decode session) (now (device .entry)) (now (work .entry))) (now (name .entry)) (now (new .entry))) ⌝ }
+    ensures { λ r. ⌜ Finishes r (now (staged .exit)) (now (device .entry)) (now (work .exit))
+        (rename (stateOf (decode head (now (staged .entry))) (now (device .entry)) (now (work .entry))) (now (name .entry)) (now (new .entry))) ⌝ }
 {
-    let before = decode(session);
+    let before = decode(head, *staged);
     let after = rename(device, work, before, name, new);
+    let s = after.session;
+    let cells = s.staged;
+    *staged = cells;
     finished(after)
 }
 
@@ -167,16 +217,20 @@ pub extern "C" fn purse_rename_v(
 pub extern "C" fn purse_write_v(
     device: &[u8],
     work: &mut [u8],
-    session: CSession,
+    head: CHead,
+    staged: &mut [u32; 32],
     name: &[u8],
     x: u64,
     bytes: &[u8],
 ) -> CFinished
-    ensures { λ r. ⌜ Finishes r (now (device .entry)) (now (work .exit))
-        (write (stateOf (decode session) (now (device .entry)) (now (work .entry))) (now (name .entry)) x (now (bytes .entry))) ⌝ }
+    ensures { λ r. ⌜ Finishes r (now (staged .exit)) (now (device .entry)) (now (work .exit))
+        (write (stateOf (decode head (now (staged .entry))) (now (device .entry)) (now (work .entry))) (now (name .entry)) x (now (bytes .entry))) ⌝ }
 {
-    let before = decode(session);
+    let before = decode(head, *staged);
     let after = write(device, work, before, name, ByteOffset(x as usize), bytes);
+    let s = after.session;
+    let cells = s.staged;
+    *staged = cells;
     finished(after)
 }
 
@@ -185,15 +239,19 @@ pub extern "C" fn purse_write_v(
 pub extern "C" fn purse_set_size_v(
     device: &[u8],
     work: &mut [u8],
-    session: CSession,
+    head: CHead,
+    staged: &mut [u32; 32],
     name: &[u8],
     size: u64,
 ) -> CFinished
-    ensures { λ r. ⌜ Finishes r (now (device .entry)) (now (work .exit))
-        (setSize (stateOf (decode session) (now (device .entry)) (now (work .entry))) (now (name .entry)) size) ⌝ }
+    ensures { λ r. ⌜ Finishes r (now (staged .exit)) (now (device .entry)) (now (work .exit))
+        (setSize (stateOf (decode head (now (staged .entry))) (now (device .entry)) (now (work .entry))) (now (name .entry)) size) ⌝ }
 {
-    let before = decode(session);
+    let before = decode(head, *staged);
     let after = set_size(device, work, before, name, size as usize);
+    let s = after.session;
+    let cells = s.staged;
+    *staged = cells;
     finished(after)
 }
 
@@ -202,16 +260,29 @@ pub extern "C" fn purse_set_size_v(
 pub extern "C" fn purse_read_v<'a>(
     device: &'a [u8],
     work: &'a [u8],
-    session: CSession,
+    head: CHead,
+    staged: &[u32; 32],
     name: &[u8],
     x: u64,
     buffer: &mut [u8],
 ) -> CCounted
     ensures { λ r. ⌜ Reads r (now (buffer .exit))
-        (read (stateOf (decode session) (now (device .entry)) (now (work .entry))) (now (name .entry)) x (now (buffer .entry))) ⌝ }
+        (read (stateOf (decode head (now (staged .entry))) (now (device .entry)) (now (work .entry))) (now (name .entry)) x (now (buffer .entry))) ⌝ }
 {
-    let s = decode(session);
-    let answer = read(device, work, s, name, ByteOffset(x as usize), buffer);
+    let blocks = head.blocks as usize;
+    let phase = phase_in(head);
+    let cells: &[u32] = staged;
+    let used = &cells[0..staged_in(head)];
+    let answer = read_in(
+        device,
+        work,
+        blocks,
+        phase,
+        used,
+        name,
+        ByteOffset(x as usize),
+        buffer,
+    );
     counted(answer)
 }
 
@@ -220,13 +291,17 @@ pub extern "C" fn purse_read_v<'a>(
 pub extern "C" fn purse_size_v<'a>(
     device: &'a [u8],
     work: &'a [u8],
-    session: CSession,
+    head: CHead,
+    staged: &[u32; 32],
     name: &[u8],
 ) -> CCounted
-    ensures { λ r. ⌜ r ≡ countedOf (sizeOf (stateOf (decode session) (now (device .entry)) (now (work .entry))) (now (name .entry)) .answer) ⌝ }
+    ensures { λ r. ⌜ r ≡ countedOf (sizeOf (stateOf (decode head (now (staged .entry))) (now (device .entry)) (now (work .entry))) (now (name .entry)) .answer) ⌝ }
 {
-    let s = decode(session);
-    let answer = size(device, work, s, name);
+    let blocks = head.blocks as usize;
+    let phase = phase_in(head);
+    let cells: &[u32] = staged;
+    let used = &cells[0..staged_in(head)];
+    let answer = size_in(device, work, blocks, phase, used, name);
     counted(answer)
 }
 
@@ -235,12 +310,16 @@ pub extern "C" fn purse_size_v<'a>(
 pub extern "C" fn purse_free_count_v<'a>(
     device: &'a [u8],
     work: &'a [u8],
-    session: CSession,
+    head: CHead,
+    staged: &[u32; 32],
 ) -> CCounted
-    ensures { λ r. ⌜ r ≡ countedOf (freeCount (stateOf (decode session) (now (device .entry)) (now (work .entry))) .answer) ⌝ }
+    ensures { λ r. ⌜ r ≡ countedOf (freeCount (stateOf (decode head (now (staged .entry))) (now (device .entry)) (now (work .entry))) .answer) ⌝ }
 {
-    let s = decode(session);
-    let answer = free_count(device, work, s);
+    let blocks = head.blocks as usize;
+    let phase = phase_in(head);
+    let cells: &[u32] = staged;
+    let used = &cells[0..staged_in(head)];
+    let answer = free_count_in(device, work, blocks, phase, used);
     counted(answer)
 }
 
@@ -249,13 +328,17 @@ pub extern "C" fn purse_free_count_v<'a>(
 pub extern "C" fn purse_record_v<'a>(
     device: &'a [u8],
     work: &'a [u8],
-    session: CSession,
+    head: CHead,
+    staged: &[u32; 32],
     i: u64,
 ) -> CRecord
-    ensures { λ r. ⌜ r ≡ recordedOf (recordAt (stateOf (decode session) (now (device .entry)) (now (work .entry))) i .answer) ⌝ }
+    ensures { λ r. ⌜ r ≡ recordedOf (recordAt (stateOf (decode head (now (staged .entry))) (now (device .entry)) (now (work .entry))) i .answer) ⌝ }
 {
-    let s = decode(session);
-    let answer = record_at(device, work, s, i as usize);
+    let blocks = head.blocks as usize;
+    let phase = phase_in(head);
+    let cells: &[u32] = staged;
+    let used = &cells[0..staged_in(head)];
+    let answer = record_in(device, work, blocks, phase, used, i as usize);
     recorded(answer)
 }
 
@@ -264,19 +347,25 @@ pub extern "C" fn purse_record_v<'a>(
 pub extern "C" fn purse_nth_extent_v<'a>(
     device: &'a [u8],
     work: &'a [u8],
-    session: CSession,
+    head: CHead,
+    staged: &[u32; 32],
     name: &[u8],
     from: u64,
     n: u64,
     k: u64,
 ) -> CRun
-    ensures { λ r. ⌜ r ≡ runOf (nthExtent (stateOf (decode session) (now (device .entry)) (now (work .entry))) (now (name .entry)) from n k .answer) ⌝ }
+    ensures { λ r. ⌜ r ≡ runOf (nthExtent (stateOf (decode head (now (staged .entry))) (now (device .entry)) (now (work .entry))) (now (name .entry)) from n k .answer) ⌝ }
 {
-    let s = decode(session);
-    let answer = nth_extent(
+    let blocks = head.blocks as usize;
+    let phase = phase_in(head);
+    let cells: &[u32] = staged;
+    let used = &cells[0..staged_in(head)];
+    let answer = nth_extent_in(
         device,
         work,
-        s,
+        blocks,
+        phase,
+        used,
         name,
         FileBlock(from as usize),
         n as usize,
@@ -377,23 +466,24 @@ fn count_runs<'a>(
 fn list_runs<'a>(
     device: &'a [u8],
     work: &'a [u8],
-    s: Session,
+    blocks: usize,
+    phase: Phase,
+    staged: &[u32],
     name: &[u8],
     from: usize,
     n: usize,
     list: &mut [u32],
 ) -> Counted
-    ensures { λ r. ⌜ Lists (countedOf (answerOf r)) (now (list .entry)) (now (list .exit))
-        (runList (stateOf s (now (device .entry)) (now (work .entry))) (now (name .entry)) from n (extentsOf (now (list .entry)))) ⌝ }
+    requires { ⌜ length (now staged) ≤ 32 ⌝ }
+    ensures { λ r. ⌜ ((s : Session) → Seen blocks phase (now (staged .entry)) s → Lists (countedOf (answerOf r)) (now (list .entry)) (now (list .exit))
+        (runList (stateOf s (now (device .entry)) (now (work .entry))) (now (name .entry)) from n (extentsOf (now (list .entry))))) ⌝ }
 {
-    let l = s.staged;
-    let many = staged_count(s);
-    match look_up(device, work, s, name) {
+    match look_up(device, work, blocks, phase, staged, name) {
         Looked::Bad(why) => Counted::Refused(why),
         Looked::At(i) => {
-            let count = count_runs(device, work, &l[0..many], i, from, n);
+            let count = count_runs(device, work, staged, i, from, n);
             if count <= list.len() / 2 {
-                put_runs(device, work, &l[0..many], i, from, n, list);
+                put_runs(device, work, staged, i, from, n, list);
                 Counted::Count(count)
             } else {
                 Counted::Refused(Refusal::ListShort)
@@ -407,16 +497,30 @@ fn list_runs<'a>(
 pub extern "C" fn purse_run_list_v<'a>(
     device: &'a [u8],
     work: &'a [u8],
-    session: CSession,
+    head: CHead,
+    staged: &[u32; 32],
     name: &[u8],
     from: u64,
     n: u64,
     list: &mut [u32],
 ) -> CCounted
     ensures { λ r. ⌜ Lists r (now (list .entry)) (now (list .exit))
-        (runList (stateOf (decode session) (now (device .entry)) (now (work .entry))) (now (name .entry)) from n (extentsOf (now (list .entry)))) ⌝ }
+        (runList (stateOf (decode head (now (staged .entry))) (now (device .entry)) (now (work .entry))) (now (name .entry)) from n (extentsOf (now (list .entry)))) ⌝ }
 {
-    let s = decode(session);
-    let answer = list_runs(device, work, s, name, from as usize, n as usize, list);
+    let blocks = head.blocks as usize;
+    let phase = phase_in(head);
+    let cells: &[u32] = staged;
+    let used = &cells[0..staged_in(head)];
+    let answer = list_runs(
+        device,
+        work,
+        blocks,
+        phase,
+        used,
+        name,
+        from as usize,
+        n as usize,
+        list,
+    );
     counted(answer)
 }

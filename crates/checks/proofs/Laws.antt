@@ -98,17 +98,17 @@ module _ (s : Session) (d w : List ℕ) where
   unfolding lentOk
   lent-allowed e = rw e
 
-  pub lent-device : isAllowed (length d) ≡ true → eqb (512 * s .blocks) (length d) ≡ false → refuse DeviceSize ≡ lentOk (stateOf s d w)
+  pub lent-device : (n : ℕ) → s .blocks ≡ n → isAllowed (length d) ≡ true → eqb (512 * n) (length d) ≡ false → refuse DeviceSize ≡ lentOk (stateOf s d w)
   unfolding lentOk
-  lent-device e f = rw (e, f)
+  lent-device n q e f = rw (e, q, f)
 
-  pub lent-work : isAllowed (length d) ≡ true → eqb (512 * s .blocks) (length d) ≡ true → (length w ≡ 16384 → ⊥) → refuse WorkSize ≡ lentOk (stateOf s d w)
+  pub lent-work : (n : ℕ) → s .blocks ≡ n → isAllowed (length d) ≡ true → eqb (512 * n) (length d) ≡ true → (length w ≡ 16384 → ⊥) → refuse WorkSize ≡ lentOk (stateOf s d w)
   unfolding lentOk
-  lent-work e f h = rw (e, f, ne-eqb (length w) 16384 h)
+  lent-work n q e f h = rw (e, q, f, ne-eqb (length w) 16384 h)
 
-  pub lent-fine : isAllowed (length d) ≡ true → eqb (512 * s .blocks) (length d) ≡ true → length w ≡ 16384 → accept true ≡ lentOk (stateOf s d w)
+  pub lent-fine : (n : ℕ) → s .blocks ≡ n → isAllowed (length d) ≡ true → eqb (512 * n) (length d) ≡ true → length w ≡ 16384 → accept true ≡ lentOk (stateOf s d w)
   unfolding lentOk
-  lent-fine e f h = rw (e, f, eq-eqb (length w) 16384 h)
+  lent-fine n q e f h = rw (e, q, f, eq-eqb (length w) 16384 h)
 
   pub ready-bad : (r : Refusal) → refuse r ≡ lentOk (stateOf s d w) → refuse r ≡ readyOk (stateOf s d w)
   unfolding readyOk
@@ -120,9 +120,9 @@ module _ (s : Session) (d w : List ℕ) where
   phase-ready (Committing n) = refl
   phase-ready (Recovering n) = refl
 
-  pub ready-fine : accept true ≡ lentOk (stateOf s d w) → resultOf (readyPhase (s .phase)) ≡ readyOk (stateOf s d w)
+  pub ready-fine : (p : Phase) → s .phase ≡ p → accept true ≡ lentOk (stateOf s d w) → resultOf (readyPhase p) ≡ readyOk (stateOf s d w)
   unfolding readyOk
-  ready-fine e = rw (← e) (phase-ready (s .phase))
+  ready-fine p q e = rw (← e, q) (phase-ready p)
 
   module _ (name : List ℕ) where
     pub named-lent : (r : Refusal) → refuse r ≡ lentOk (stateOf s d w) → refuse r ≡ nameOk (stateOf s d w) name
@@ -133,9 +133,9 @@ module _ (s : Session) (d w : List ℕ) where
     unfolding nameOk
     named-bad e f = rw (← e, f)
 
-    pub named-fine : accept true ≡ lentOk (stateOf s d w) → isName name ≡ true → resultOf (readyPhase (s .phase)) ≡ nameOk (stateOf s d w) name
+    pub named-fine : (p : Phase) → s .phase ≡ p → accept true ≡ lentOk (stateOf s d w) → isName name ≡ true → resultOf (readyPhase p) ≡ nameOk (stateOf s d w) name
     unfolding nameOk
-    named-fine e f = rw (← e, f) (phase-ready (s .phase))
+    named-fine p q e f = rw (← e, f, q) (phase-ready p)
 
     module _ (new : List ℕ) where
       pub names-lent : (r : Refusal) → refuse r ≡ lentOk (stateOf s d w) → refuse r ≡ namesOk (stateOf s d w) name new
@@ -150,9 +150,9 @@ module _ (s : Session) (d w : List ℕ) where
       unfolding namesOk
       names-second e f g = rw (← e, f, g)
 
-      pub names-fine : accept true ≡ lentOk (stateOf s d w) → isName name ≡ true → isName new ≡ true → resultOf (readyPhase (s .phase)) ≡ namesOk (stateOf s d w) name new
+      pub names-fine : (p : Phase) → s .phase ≡ p → accept true ≡ lentOk (stateOf s d w) → isName name ≡ true → isName new ≡ true → resultOf (readyPhase p) ≡ namesOk (stateOf s d w) name new
       unfolding namesOk
-      names-fine e f g = rw (← e, f, g) (phase-ready (s .phase))
+      names-fine p q e f g = rw (← e, f, g, q) (phase-ready p)
 
     module _ (size : ℕ) where
       pub sized-lent : (r : Refusal) → refuse r ≡ lentOk (stateOf s d w) → refuse r ≡ nameSizeOk (stateOf s d w) name size
@@ -167,9 +167,9 @@ module _ (s : Session) (d w : List ℕ) where
       unfolding nameSizeOk
       sized-large e f g = rw (← e, f, g)
 
-      pub sized-fine : accept true ≡ lentOk (stateOf s d w) → isName name ≡ true → leb size 1048576 ≡ true → resultOf (readyPhase (s .phase)) ≡ nameSizeOk (stateOf s d w) name size
+      pub sized-fine : (p : Phase) → s .phase ≡ p → accept true ≡ lentOk (stateOf s d w) → isName name ≡ true → leb size 1048576 ≡ true → resultOf (readyPhase p) ≡ nameSizeOk (stateOf s d w) name size
       unfolding nameSizeOk
-      sized-fine e f g = rw (← e, f, g) (phase-ready (s .phase))
+      sized-fine p q e f g = rw (← e, f, g, q) (phase-ready p)
 
   -- what the tests 1 and 2 have shown
   pub record Lent : Type 0 where

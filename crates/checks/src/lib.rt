@@ -8,12 +8,13 @@ use spec::Session;
 ghost use mathlib.Core.Path.{_≡_};
 ghost use Prim.Native.Nat.{_+_, _*_};
 ghost use lib.Dec.{eqb, leb};
+ghost use Rattle.spec.specs.declared.Session.{Session};
 ghost use Rattle.spec.specs.Disk.{isAllowed};
 ghost use Rattle.spec.specs.Inode.{isName};
 ghost use Rattle.spec.specs.Transaction.{stateOf};
 ghost use Rattle.spec.specs.Calls.{lentOk, readyOk, nameOk};
 ghost use Rattle.spec.specs.declared.Done.the-variants as answers;
-ghost use Rattle.checks.specs.Checks.{resultOf, readyPhase, namesOk, nameSizeOk};
+ghost use Rattle.checks.specs.Checks.{Of, resultOf, readyPhase, namesOk, nameSizeOk};
 
 // Passed, or the first test that failed.
 pub enum Checked {
@@ -44,15 +45,14 @@ fn same_size(size: usize, blocks: usize) -> bool
     blocks == size / Limits::BLOCK_SIZE
 }
 
-// 1 and 2
-pub fn lent(device: &[u8], work: &[u8], session: Session) -> Checked
-    ensures { λ r. ⌜ resultOf r ≡ lentOk (stateOf session (now (device .entry)) (now (work .entry))) ⌝ }
+// 1 and 2, of every session on so many blocks
+pub fn lent(device: &[u8], work: &[u8], blocks: usize) -> Checked
+    ensures { λ r. ⌜ ((s : Session) → s .blocks ≡ blocks → resultOf r ≡ lentOk (stateOf s (now (device .entry)) (now (work .entry)))) ⌝ }
 {
-    let n = session.blocks;
     if !is_allowed(device.len()) {
         return Checked::Bad(Refusal::DeviceSize);
     }
-    if !same_size(device.len(), n) {
+    if !same_size(device.len(), blocks) {
         return Checked::Bad(Refusal::DeviceSize);
     }
     if work.len() != Limits::WORK_SIZE {
@@ -74,11 +74,10 @@ fn ready_phase(phase: Phase) -> Checked
 }
 
 // 1, 2 and 12
-pub fn ready(device: &[u8], work: &[u8], session: Session) -> Checked
-    ensures { λ r. ⌜ resultOf r ≡ readyOk (stateOf session (now (device .entry)) (now (work .entry))) ⌝ }
+pub fn ready(device: &[u8], work: &[u8], blocks: usize, phase: Phase) -> Checked
+    ensures { λ r. ⌜ ((s : Session) → Of blocks phase s → resultOf r ≡ readyOk (stateOf s (now (device .entry)) (now (work .entry)))) ⌝ }
 {
-    let phase = session.phase;
-    match lent(device, work, session) {
+    match lent(device, work, blocks) {
         Checked::Bad(why) => Checked::Bad(why),
         Checked::Fine => ready_phase(phase),
     }
@@ -102,11 +101,10 @@ pub fn is_name(name: &[u8]) -> bool
 }
 
 // 1, 2, 3 and 12
-pub fn named(device: &[u8], work: &[u8], session: Session, name: &[u8]) -> Checked
-    ensures { λ r. ⌜ resultOf r ≡ nameOk (stateOf session (now (device .entry)) (now (work .entry))) (now (name .entry)) ⌝ }
+pub fn named(device: &[u8], work: &[u8], blocks: usize, phase: Phase, name: &[u8]) -> Checked
+    ensures { λ r. ⌜ ((s : Session) → Of blocks phase s → resultOf r ≡ nameOk (stateOf s (now (device .entry)) (now (work .entry))) (now (name .entry))) ⌝ }
 {
-    let phase = session.phase;
-    match lent(device, work, session) {
+    match lent(device, work, blocks) {
         Checked::Bad(why) => Checked::Bad(why),
         Checked::Fine => {
             if !is_name(name) {
@@ -118,11 +116,17 @@ pub fn named(device: &[u8], work: &[u8], session: Session, name: &[u8]) -> Check
 }
 
 // 1, 2, 3 of two names, and 12
-pub fn both_named(device: &[u8], work: &[u8], session: Session, name: &[u8], new: &[u8]) -> Checked
-    ensures { λ r. ⌜ resultOf r ≡ namesOk (stateOf session (now (device .entry)) (now (work .entry))) (now (name .entry)) (now (new .entry)) ⌝ }
+pub fn both_named(
+    device: &[u8],
+    work: &[u8],
+    blocks: usize,
+    phase: Phase,
+    name: &[u8],
+    new: &[u8],
+) -> Checked
+    ensures { λ r. ⌜ ((s : Session) → Of blocks phase s → resultOf r ≡ namesOk (stateOf s (now (device .entry)) (now (work .entry))) (now (name .entry)) (now (new .entry))) ⌝ }
 {
-    let phase = session.phase;
-    match lent(device, work, session) {
+    match lent(device, work, blocks) {
         Checked::Bad(why) => Checked::Bad(why),
         Checked::Fine => {
             if !is_name(name) {
@@ -150,15 +154,15 @@ fn size_fits(x: usize, n: usize) -> bool
 pub fn sized(
     device: &[u8],
     work: &[u8],
-    session: Session,
+    blocks: usize,
+    phase: Phase,
     name: &[u8],
     x: usize,
     n: usize,
 ) -> Checked
-    ensures { λ r. ⌜ resultOf r ≡ nameSizeOk (stateOf session (now (device .entry)) (now (work .entry))) (now (name .entry)) (x + n) ⌝ }
+    ensures { λ r. ⌜ ((s : Session) → Of blocks phase s → resultOf r ≡ nameSizeOk (stateOf s (now (device .entry)) (now (work .entry))) (now (name .entry)) (x + n)) ⌝ }
 {
-    let phase = session.phase;
-    match lent(device, work, session) {
+    match lent(device, work, blocks) {
         Checked::Bad(why) => Checked::Bad(why),
         Checked::Fine => {
             if !is_name(name) {

@@ -168,17 +168,8 @@ fn find_block(table: &[u8], first: usize, key: u64) -> Found
     find_whole(&whole, first, key)
 }
 
-// The record with this name.
-pub fn find<'a>(device: &'a [u8], work: &'a [u8], s: Session, name: &[u8]) -> Found
-    ensures { λ r. ⌜ r ≡ foundOf (find (view (stateOf s (now (device .entry)) (now (work .entry)))) (now (name .entry))) ⌝ }
-{
-    let l = s.staged;
-    let n = staged_count(s);
-    find_in(device, work, &l[0..n], name)
-}
-
-// The same where these blocks are staged.
-pub fn find_in<'a>(device: &'a [u8], work: &'a [u8], staged: &[u32], name: &[u8]) -> Found
+// The record with this name, where these blocks are staged.
+pub fn find<'a>(device: &'a [u8], work: &'a [u8], staged: &[u32], name: &[u8]) -> Found
     requires { ⌜ length (now staged) ≤ 32 ⌝ }
     ensures { λ r. ⌜ r ≡ foundOf (find (viewIn (now (staged .entry)) (now (device .entry)) (now (work .entry))) (now (name .entry))) ⌝ }
 {
@@ -202,11 +193,12 @@ pub fn find_in<'a>(device: &'a [u8], work: &'a [u8], staged: &[u32], name: &[u8]
 }
 
 // The lowest empty record: the one whose name is all zero.
-pub fn find_empty<'a>(device: &'a [u8], work: &'a [u8], s: Session) -> Found
-    ensures { λ r. ⌜ r ≡ foundOf (findEmpty (view (stateOf s (now (device .entry)) (now (work .entry))))) ⌝ }
+pub fn find_empty<'a>(device: &'a [u8], work: &'a [u8], staged: &[u32]) -> Found
+    requires { ⌜ length (now staged) ≤ 32 ⌝ }
+    ensures { λ r. ⌜ r ≡ foundOf (findEmpty (viewIn (now (staged .entry)) (now (device .entry)) (now (work .entry)))) ⌝ }
 {
     let none = [0u8; 8];
-    find(device, work, s, &none)
+    find(device, work, staged, &none)
 }
 
 // A place in a file's tree: `left` leaf slots from byte `at` of `block`, then the nodes named by `tops` slots from byte `top` of the record's block.

@@ -69,7 +69,16 @@ fn show_found(f: Found) {
 fn show_find<'a>(device: &'a [u8], work: &'a [u8], s: Session, name: &[u8]) {
     text(b"find ");
     text(name);
-    show_found(inode::find(device, work, s, name));
+    let l = s.staged;
+    let n = transaction::staged_count(s);
+    show_found(inode::find(device, work, &l[0..n], name));
+}
+
+fn show_empty<'a>(device: &'a [u8], work: &'a [u8], s: Session) {
+    text(b"empty:");
+    let l = s.staged;
+    let n = transaction::staged_count(s);
+    show_found(inode::find_empty(device, work, &l[0..n]));
 }
 
 fn show_record<'a>(device: &'a [u8], work: &'a [u8], s: Session, i: usize) {
@@ -219,8 +228,7 @@ fn show_all<'a>(device: &'a [u8], work: &'a [u8], s: Session) {
     show_find(device, work, s, b"voidfile");
     show_find(device, work, s, b"gammaray");
     show_find(device, work, s, b"alphabe");
-    text(b"empty:");
-    show_found(inode::find_empty(device, work, s));
+    show_empty(device, work, s);
     show_record(device, work, s, 0);
     show_record(device, work, s, 1);
     show_record(device, work, s, 2);

@@ -1,26 +1,44 @@
 -- The cases of a look-up. Assumes nothing.
-use Prim.Native.Nat.{ℕ, _≤_}
+use Prim.Native.Nat.{ℕ, _-_, _≤_}
 use mathlib.Core.Path.{_≡_, refl, sym, ap, _∙_}
 use mathlib.Core.Bool.{Bool}
 use mathlib.Core.List.{List}
-use lib.ListN.{length}
+use lib.ListN.{length, take, drop}
+use Rattle.spec.specs.Disk.{Disk}
 use Rattle.spec.specs.Inode.{isName, find, findEmpty}
 use Rattle.spec.specs.declared.Session.{Session}
 use Rattle.spec.specs.declared.Refusal.{Refusal}
 use Rattle.spec.specs.declared.Refusal.the-variants.{BadName, TooLarge, NotReady, Unknown, Taken, NoInode}
 use Rattle.spec.specs.Answers.{Result, refuse, accept, require, _>>_}
+use Rattle.spec.specs.Session.{stagedIn}
 use Rattle.spec.specs.Transaction.{stateOf, view}
+use Rattle.transaction.specs.Places.{viewIn}
+use Rattle.transaction.proofs.Laws.{staged-lent}
 use Rattle.spec.specs.Calls.{lentOk, nameOk, sizeFits, isReady, known, emptyInode, fileOk, sizedOk}
-use Rattle.checks.specs.Checks.{namesOk, nameSizeOk}
+use Rattle.checks.specs.Checks.{Seen, namesOk, nameSizeOk}
 use Rattle.checks.proofs.Laws.{then-passed, named-says, names-say, sized-says}
 use Rattle.inode.specs.Records.{foundOf}
 use Rattle.inode.proofs.Laws.{found-at, found-nothing}
+use Rattle.inode.specs.declared.Found.{Found}
 use Rattle.inode.specs.declared.Found.the-variants.{At, Nothing}
 use Rattle.lookup.specs.Looks.{newOk, unlessTaken, renameOk}
 
 then-assoc : {A B C : Type 0} (a : Result A) (b : Result B) (x : Result C) → (a >> b) >> x ≡ a >> (b >> x)
 then-assoc (refuse r) b x = refl
 then-assoc (accept a) b x = refl
+
+-- a session's working copy is that of the numbers that it has staged
+pub view-of : (s : Session) (d w l : List ℕ) → stagedIn s ≡ l → viewIn l d w ≡ view (stateOf s d w)
+unfolding view viewIn
+view-of s d w l e = rw (← e)
+
+-- a session by value is seen by its parts
+pub seen-lent : (s : Session) (n : ℕ) → length (s .staged) ≡ 32 → n ≡ length (stagedIn s) → Seen (s .blocks) (s .phase) (take (n - 0) (drop 0 (s .staged))) s
+seen-lent s n h e = record { head = record { size = refl; at-phase = refl }; numbers = sym (staged-lent s h n e) }
+
+-- what is found in the view of the numbers staged
+pub found-of : (s : Session) (d w l name : List ℕ) (r : Found) → stagedIn s ≡ l → r ≡ foundOf (find (viewIn l d w) name) → r ≡ foundOf (find (view (stateOf s d w)) name)
+found-of s d w l name r e f = f ∙ ap (λ (v : Disk). foundOf (find v name)) (view-of s d w l e)
 
 module _ (s : Session) (d w name : List ℕ) where
   -- ---- 13 and 15

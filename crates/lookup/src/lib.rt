@@ -6,17 +6,16 @@ use checks::sized;
 use inode::Found;
 use inode::find;
 use inode::find_empty;
-use inode::find_in;
+use spec::Phase;
 use spec::Refusal;
-use spec::Session;
-use transaction::staged_count;
 ghost use mathlib.Core.Path.{_≡_};
 ghost use Prim.Native.Nat.{_+_, _≤_};
 ghost use lib.ListN.{length};
 ghost use Rattle.spec.specs.declared.Session.{Session};
-ghost use Rattle.transaction.specs.Places.{viewIn};
-ghost use Rattle.spec.specs.Transaction.{view, stateOf};
+ghost use Rattle.spec.specs.Session.{stagedIn};
+ghost use Rattle.spec.specs.Transaction.{stateOf};
 ghost use Rattle.spec.specs.Calls.{known, emptyInode, fileOk, sizedOk};
+ghost use Rattle.checks.specs.Checks.{Seen};
 ghost use Rattle.lookup.specs.Looks.{lookedOf, InTable, newOk, unlessTaken, renameOk};
 
 // The record of the file, or the first test that failed.
@@ -28,34 +27,41 @@ pub enum Looked {
 // 13, of every session that has these blocks staged
 fn known<'a>(device: &'a [u8], work: &'a [u8], staged: &[u32], name: &[u8]) -> Looked
     requires { ⌜ length (now staged) ≤ 32 ⌝ }
-    ensures { λ r. ⌜ ((s : Session) → viewIn (now (staged .entry)) (now (device .entry)) (now (work .entry)) ≡ view (stateOf s (now (device .entry)) (now (work .entry)))
-        → (lookedOf r ≡ known (stateOf s (now (device .entry)) (now (work .entry))) (now (name .entry))) × InTable r) ⌝ }
+    ensures { λ r. ⌜ ((s : Session) → stagedIn s ≡ now (staged .entry) → lookedOf r ≡ known (stateOf s (now (device .entry)) (now (work .entry))) (now (name .entry))) × InTable r ⌝ }
 {
-    match find_in(device, work, staged, name) {
+    match find(device, work, staged, name) {
         Found::At(i) => Looked::At(i),
         Found::Nothing => Looked::Bad(Refusal::Unknown),
     }
 }
 
 // 15
-fn empty_inode<'a>(device: &'a [u8], work: &'a [u8], session: Session) -> Looked
-    ensures { λ r. ⌜ (lookedOf r ≡ emptyInode (stateOf session (now (device .entry)) (now (work .entry)))) × InTable r ⌝ }
+fn empty_inode<'a>(device: &'a [u8], work: &'a [u8], staged: &[u32]) -> Looked
+    requires { ⌜ length (now staged) ≤ 32 ⌝ }
+    ensures { λ r. ⌜ ((s : Session) → stagedIn s ≡ now (staged .entry) → lookedOf r ≡ emptyInode (stateOf s (now (device .entry)) (now (work .entry)))) × InTable r ⌝ }
 {
-    match find_empty(device, work, session) {
+    match find_empty(device, work, staged) {
         Found::At(i) => Looked::At(i),
         Found::Nothing => Looked::Bad(Refusal::NoInode),
     }
 }
 
 // 1, 2, 3, 12 and 13
-pub fn look_up<'a>(device: &'a [u8], work: &'a [u8], session: Session, name: &[u8]) -> Looked
-    ensures { λ r. ⌜ (lookedOf r ≡ fileOk (stateOf session (now (device .entry)) (now (work .entry))) (now (name .entry))) × InTable r ⌝ }
+pub fn look_up<'a>(
+    device: &'a [u8],
+    work: &'a [u8],
+    blocks: usize,
+    phase: Phase,
+    staged: &[u32],
+    name: &[u8],
+) -> Looked
+    requires { ⌜ length (now staged) ≤ 32 ⌝ }
+    ensures { λ r. ⌜ ((s : Session) → Seen blocks phase (now (staged .entry)) s
+        → lookedOf r ≡ fileOk (stateOf s (now (device .entry)) (now (work .entry))) (now (name .entry))) × InTable r ⌝ }
 {
-    let l = session.staged;
-    let count = staged_count(session);
-    match named(device, work, session, name) {
+    match named(device, work, blocks, phase, name) {
         Checked::Bad(why) => Looked::Bad(why),
-        Checked::Fine => known(device, work, &l[0..count], name),
+        Checked::Fine => known(device, work, staged, name),
     }
 }
 
@@ -63,47 +69,54 @@ pub fn look_up<'a>(device: &'a [u8], work: &'a [u8], session: Session, name: &[u
 pub fn look_up_sized<'a>(
     device: &'a [u8],
     work: &'a [u8],
-    session: Session,
+    blocks: usize,
+    phase: Phase,
+    staged: &[u32],
     name: &[u8],
     x: usize,
     n: usize,
 ) -> Looked
-    ensures { λ r. ⌜ (lookedOf r ≡ sizedOk (stateOf session (now (device .entry)) (now (work .entry))) (now (name .entry)) (x + n)) × InTable r ⌝ }
+    requires { ⌜ length (now staged) ≤ 32 ⌝ }
+    ensures { λ r. ⌜ ((s : Session) → Seen blocks phase (now (staged .entry)) s
+        → lookedOf r ≡ sizedOk (stateOf s (now (device .entry)) (now (work .entry))) (now (name .entry)) (x + n)) × InTable r ⌝ }
 {
-    let l = session.staged;
-    let count = staged_count(session);
-    match sized(device, work, session, name, x, n) {
+    match sized(device, work, blocks, phase, name, x, n) {
         Checked::Bad(why) => Looked::Bad(why),
-        Checked::Fine => known(device, work, &l[0..count], name),
+        Checked::Fine => known(device, work, staged, name),
     }
 }
 
 // 1, 2, 3, 12, 14 and 15: the record for a new file
-pub fn look_up_new<'a>(device: &'a [u8], work: &'a [u8], session: Session, name: &[u8]) -> Looked
-    ensures { λ r. ⌜ (lookedOf r ≡ newOk (stateOf session (now (device .entry)) (now (work .entry))) (now (name .entry))) × InTable r ⌝ }
+pub fn look_up_new<'a>(
+    device: &'a [u8],
+    work: &'a [u8],
+    blocks: usize,
+    phase: Phase,
+    staged: &[u32],
+    name: &[u8],
+) -> Looked
+    requires { ⌜ length (now staged) ≤ 32 ⌝ }
+    ensures { λ r. ⌜ ((s : Session) → Seen blocks phase (now (staged .entry)) s
+        → lookedOf r ≡ newOk (stateOf s (now (device .entry)) (now (work .entry))) (now (name .entry))) × InTable r ⌝ }
 {
-    match named(device, work, session, name) {
+    match named(device, work, blocks, phase, name) {
         Checked::Bad(why) => Looked::Bad(why),
-        Checked::Fine => match find(device, work, session, name) {
+        Checked::Fine => match find(device, work, staged, name) {
             Found::At(_) => Looked::Bad(Refusal::Taken),
-            Found::Nothing => empty_inode(device, work, session),
+            Found::Nothing => empty_inode(device, work, staged),
         },
     }
 }
 
 // 13 of a name and 14 of a new one
-fn renamed<'a>(
-    device: &'a [u8],
-    work: &'a [u8],
-    session: Session,
-    name: &[u8],
-    new: &[u8],
-) -> Looked
-    ensures { λ r. ⌜ (lookedOf r ≡ unlessTaken (stateOf session (now (device .entry)) (now (work .entry))) (now (name .entry)) (now (new .entry))) × InTable r ⌝ }
+fn renamed<'a>(device: &'a [u8], work: &'a [u8], staged: &[u32], name: &[u8], new: &[u8]) -> Looked
+    requires { ⌜ length (now staged) ≤ 32 ⌝ }
+    ensures { λ r. ⌜ ((s : Session) → stagedIn s ≡ now (staged .entry)
+        → lookedOf r ≡ unlessTaken (stateOf s (now (device .entry)) (now (work .entry))) (now (name .entry)) (now (new .entry))) × InTable r ⌝ }
 {
-    match find(device, work, session, name) {
+    match find(device, work, staged, name) {
         Found::Nothing => Looked::Bad(Refusal::Unknown),
-        Found::At(i) => match find(device, work, session, new) {
+        Found::At(i) => match find(device, work, staged, new) {
             Found::At(_) => Looked::Bad(Refusal::Taken),
             Found::Nothing => Looked::At(i),
         },
@@ -114,14 +127,18 @@ fn renamed<'a>(
 pub fn look_up_pair<'a>(
     device: &'a [u8],
     work: &'a [u8],
-    session: Session,
+    blocks: usize,
+    phase: Phase,
+    staged: &[u32],
     name: &[u8],
     new: &[u8],
 ) -> Looked
-    ensures { λ r. ⌜ (lookedOf r ≡ renameOk (stateOf session (now (device .entry)) (now (work .entry))) (now (name .entry)) (now (new .entry))) × InTable r ⌝ }
+    requires { ⌜ length (now staged) ≤ 32 ⌝ }
+    ensures { λ r. ⌜ ((s : Session) → Seen blocks phase (now (staged .entry)) s
+        → lookedOf r ≡ renameOk (stateOf s (now (device .entry)) (now (work .entry))) (now (name .entry)) (now (new .entry))) × InTable r ⌝ }
 {
-    match both_named(device, work, session, name, new) {
+    match both_named(device, work, blocks, phase, name, new) {
         Checked::Bad(why) => Looked::Bad(why),
-        Checked::Fine => renamed(device, work, session, name, new),
+        Checked::Fine => renamed(device, work, staged, name, new),
     }
 }

@@ -1,6 +1,6 @@
 -- The numbers of sessions and answers: a session is what its numbers stand for, and the cases of the results. Assumes nothing.
 use Prim.Native.Nat.{ℕ}
-use mathlib.Core.Path.{_≡_, refl, ap, _∙_, subst}
+use mathlib.Core.Path.{_≡_, refl, ap, ap₂, _∙_, subst}
 use mathlib.Core.Bool.{Bool, cond}
 use mathlib.Core.List.{List, []}
 use lib.ListN.{replicate}
@@ -15,7 +15,7 @@ use Rattle.spec.specs.Answers.{Answer, done, started, stored, idle, counted, fi
 use Rattle.spec.specs.Session.{neverOpened}
 use Rattle.spec.specs.Transaction.{stateOf}
 use Rattle.spec.specs.Calls.{Outcome, left, leftBuffer}
-use Rattle.mirror.specs.declared.CSession.{CSession}
+use Rattle.mirror.specs.declared.CHead.{CHead}
 use Rattle.mirror.specs.declared.CFinished.{CFinished}
 use Rattle.mirror.specs.declared.CCommitted.{CCommitted}
 use Rattle.mirror.specs.declared.CAdvanced.{CAdvanced}
@@ -32,13 +32,13 @@ phase-back Ready = refl
 phase-back (Committing d) = refl
 phase-back (Recovering d) = refl
 
--- the numbers of a session stand for it
-pub decode-encode : (s : Session) → decode (encode s) ≡ s
+-- the numbers and the cells of a session stand for it
+pub decode-encode : (s : Session) → decode (encode s) (s .staged) ≡ s
 decode-encode s =
     ap (λ (p : Phase). record { blocks = s .blocks; phase = p; staged = s .staged; count = s .count }) (phase-back (s .phase))
 
 -- numbers that are all zero stand for a session never opened
-pub zeros-never-opened : decode (record { blocks = 0; phase = 0; place = 0; count = 0; staged = replicate 32 0 }) ≡ neverOpened
+pub zeros-never-opened : decode (record { blocks = 0; phase = 0; place = 0; count = 0 }) (replicate 32 0) ≡ neverOpened
 unfolding phaseOf
 zeros-never-opened = refl
 
@@ -95,36 +95,36 @@ no-name ListShort = refl
 
 -- ---- the cases of the results
 
-module _ (s : Session) (c : CSession) (e : c ≡ encode s) where
+module _ (s : Session) (c : CHead) (e : c ≡ encode s) where
   pub finished-refused : (r : Refusal) (n i : ℕ) → n ≡ refusalNumber (refusalOf r) → i ≡ faultIn (refusalOf r)
-      → record { session = c; refusal = n; fault = i } ≡ finishedOf s (refusalOf r)
+      → record { head = c; refusal = n; fault = i } ≡ finishedOf s (refusalOf r)
   unfolding finishedOf
   finished-refused r n i f g = rw (e, f, g)
 
-  pub finished-done : record { session = c; refusal = 0; fault = 0 } ≡ finishedOf s done
+  pub finished-done : record { head = c; refusal = 0; fault = 0 } ≡ finishedOf s done
   unfolding finishedOf
   finished-done = rw e
 
   pub committed-refused : (r : Refusal) (n : ℕ) → n ≡ refusalNumber (refusalOf r)
-      → record { session = c; refusal = n; stores = 0 } ≡ committedOf s (refusalOf r)
+      → record { head = c; refusal = n; stores = 0 } ≡ committedOf s (refusalOf r)
   unfolding committedOf
   committed-refused r n f = rw (e, f, no-values r)
 
-  pub committed-started : (n : ℕ) → record { session = c; refusal = 0; stores = n } ≡ committedOf s (started n)
+  pub committed-started : (n : ℕ) → record { head = c; refusal = 0; stores = n } ≡ committedOf s (started n)
   unfolding committedOf
   committed-started n = rw e
 
   pub advanced-refused : (r : Refusal) (n : ℕ) → n ≡ refusalNumber (refusalOf r)
-      → record { session = c; refusal = n; block = 0; last = 0; number = 0 } ≡ advancedOf s (refusalOf r)
+      → record { head = c; refusal = n; block = 0; last = 0; number = 0 } ≡ advancedOf s (refusalOf r)
   unfolding advancedOf
   advanced-refused r n f = simp (e, f, no-values r)
 
   pub advanced-stored : (b n x : ℕ) (l : Bool) → x ≡ cond l 1 0
-      → record { session = c; refusal = 0; block = b; last = x; number = n } ≡ advancedOf s (stored b l n)
+      → record { head = c; refusal = 0; block = b; last = x; number = n } ≡ advancedOf s (stored b l n)
   unfolding advancedOf
   advanced-stored b n x l f = rw (e, f)
 
-  pub advanced-idle : record { session = c; refusal = 0; block = 0; last = 0; number = 0 } ≡ advancedOf s idle
+  pub advanced-idle : record { head = c; refusal = 0; block = 0; last = 0; number = 0 } ≡ advancedOf s idle
   unfolding advancedOf
   advanced-idle = rw e
 
@@ -168,23 +168,23 @@ module _ (f : Session → Outcome) (b c : Session) (q : b ≡ c) where
     at-session : left s d w a ≡ f c
     at-session = e ∙ ap f q
 
-    pub finishes : (r : CFinished) → r ≡ finishedOf s a → Finishes r d w (f c)
+    pub finishes : (r : CFinished) → r ≡ finishedOf s a → (l : List ℕ) → l ≡ s .staged → Finishes r l d w (f c)
     unfolding finishedOf
-    finishes r g =
-        subst (λ (x : Outcome). Finishes r d w x) at-session
-        (g, ap (λ (x : CFinished). stateOf (decode (x .session)) d w) g ∙ ap (λ (x : Session). stateOf x d w) (decode-encode s))
+    finishes r g l h =
+        subst (λ (x : Outcome). Finishes r l d w x) at-session
+        (g, ap₂ (λ (x : CFinished) (y : List ℕ). stateOf (decode (x .head) y) d w) g h ∙ ap (λ (x : Session). stateOf x d w) (decode-encode s))
 
-    pub commits : (r : CCommitted) → r ≡ committedOf s a → Commits r d w (f c)
+    pub commits : (r : CCommitted) → r ≡ committedOf s a → (l : List ℕ) → l ≡ s .staged → Commits r l d w (f c)
     unfolding committedOf
-    commits r g =
-        subst (λ (x : Outcome). Commits r d w x) at-session
-        (g, ap (λ (x : CCommitted). stateOf (decode (x .session)) d w) g ∙ ap (λ (x : Session). stateOf x d w) (decode-encode s))
+    commits r g l h =
+        subst (λ (x : Outcome). Commits r l d w x) at-session
+        (g, ap₂ (λ (x : CCommitted) (y : List ℕ). stateOf (decode (x .head) y) d w) g h ∙ ap (λ (x : Session). stateOf x d w) (decode-encode s))
 
-    pub advances : (r : CAdvanced) → r ≡ advancedOf s a → Advances r d w (f c)
+    pub advances : (r : CAdvanced) → r ≡ advancedOf s a → (l : List ℕ) → l ≡ s .staged → Advances r l d w (f c)
     unfolding advancedOf
-    advances r g =
-        subst (λ (x : Outcome). Advances r d w x) at-session
-        (g, ap (λ (x : CAdvanced). stateOf (decode (x .session)) d w) g ∙ ap (λ (x : Session). stateOf x d w) (decode-encode s))
+    advances r g l h =
+        subst (λ (x : Outcome). Advances r l d w x) at-session
+        (g, ap₂ (λ (x : CAdvanced) (y : List ℕ). stateOf (decode (x .head) y) d w) g h ∙ ap (λ (x : Session). stateOf x d w) (decode-encode s))
 
     -- a call that only reads: m gives the numbers of its answer
     pub answers : {R : Type 0} (m : Answer → R) (r : R) → r ≡ m a → r ≡ m (f c .answer)

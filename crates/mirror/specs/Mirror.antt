@@ -13,7 +13,7 @@ use Rattle.spec.specs.Inode.{extent}
 use Rattle.spec.specs.Answers.{Answer, refused, done, started, stored, idle, counted, file, noFile, run, noRun}
 use Rattle.spec.specs.Transaction.{stateOf}
 use Rattle.spec.specs.Calls.{Outcome}
-use Rattle.mirror.specs.declared.CSession.{CSession}
+use Rattle.mirror.specs.declared.CHead.{CHead}
 use Rattle.mirror.specs.declared.CFinished.{CFinished}
 use Rattle.mirror.specs.declared.CCommitted.{CCommitted}
 use Rattle.mirror.specs.declared.CAdvanced.{CAdvanced}
@@ -39,13 +39,13 @@ placeIn Ready = 0
 placeIn (Committing d) = d
 placeIn (Recovering d) = d
 
--- the session that numbers stand for: any numbers stand for one
-abbrev pub decode : CSession → Session
-decode c = record { blocks = c .blocks; phase = phaseOf (c .phase) (c .place); staged = c .staged; count = c .count }
+-- the session that numbers and cells stand for: any stand for one
+abbrev pub decode : CHead → List ℕ → Session
+decode h staged = record { blocks = h .blocks; phase = phaseOf (h .phase) (h .place); staged = staged; count = h .count }
 
-abbrev pub encode : Session → CSession
-encode s =
-    record { blocks = s .blocks; phase = phaseNumber (s .phase); place = placeIn (s .phase); count = s .count; staged = s .staged }
+-- its numbers; its cells are lent beside them
+abbrev pub encode : Session → CHead
+encode s = record { blocks = s .blocks; phase = phaseNumber (s .phase); place = placeIn (s .phase); count = s .count }
 
 -- ---- answers
 
@@ -109,14 +109,14 @@ valueAt k a = getD (valuesOf a) k 0
 -- ---- results: a session and an answer in numbers
 
 unfoldable pub finishedOf : Session → Answer → CFinished
-finishedOf s a = record { session = encode s; refusal = refusalNumber a; fault = faultIn a }
+finishedOf s a = record { head = encode s; refusal = refusalNumber a; fault = faultIn a }
 
 unfoldable pub committedOf : Session → Answer → CCommitted
-committedOf s a = record { session = encode s; refusal = refusalNumber a; stores = valueAt 0 a }
+committedOf s a = record { head = encode s; refusal = refusalNumber a; stores = valueAt 0 a }
 
 unfoldable pub advancedOf : Session → Answer → CAdvanced
 advancedOf s a =
-    record { session = encode s; refusal = refusalNumber a; block = valueAt 0 a; last = valueAt 1 a; number = valueAt 2 a }
+    record { head = encode s; refusal = refusalNumber a; block = valueAt 0 a; last = valueAt 1 a; number = valueAt 2 a }
 
 unfoldable pub countedOf : Answer → CCounted
 countedOf a = record { refusal = refusalNumber a; count = valueAt 0 a }
@@ -127,17 +127,20 @@ recordedOf a = record { refusal = refusalNumber a; used = valueAt 0 a; size = va
 unfoldable pub runOf : Answer → CRun
 runOf a = record { refusal = refusalNumber a; first = valueAt 0 a; count = valueAt 1 a }
 
--- ---- the form of a promise: what a function returns is the call's outcome in numbers, and the session returned, with the lent slices, is the
--- state that the outcome leaves
+-- ---- the form of a promise: what a function returns is the call's outcome in numbers, and the session that these numbers and the cells left
+-- stand for, with the lent slices, is the state that the outcome leaves
 
-abbrev pub Finishes : CFinished → List ℕ → List ℕ → Outcome → Type 0
-Finishes r device work o = (r ≡ finishedOf (o .after .session) (o .answer)) × (stateOf (decode (r .session)) device work ≡ o .after)
+abbrev pub Finishes : CFinished → List ℕ → List ℕ → List ℕ → Outcome → Type 0
+Finishes r staged device work o =
+    (r ≡ finishedOf (o .after .session) (o .answer)) × (stateOf (decode (r .head) staged) device work ≡ o .after)
 
-abbrev pub Commits : CCommitted → List ℕ → List ℕ → Outcome → Type 0
-Commits r device work o = (r ≡ committedOf (o .after .session) (o .answer)) × (stateOf (decode (r .session)) device work ≡ o .after)
+abbrev pub Commits : CCommitted → List ℕ → List ℕ → List ℕ → Outcome → Type 0
+Commits r staged device work o =
+    (r ≡ committedOf (o .after .session) (o .answer)) × (stateOf (decode (r .head) staged) device work ≡ o .after)
 
-abbrev pub Advances : CAdvanced → List ℕ → List ℕ → Outcome → Type 0
-Advances r device work o = (r ≡ advancedOf (o .after .session) (o .answer)) × (stateOf (decode (r .session)) device work ≡ o .after)
+abbrev pub Advances : CAdvanced → List ℕ → List ℕ → List ℕ → Outcome → Type 0
+Advances r staged device work o =
+    (r ≡ advancedOf (o .after .session) (o .answer)) × (stateOf (decode (r .head) staged) device work ≡ o .after)
 
 -- read: and the buffer lent
 abbrev pub Reads : CCounted → List ℕ → Outcome → Type 0

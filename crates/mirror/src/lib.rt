@@ -5,6 +5,7 @@ use spec::Counted;
 use spec::Done;
 use spec::FileRecord;
 use spec::Finished;
+use spec::Limits;
 use spec::Phase;
 use spec::Recorded;
 use spec::Refusal;
@@ -14,24 +15,25 @@ use spec::Started;
 use spec::Stored;
 ghost use mathlib.Core.Path.{_≡_};
 ghost use mathlib.Core.Bool.{cond};
+ghost use Prim.Native.Nat.{min};
 ghost use lib.ListN.{replicate};
 ghost use Rattle.spec.specs.Answers.{refusalOf, doneOf, startedOf, storedOf, countedOf as answerOf, recordedOf as fileOf, runOf as extentOf};
 ghost use Rattle.mirror.specs.Mirror.{phaseOf, phaseNumber, placeIn, decode, encode, refusalNumber, faultIn, finishedOf, committedOf, advancedOf, countedOf, recordedOf, runOf};
 
+// A session but for the cells of its staged blocks, which are lent beside it.
 // phase: 0 closed, 1 ready, 2 committing, 3 recovering; place: the stores made so far of a commit or a recovery, else 0.
 #[repr(C)]
-pub struct CSession {
+pub struct CHead {
     pub blocks: u64,
     pub phase: u64,
     pub place: u64,
     pub count: u64,
-    pub staged: [u32; 32],
 }
 
 // format, open, abort, create, remove, rename, write, set-size: refusal 0 is accepted; fault is the wrong record of refusal 10, else 0.
 #[repr(C)]
 pub struct CFinished {
-    pub session: CSession,
+    pub head: CHead,
     pub refusal: u32,
     pub fault: u64,
 }
@@ -39,7 +41,7 @@ pub struct CFinished {
 // commit
 #[repr(C)]
 pub struct CCommitted {
-    pub session: CSession,
+    pub head: CHead,
     pub refusal: u32,
     pub stores: u64,
 }
@@ -47,7 +49,7 @@ pub struct CCommitted {
 // advance: all 0 but the session where nothing is under way.
 #[repr(C)]
 pub struct CAdvanced {
-    pub session: CSession,
+    pub head: CHead,
     pub refusal: u32,
     pub block: u64,
     pub last: u64,
@@ -111,32 +113,47 @@ fn place_in(p: Phase) -> u64
     }
 }
 
-// The session that numbers stand for: any numbers stand for one.
-pub fn decode(c: CSession) -> Session
-    ensures { λ s. ⌜ s ≡ decode c ⌝ }
+// The phase of the session that numbers stand for.
+pub fn phase_in(h: CHead) -> Phase
+    ensures { λ p. ⌜ p ≡ phaseOf (h .phase) (h .place) ⌝ }
 {
-    let staged = c.staged;
-    let phase = phase_of(c.phase, c.place);
+    phase_of(h.phase, h.place)
+}
+
+// How many of the 32 cells are in use.
+pub fn staged_in(h: CHead) -> usize
+    ensures { λ n. ⌜ n ≡ min (h .count) 32 ⌝ }
+{
+    let n = h.count as usize;
+    if n < Limits::LOG_LENGTH {
+        return n;
+    }
+    Limits::LOG_LENGTH
+}
+
+// The session that numbers and cells stand for: any stand for one.
+pub fn decode(h: CHead, staged: [u32; 32]) -> Session
+    ensures { λ s. ⌜ s ≡ decode h staged ⌝ }
+{
+    let phase = phase_in(h);
     Session {
-        blocks: c.blocks as usize,
+        blocks: h.blocks as usize,
         phase: phase,
         staged: staged,
-        count: c.count as usize,
+        count: h.count as usize,
     }
 }
 
 // The numbers of a session.
-pub fn encode(s: Session) -> CSession
-    ensures { λ c. ⌜ c ≡ encode s ⌝ }
+pub fn encode(s: Session) -> CHead
+    ensures { λ h. ⌜ h ≡ encode s ⌝ }
 {
     let phase = s.phase;
-    let staged = s.staged;
-    CSession {
+    CHead {
         blocks: s.blocks as u64,
         phase: phase_number(phase),
         place: place_in(phase),
         count: s.count as u64,
-        staged: staged,
     }
 }
 
@@ -189,15 +206,15 @@ pub fn finished(f: Finished) -> CFinished
 {
     let s = f.session;
     let answer = f.answer;
-    let session = encode(s);
+    let head = encode(s);
     match answer {
         Done::Refused(why) => CFinished {
-            session: session,
+            head: head,
             refusal: refusal_number(why),
             fault: fault_in(why),
         },
         Done::Done => CFinished {
-            session: session,
+            head: head,
             refusal: 0,
             fault: 0,
         },
@@ -209,15 +226,15 @@ pub fn committed(c: Committed) -> CCommitted
 {
     let s = c.session;
     let answer = c.answer;
-    let session = encode(s);
+    let head = encode(s);
     match answer {
         Started::Refused(why) => CCommitted {
-            session: session,
+            head: head,
             refusal: refusal_number(why),
             stores: 0,
         },
         Started::Stores(n) => CCommitted {
-            session: session,
+            head: head,
             refusal: 0,
             stores: n as u64,
         },
@@ -235,10 +252,10 @@ pub fn advanced(a: Advanced) -> CAdvanced
 {
     let s = a.session;
     let answer = a.answer;
-    let session = encode(s);
+    let head = encode(s);
     match answer {
         Stored::Refused(why) => CAdvanced {
-            session: session,
+            head: head,
             refusal: refusal_number(why),
             block: 0,
             last: 0,
@@ -249,14 +266,14 @@ pub fn advanced(a: Advanced) -> CAdvanced
             last,
             number,
         } => CAdvanced {
-            session: session,
+            head: head,
             refusal: 0,
             block: block as u64,
             last: flag(last),
             number: number as u64,
         },
         Stored::Idle => CAdvanced {
-            session: session,
+            head: head,
             refusal: 0,
             block: 0,
             last: 0,

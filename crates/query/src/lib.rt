@@ -7,7 +7,6 @@ use checks::Checked;
 use checks::ready;
 use extents::RunOf;
 use file::read_file;
-use inode::inode_block;
 use inode::inode_block_in;
 use inode::is_empty;
 use inode::name_of;
@@ -17,18 +16,44 @@ use lookup::look_up;
 use spec::Counted;
 use spec::FileRecord;
 use spec::Limits;
+use spec::Phase;
 use spec::Recorded;
 use spec::Run;
 use spec::Session;
 use transaction::staged_count;
-use transaction::view_block;
+use transaction::view_in;
 ghost use mathlib.Core.Path.{_≡_};
-ghost use lib.ListN.{replicate};
+ghost use Prim.Native.Nat.{_≤_};
+ghost use lib.ListN.{length, replicate};
+ghost use Rattle.spec.specs.declared.Session.{Session};
 ghost use Rattle.spec.specs.Answers.{countedOf, recordedOf, Blank, runOf};
 ghost use Rattle.spec.specs.Transaction.{stateOf};
+ghost use Rattle.checks.specs.Checks.{Seen};
 ghost use Rattle.spec.specs.Calls.{left, leftBuffer, read, sizeOf, freeCount, recordAt, nthExtent};
 
-// Bytes of a file from byte x on, as many as the buffer takes and the file has; how many.
+// Bytes of a file from byte x on, as many as the buffer takes and the file has; how many. Of every session with these parts.
+pub fn read_in<'a>(
+    device: &'a [u8],
+    work: &'a [u8],
+    blocks: usize,
+    phase: Phase,
+    staged: &[u32],
+    name: &[u8],
+    x: ByteOffset,
+    buffer: &mut [u8],
+) -> Counted
+    requires { ⌜ length (now staged) ≤ 32 ⌝ }
+    ensures { λ r. ⌜ ((s : Session) → Seen blocks phase (now (staged .entry)) s
+        → leftBuffer s (now (device .entry)) (now (work .entry)) (countedOf r) (now (buffer .exit))
+        ≡ read (stateOf s (now (device .entry)) (now (work .entry))) (now (name .entry)) (x .0) (now (buffer .entry))) ⌝ }
+{
+    match look_up(device, work, blocks, phase, staged, name) {
+        Looked::Bad(why) => Counted::Refused(why),
+        Looked::At(i) => Counted::Count(read_file(device, work, staged, i, x, buffer)),
+    }
+}
+
+// The same of a session.
 pub fn read<'a>(
     device: &'a [u8],
     work: &'a [u8],
@@ -40,42 +65,76 @@ pub fn read<'a>(
     ensures { λ r. ⌜ leftBuffer session (now (device .entry)) (now (work .entry)) (countedOf r) (now (buffer .exit))
         ≡ read (stateOf session (now (device .entry)) (now (work .entry))) (now (name .entry)) (x .0) (now (buffer .entry)) ⌝ }
 {
+    let blocks = session.blocks;
+    let phase = session.phase;
     let l = session.staged;
-    let count = staged_count(session);
-    match look_up(device, work, session, name) {
-        Looked::Bad(why) => Counted::Refused(why),
-        Looked::At(i) => Counted::Count(read_file(device, work, &l[0..count], i, x, buffer)),
-    }
+    let n = staged_count(session);
+    read_in(device, work, blocks, phase, &l[0..n], name, x, buffer)
 }
 
 // The size of a file in bytes.
-pub fn size<'a>(device: &'a [u8], work: &'a [u8], session: Session, name: &[u8]) -> Counted
-    ensures { λ r. ⌜ left session (now (device .entry)) (now (work .entry)) (countedOf r)
-        ≡ sizeOf (stateOf session (now (device .entry)) (now (work .entry))) (now (name .entry)) ⌝ }
+pub fn size_in<'a>(
+    device: &'a [u8],
+    work: &'a [u8],
+    blocks: usize,
+    phase: Phase,
+    staged: &[u32],
+    name: &[u8],
+) -> Counted
+    requires { ⌜ length (now staged) ≤ 32 ⌝ }
+    ensures { λ r. ⌜ ((s : Session) → Seen blocks phase (now (staged .entry)) s
+        → left s (now (device .entry)) (now (work .entry)) (countedOf r) ≡ sizeOf (stateOf s (now (device .entry)) (now (work .entry))) (now (name .entry))) ⌝ }
 {
-    let l = session.staged;
-    let count = staged_count(session);
-    match look_up(device, work, session, name) {
+    match look_up(device, work, blocks, phase, staged, name) {
         Looked::Bad(why) => Counted::Refused(why),
         Looked::At(i) => {
-            let table = inode_block_in(device, work, &l[0..count], i);
+            let table = inode_block_in(device, work, staged, i);
             Counted::Count(size_of(table, i) as usize)
         }
     }
 }
 
+pub fn size<'a>(device: &'a [u8], work: &'a [u8], session: Session, name: &[u8]) -> Counted
+    ensures { λ r. ⌜ left session (now (device .entry)) (now (work .entry)) (countedOf r)
+        ≡ sizeOf (stateOf session (now (device .entry)) (now (work .entry))) (now (name .entry)) ⌝ }
+{
+    let blocks = session.blocks;
+    let phase = session.phase;
+    let l = session.staged;
+    let n = staged_count(session);
+    size_in(device, work, blocks, phase, &l[0..n], name)
+}
+
 // How many blocks are free.
+pub fn free_count_in<'a>(
+    device: &'a [u8],
+    work: &'a [u8],
+    blocks: usize,
+    phase: Phase,
+    staged: &[u32],
+) -> Counted
+    requires { ⌜ length (now staged) ≤ 32 ⌝ }
+    ensures { λ r. ⌜ ((s : Session) → Seen blocks phase (now (staged .entry)) s
+        → left s (now (device .entry)) (now (work .entry)) (countedOf r) ≡ freeCount (stateOf s (now (device .entry)) (now (work .entry)))) ⌝ }
+{
+    match ready(device, work, blocks, phase) {
+        Checked::Bad(why) => Counted::Refused(why),
+        Checked::Fine => {
+            let table = copy_of(view_in(device, work, staged, DiskBlock(33)));
+            Counted::Count(bitmap::free_count(&table))
+        }
+    }
+}
+
 pub fn free_count<'a>(device: &'a [u8], work: &'a [u8], session: Session) -> Counted
     ensures { λ r. ⌜ left session (now (device .entry)) (now (work .entry)) (countedOf r)
         ≡ freeCount (stateOf session (now (device .entry)) (now (work .entry))) ⌝ }
 {
-    match ready(device, work, session) {
-        Checked::Bad(why) => Counted::Refused(why),
-        Checked::Fine => {
-            let table = copy_of(view_block(device, work, session, DiskBlock(33)));
-            Counted::Count(bitmap::free_count(&table))
-        }
-    }
+    let blocks = session.blocks;
+    let phase = session.phase;
+    let l = session.staged;
+    let n = staged_count(session);
+    free_count_in(device, work, blocks, phase, &l[0..n])
 }
 
 fn no_file(answer: Recorded) -> FileRecord
@@ -89,17 +148,26 @@ fn no_file(answer: Recorded) -> FileRecord
 }
 
 // Name and size of record i, or that it is empty.
-pub fn record_at<'a>(device: &'a [u8], work: &'a [u8], session: Session, i: usize) -> FileRecord
-    ensures { λ r. ⌜ (left session (now (device .entry)) (now (work .entry)) (recordedOf (r .answer) (r .name) (r .size))
-        ≡ recordAt (stateOf session (now (device .entry)) (now (work .entry))) i) × Blank (r .answer) (r .name) (r .size) ⌝ }
+pub fn record_in<'a>(
+    device: &'a [u8],
+    work: &'a [u8],
+    blocks: usize,
+    phase: Phase,
+    staged: &[u32],
+    i: usize,
+) -> FileRecord
+    requires { ⌜ length (now staged) ≤ 32 ⌝ }
+    ensures { λ r. ⌜ ((s : Session) → Seen blocks phase (now (staged .entry)) s
+        → (left s (now (device .entry)) (now (work .entry)) (recordedOf (r .answer) (r .name) (r .size))
+        ≡ recordAt (stateOf s (now (device .entry)) (now (work .entry))) i) × Blank (r .answer) (r .name) (r .size)) ⌝ }
 {
-    match ready(device, work, session) {
+    match ready(device, work, blocks, phase) {
         Checked::Bad(why) => no_file(Recorded::Refused(why)),
         Checked::Fine => {
             if Limits::INODE_COUNT <= i {
                 return no_file(Recorded::Empty);
             }
-            let table = inode_block(device, work, session, i);
+            let table = inode_block_in(device, work, staged, i);
             if is_empty(table, i) {
                 return no_file(Recorded::Empty);
             }
@@ -114,7 +182,43 @@ pub fn record_at<'a>(device: &'a [u8], work: &'a [u8], session: Session, i: usiz
     }
 }
 
+pub fn record_at<'a>(device: &'a [u8], work: &'a [u8], session: Session, i: usize) -> FileRecord
+    ensures { λ r. ⌜ (left session (now (device .entry)) (now (work .entry)) (recordedOf (r .answer) (r .name) (r .size))
+        ≡ recordAt (stateOf session (now (device .entry)) (now (work .entry))) i) × Blank (r .answer) (r .name) (r .size) ⌝ }
+{
+    let blocks = session.blocks;
+    let phase = session.phase;
+    let l = session.staged;
+    let n = staged_count(session);
+    record_in(device, work, blocks, phase, &l[0..n], i)
+}
+
 // The k-th extent of the run list of n blocks of a file from a block on, counted from 0.
+pub fn nth_extent_in<'a>(
+    device: &'a [u8],
+    work: &'a [u8],
+    blocks: usize,
+    phase: Phase,
+    staged: &[u32],
+    name: &[u8],
+    from: FileBlock,
+    n: usize,
+    k: usize,
+) -> Run
+    requires { ⌜ length (now staged) ≤ 32 ⌝ }
+    ensures { λ r. ⌜ ((s : Session) → Seen blocks phase (now (staged .entry)) s
+        → left s (now (device .entry)) (now (work .entry)) (runOf r) ≡ nthExtent (stateOf s (now (device .entry)) (now (work .entry))) (now (name .entry)) (from .0) n k) ⌝ }
+{
+    let first = from.0;
+    match look_up(device, work, blocks, phase, staged, name) {
+        Looked::Bad(why) => Run::Refused(why),
+        Looked::At(i) => match extents::nth_extent(device, work, staged, i, first, n, k) {
+            RunOf::Run(e) => Run::Extent(e),
+            RunOf::Nothing => Run::Nothing,
+        },
+    }
+}
+
 pub fn nth_extent<'a>(
     device: &'a [u8],
     work: &'a [u8],
@@ -127,14 +231,9 @@ pub fn nth_extent<'a>(
     ensures { λ r. ⌜ left session (now (device .entry)) (now (work .entry)) (runOf r)
         ≡ nthExtent (stateOf session (now (device .entry)) (now (work .entry))) (now (name .entry)) (from .0) n k ⌝ }
 {
-    let first = from.0;
+    let blocks = session.blocks;
+    let phase = session.phase;
     let l = session.staged;
     let count = staged_count(session);
-    match look_up(device, work, session, name) {
-        Looked::Bad(why) => Run::Refused(why),
-        Looked::At(i) => match extents::nth_extent(device, work, &l[0..count], i, first, n, k) {
-            RunOf::Run(e) => Run::Extent(e),
-            RunOf::Nothing => Run::Nothing,
-        },
-    }
+    nth_extent_in(device, work, blocks, phase, &l[0..count], name, from, n, k)
 }

@@ -82,7 +82,8 @@ pub fn advance(device: &mut [u8], work: &[u8], session: Session) -> Advanced
     ensures { λ r. ⌜ left (r .session) (now (device .exit)) (now (work .entry)) (storedOf (r .answer))
         ≡ advance (stateOf session (now (device .entry)) (now (work .entry))) ⌝ }
 {
-    match lent(device, work, session) {
+    let blocks = session.blocks;
+    match lent(device, work, blocks) {
         Checked::Bad(why) => Advanced {
             session: session,
             answer: Stored::Refused(why),
@@ -99,7 +100,9 @@ pub fn commit(device: &[u8], work: &[u8], session: Session) -> Committed
     ensures { λ r. ⌜ left (r .session) (now (device .entry)) (now (work .entry)) (startedOf (r .answer))
         ≡ commit (stateOf session (now (device .entry)) (now (work .entry))) ⌝ }
 {
-    match ready(device, work, session) {
+    let blocks = session.blocks;
+    let phase = session.phase;
+    match ready(device, work, blocks, phase) {
         Checked::Bad(why) => Committed {
             session: session,
             answer: Started::Refused(why),
@@ -126,11 +129,10 @@ pub fn abort(device: &[u8], work: &[u8], session: Session) -> Finished
     ensures { λ r. ⌜ left (r .session) (now (device .entry)) (now (work .entry)) (doneOf (r .answer))
         ≡ abort (stateOf session (now (device .entry)) (now (work .entry))) ⌝ }
 {
-    match ready(device, work, session) {
+    let blocks = session.blocks;
+    let phase = session.phase;
+    match ready(device, work, blocks, phase) {
         Checked::Bad(why) => refused(session, why),
-        Checked::Fine => {
-            let n = session.blocks;
-            done(Session::opened(n, Phase::Ready))
-        }
+        Checked::Fine => { done(Session::opened(blocks, Phase::Ready)) }
     }
 }

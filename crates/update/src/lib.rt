@@ -27,6 +27,7 @@ use spec::Limits;
 use spec::Refusal;
 use spec::Session;
 use transaction::spot;
+use transaction::staged_count;
 use transaction::view_block;
 ghost use mathlib.Core.Path.{_≡_};
 ghost use Prim.Native.Nat.{_+_, _<_, _≤_, max};
@@ -90,7 +91,11 @@ pub fn create(device: &[u8], work: &mut [u8], session: Session, name: &[u8]) -> 
     ensures { λ r. ⌜ left (r .session) (now (device .entry)) (now (work .exit)) (doneOf (r .answer))
         ≡ create (stateOf session (now (device .entry)) (now (work .entry))) (now (name .entry)) ⌝ }
 {
-    match look_up_new(device, work, session, name) {
+    let blocks = session.blocks;
+    let phase = session.phase;
+    let l = session.staged;
+    let n = staged_count(session);
+    match look_up_new(device, work, blocks, phase, &l[0..n], name) {
         Looked::Bad(why) => refused(session, why),
         Looked::At(i) => {
             let bytes = renamed(name, &name[0..0], 0);
@@ -104,7 +109,11 @@ pub fn rename(device: &[u8], work: &mut [u8], session: Session, name: &[u8], new
     ensures { λ r. ⌜ left (r .session) (now (device .entry)) (now (work .exit)) (doneOf (r .answer))
         ≡ rename (stateOf session (now (device .entry)) (now (work .entry))) (now (name .entry)) (now (new .entry)) ⌝ }
 {
-    match look_up_pair(device, work, session, name, new) {
+    let blocks = session.blocks;
+    let phase = session.phase;
+    let l = session.staged;
+    let n = staged_count(session);
+    match look_up_pair(device, work, blocks, phase, &l[0..n], name, new) {
         Looked::Bad(why) => refused(session, why),
         Looked::At(i) => {
             let at = 32 * (i % 16);
@@ -119,7 +128,11 @@ pub fn remove(device: &[u8], work: &mut [u8], session: Session, name: &[u8]) -> 
     ensures { λ r. ⌜ left (r .session) (now (device .entry)) (now (work .exit)) (doneOf (r .answer))
         ≡ remove (stateOf session (now (device .entry)) (now (work .entry))) (now (name .entry)) ⌝ }
 {
-    match look_up(device, work, session, name) {
+    let blocks = session.blocks;
+    let phase = session.phase;
+    let l = session.staged;
+    let n = staged_count(session);
+    match look_up(device, work, blocks, phase, &l[0..n], name) {
         Looked::Bad(why) => refused(session, why),
         Looked::At(i) => {
             let mut table = copy_of(view_block(device, work, session, DiskBlock(33)));
@@ -273,7 +286,20 @@ pub fn write(
         ≡ write (stateOf session (now (device .entry)) (now (work .entry))) (now (name .entry)) (x .0) (now (bytes .entry)) ⌝ }
 {
     let from = x.0;
-    match look_up_sized(device, work, session, name, from, bytes.len()) {
+    let blocks = session.blocks;
+    let phase = session.phase;
+    let l = session.staged;
+    let n = staged_count(session);
+    match look_up_sized(
+        device,
+        work,
+        blocks,
+        phase,
+        &l[0..n],
+        name,
+        from,
+        bytes.len(),
+    ) {
         Looked::Bad(why) => refused(session, why),
         Looked::At(i) => {
             let old = size_of(inode_block(device, work, session, i), i);
@@ -301,7 +327,11 @@ pub fn set_size(
     ensures { λ r. ⌜ left (r .session) (now (device .entry)) (now (work .exit)) (doneOf (r .answer))
         ≡ setSize (stateOf session (now (device .entry)) (now (work .entry))) (now (name .entry)) size ⌝ }
 {
-    match look_up_sized(device, work, session, name, 0, size) {
+    let blocks = session.blocks;
+    let phase = session.phase;
+    let l = session.staged;
+    let n = staged_count(session);
+    match look_up_sized(device, work, blocks, phase, &l[0..n], name, 0, size) {
         Looked::Bad(why) => refused(session, why),
         Looked::At(i) => resize(device, work, session, i, size, 0, &name[0..0]),
     }

@@ -1,5 +1,5 @@
 //! The C interface of the proved store, as `include/purse.h` has it: the functions that take the
-//! session by value and give it back. A slice crosses as a pointer and a length; the pointer leads to
+//! numbers of the session by value and give them back; its cells are lent. A slice crosses as a pointer and a length; the pointer leads to
 //! an element even where the length is 0. `refusal` is 0, or the number of the refusal.
 
 /// `purse_session`. `phase`: 0 closed, 1 ready, 2 committing, 3 recovering; `place`: the stores
@@ -15,10 +15,33 @@ pub struct RawSession {
     pub staged: [u32; 32],
 }
 
+/// `purse_head`: the numbers of a session.
+#[repr(C)]
+#[derive(Clone, Copy)]
+pub struct Head {
+    pub blocks: u64,
+    pub phase: u64,
+    pub place: u64,
+    pub count: u64,
+}
+
+impl RawSession {
+    pub(crate) fn head(&self) -> Head {
+        Head { blocks: self.blocks, phase: self.phase, place: self.place, count: self.count }
+    }
+
+    pub(crate) fn keep(&mut self, h: Head) {
+        self.blocks = h.blocks;
+        self.phase = h.phase;
+        self.place = h.place;
+        self.count = h.count;
+    }
+}
+
 /// `purse_finished`. `fault`: the wrong record for refusal 10, else 0.
 #[repr(C)]
 pub struct Finished {
-    pub session: RawSession,
+    pub head: Head,
     pub refusal: u32,
     pub fault: u64,
 }
@@ -26,7 +49,7 @@ pub struct Finished {
 /// `purse_committed`.
 #[repr(C)]
 pub struct Committed {
-    pub session: RawSession,
+    pub head: Head,
     pub refusal: u32,
     pub stores: u64,
 }
@@ -34,7 +57,7 @@ pub struct Committed {
 /// `purse_advanced`. `number` 0: nothing is under way.
 #[repr(C)]
 pub struct Advanced {
-    pub session: RawSession,
+    pub head: Head,
     pub refusal: u32,
     pub block: u64,
     pub last: u64,
@@ -75,33 +98,34 @@ pub struct Extent {
 
 type Bytes = *const u8;
 type BytesMut = *mut u8;
-type Session = RawSession;
+type Cells = *const [u32; 32];
+type CellsMut = *mut [u32; 32];
 
 #[rustfmt::skip]
 extern "C" {
-    pub fn purse_format_v(device: BytesMut, len: usize, s: Session) -> Finished;
-    pub fn purse_open_v(device: Bytes, len: usize, s: Session) -> Finished;
-    pub fn purse_advance_v(device: BytesMut, len: usize, work: Bytes, work_len: usize, s: Session) -> Advanced;
-    pub fn purse_commit_v(device: Bytes, len: usize, work: Bytes, work_len: usize, s: Session) -> Committed;
-    pub fn purse_abort_v(device: Bytes, len: usize, work: Bytes, work_len: usize, s: Session) -> Finished;
-    pub fn purse_create_v(device: Bytes, len: usize, work: BytesMut, work_len: usize, s: Session,
+    pub fn purse_format_v(device: BytesMut, len: usize, head: Head, staged: CellsMut) -> Finished;
+    pub fn purse_open_v(device: Bytes, len: usize, head: Head, staged: CellsMut) -> Finished;
+    pub fn purse_advance_v(device: BytesMut, len: usize, work: Bytes, work_len: usize, head: Head, staged: CellsMut) -> Advanced;
+    pub fn purse_commit_v(device: Bytes, len: usize, work: Bytes, work_len: usize, head: Head, staged: CellsMut) -> Committed;
+    pub fn purse_abort_v(device: Bytes, len: usize, work: Bytes, work_len: usize, head: Head, staged: CellsMut) -> Finished;
+    pub fn purse_create_v(device: Bytes, len: usize, work: BytesMut, work_len: usize, head: Head, staged: CellsMut,
         name: Bytes, name_len: usize) -> Finished;
-    pub fn purse_remove_v(device: Bytes, len: usize, work: BytesMut, work_len: usize, s: Session,
+    pub fn purse_remove_v(device: Bytes, len: usize, work: BytesMut, work_len: usize, head: Head, staged: CellsMut,
         name: Bytes, name_len: usize) -> Finished;
-    pub fn purse_rename_v(device: Bytes, len: usize, work: BytesMut, work_len: usize, s: Session,
+    pub fn purse_rename_v(device: Bytes, len: usize, work: BytesMut, work_len: usize, head: Head, staged: CellsMut,
         name: Bytes, name_len: usize, new_name: Bytes, new_len: usize) -> Finished;
-    pub fn purse_write_v(device: Bytes, len: usize, work: BytesMut, work_len: usize, s: Session,
+    pub fn purse_write_v(device: Bytes, len: usize, work: BytesMut, work_len: usize, head: Head, staged: CellsMut,
         name: Bytes, name_len: usize, x: u64, bytes: Bytes, n: usize) -> Finished;
-    pub fn purse_set_size_v(device: Bytes, len: usize, work: BytesMut, work_len: usize, s: Session,
+    pub fn purse_set_size_v(device: Bytes, len: usize, work: BytesMut, work_len: usize, head: Head, staged: CellsMut,
         name: Bytes, name_len: usize, size: u64) -> Finished;
-    pub fn purse_read_v(device: Bytes, len: usize, work: Bytes, work_len: usize, s: Session,
+    pub fn purse_read_v(device: Bytes, len: usize, work: Bytes, work_len: usize, head: Head, staged: Cells,
         name: Bytes, name_len: usize, x: u64, buffer: BytesMut, n: usize) -> Counted;
-    pub fn purse_size_v(device: Bytes, len: usize, work: Bytes, work_len: usize, s: Session,
+    pub fn purse_size_v(device: Bytes, len: usize, work: Bytes, work_len: usize, head: Head, staged: Cells,
         name: Bytes, name_len: usize) -> Counted;
-    pub fn purse_free_count_v(device: Bytes, len: usize, work: Bytes, work_len: usize, s: Session) -> Counted;
-    pub fn purse_record_v(device: Bytes, len: usize, work: Bytes, work_len: usize, s: Session, i: u64) -> Recorded;
-    pub fn purse_nth_extent_v(device: Bytes, len: usize, work: Bytes, work_len: usize, s: Session,
+    pub fn purse_free_count_v(device: Bytes, len: usize, work: Bytes, work_len: usize, head: Head, staged: Cells) -> Counted;
+    pub fn purse_record_v(device: Bytes, len: usize, work: Bytes, work_len: usize, head: Head, staged: Cells, i: u64) -> Recorded;
+    pub fn purse_nth_extent_v(device: Bytes, len: usize, work: Bytes, work_len: usize, head: Head, staged: Cells,
         name: Bytes, name_len: usize, from: u64, n: u64, k: u64) -> Run;
-    pub fn purse_run_list_v(device: Bytes, len: usize, work: Bytes, work_len: usize, s: Session,
+    pub fn purse_run_list_v(device: Bytes, len: usize, work: Bytes, work_len: usize, head: Head, staged: Cells,
         name: Bytes, name_len: usize, from: u64, n: u64, list: *mut u32, cells: usize) -> Counted;
 }

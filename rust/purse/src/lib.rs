@@ -141,7 +141,7 @@ impl<'a> Store<'a> {
 
     /// Takes the session of an answer over.
     fn finish(&mut self, answer: ffi::Finished) -> Result<(), Refusal> {
-        self.session = answer.session;
+        self.session.keep(answer.head);
         settle(answer.refusal, answer.fault, ())
     }
 
@@ -181,7 +181,7 @@ impl Store<'_> {
     pub fn format(&mut self) -> Result<(), Refusal> {
         let mut own = 0;
         let (d, n) = lend_mut(self.device, &mut own);
-        let answer = unsafe { ffi::purse_format_v(d, n, self.session) };
+        let answer = unsafe { ffi::purse_format_v(d, n, self.session.head(), &mut self.session.staged) };
         self.finish(answer)
     }
 
@@ -189,7 +189,7 @@ impl Store<'_> {
     /// [`Store::stores`] to its end and open again. [`Store::open_whole`] does all of this.
     pub fn open(&mut self) -> Result<(), Refusal> {
         let (d, n) = lend(self.device);
-        let answer = unsafe { ffi::purse_open_v(d, n, self.session) };
+        let answer = unsafe { ffi::purse_open_v(d, n, self.session.head(), &mut self.session.staged) };
         self.finish(answer)
     }
 
@@ -197,8 +197,8 @@ impl Store<'_> {
     pub fn advance(&mut self) -> Result<Option<BlockStore>, Refusal> {
         let mut own = 0;
         let ((d, n), (w, m)) = (lend_mut(self.device, &mut own), lend(self.work));
-        let answer = unsafe { ffi::purse_advance_v(d, n, w, m, self.session) };
-        self.session = answer.session;
+        let answer = unsafe { ffi::purse_advance_v(d, n, w, m, self.session.head(), &mut self.session.staged) };
+        self.session.keep(answer.head);
         let store = BlockStore { block: answer.block, last: answer.last != 0, number: answer.number };
         settle(answer.refusal, 0, (answer.number != 0).then_some(store))
     }
@@ -207,15 +207,15 @@ impl Store<'_> {
     /// staged. The transaction counts once its list is stored, in the middle of them.
     pub fn commit(&mut self) -> Result<u64, Refusal> {
         let ((d, n), (w, m)) = (lend(self.device), lend(self.work));
-        let answer = unsafe { ffi::purse_commit_v(d, n, w, m, self.session) };
-        self.session = answer.session;
+        let answer = unsafe { ffi::purse_commit_v(d, n, w, m, self.session.head(), &mut self.session.staged) };
+        self.session.keep(answer.head);
         settle(answer.refusal, 0, answer.stores)
     }
 
     /// Empties the transaction.
     pub fn abort(&mut self) -> Result<(), Refusal> {
         let ((d, n), (w, m)) = (lend(self.device), lend(self.work));
-        let answer = unsafe { ffi::purse_abort_v(d, n, w, m, self.session) };
+        let answer = unsafe { ffi::purse_abort_v(d, n, w, m, self.session.head(), &mut self.session.staged) };
         self.finish(answer)
     }
 
@@ -223,7 +223,7 @@ impl Store<'_> {
     pub fn create(&mut self, name: &[u8]) -> Result<(), Refusal> {
         let mut own = 0;
         let ((d, n), (w, m), (a, l)) = (lend(self.device), lend_mut(self.work, &mut own), lend(name));
-        let answer = unsafe { ffi::purse_create_v(d, n, w, m, self.session, a, l) };
+        let answer = unsafe { ffi::purse_create_v(d, n, w, m, self.session.head(), &mut self.session.staged, a, l) };
         self.finish(answer)
     }
 
@@ -231,7 +231,7 @@ impl Store<'_> {
     pub fn remove(&mut self, name: &[u8]) -> Result<(), Refusal> {
         let mut own = 0;
         let ((d, n), (w, m), (a, l)) = (lend(self.device), lend_mut(self.work, &mut own), lend(name));
-        let answer = unsafe { ffi::purse_remove_v(d, n, w, m, self.session, a, l) };
+        let answer = unsafe { ffi::purse_remove_v(d, n, w, m, self.session.head(), &mut self.session.staged, a, l) };
         self.finish(answer)
     }
 
@@ -240,7 +240,7 @@ impl Store<'_> {
         let mut own = 0;
         let ((d, n), (w, m)) = (lend(self.device), lend_mut(self.work, &mut own));
         let ((a, l), (b, k)) = (lend(name), lend(new));
-        let answer = unsafe { ffi::purse_rename_v(d, n, w, m, self.session, a, l, b, k) };
+        let answer = unsafe { ffi::purse_rename_v(d, n, w, m, self.session.head(), &mut self.session.staged, a, l, b, k) };
         self.finish(answer)
     }
 
@@ -249,7 +249,7 @@ impl Store<'_> {
         let mut own = 0;
         let ((d, n), (w, m)) = (lend(self.device), lend_mut(self.work, &mut own));
         let ((a, l), (b, k)) = (lend(name), lend(bytes));
-        let answer = unsafe { ffi::purse_write_v(d, n, w, m, self.session, a, l, x, b, k) };
+        let answer = unsafe { ffi::purse_write_v(d, n, w, m, self.session.head(), &mut self.session.staged, a, l, x, b, k) };
         self.finish(answer)
     }
 
@@ -257,7 +257,7 @@ impl Store<'_> {
     pub fn set_size(&mut self, name: &[u8], size: u64) -> Result<(), Refusal> {
         let mut own = 0;
         let ((d, n), (w, m), (a, l)) = (lend(self.device), lend_mut(self.work, &mut own), lend(name));
-        let answer = unsafe { ffi::purse_set_size_v(d, n, w, m, self.session, a, l, size) };
+        let answer = unsafe { ffi::purse_set_size_v(d, n, w, m, self.session.head(), &mut self.session.staged, a, l, size) };
         self.finish(answer)
     }
 
@@ -267,28 +267,28 @@ impl Store<'_> {
         let mut own = 0;
         let ((d, n), (w, m)) = (lend(self.device), lend(self.work));
         let ((a, l), (b, k)) = (lend(name), lend_mut(buffer, &mut own));
-        let answer = unsafe { ffi::purse_read_v(d, n, w, m, self.session, a, l, x, b, k) };
+        let answer = unsafe { ffi::purse_read_v(d, n, w, m, self.session.head(), &self.session.staged, a, l, x, b, k) };
         settle(answer.refusal, 0, answer.count as usize)
     }
 
     /// The size of a file in bytes.
     pub fn size(&self, name: &[u8]) -> Result<u64, Refusal> {
         let ((d, n), (w, m), (a, l)) = (lend(self.device), lend(self.work), lend(name));
-        let answer = unsafe { ffi::purse_size_v(d, n, w, m, self.session, a, l) };
+        let answer = unsafe { ffi::purse_size_v(d, n, w, m, self.session.head(), &self.session.staged, a, l) };
         settle(answer.refusal, 0, answer.count)
     }
 
     /// The number of free blocks.
     pub fn free_count(&self) -> Result<u64, Refusal> {
         let ((d, n), (w, m)) = (lend(self.device), lend(self.work));
-        let answer = unsafe { ffi::purse_free_count_v(d, n, w, m, self.session) };
+        let answer = unsafe { ffi::purse_free_count_v(d, n, w, m, self.session.head(), &self.session.staged) };
         settle(answer.refusal, 0, answer.count)
     }
 
     /// Name and size of record `i`, none if it is empty or past 127.
     pub fn record(&self, i: u64) -> Result<Option<File>, Refusal> {
         let ((d, n), (w, m)) = (lend(self.device), lend(self.work));
-        let answer = unsafe { ffi::purse_record_v(d, n, w, m, self.session, i) };
+        let answer = unsafe { ffi::purse_record_v(d, n, w, m, self.session.head(), &self.session.staged, i) };
         let file = File { name: answer.name, size: answer.size };
         settle(answer.refusal, 0, (answer.used != 0).then_some(file))
     }
@@ -297,7 +297,7 @@ impl Store<'_> {
     /// counted from 0; none past the last.
     pub fn nth_extent(&self, name: &[u8], from: u64, count: u64, k: u64) -> Result<Option<Extent>, Refusal> {
         let ((d, n), (w, m), (a, l)) = (lend(self.device), lend(self.work), lend(name));
-        let answer = unsafe { ffi::purse_nth_extent_v(d, n, w, m, self.session, a, l, from, count, k) };
+        let answer = unsafe { ffi::purse_nth_extent_v(d, n, w, m, self.session.head(), &self.session.staged, a, l, from, count, k) };
         let extent = Extent { first: answer.first, count: answer.count };
         settle(answer.refusal, 0, (answer.count != 0).then_some(extent))
     }
@@ -308,7 +308,8 @@ impl Store<'_> {
         let ((d, n), (w, m)) = (lend(self.device), lend(self.work));
         let ((a, l), (e, k)) = (lend(name), lend_mut(list, &mut own));
         // An extent is two cells of 32 bits, first and count.
-        let answer = unsafe { ffi::purse_run_list_v(d, n, w, m, self.session, a, l, from, count, e.cast(), 2 * k) };
+        let answer =
+            unsafe { ffi::purse_run_list_v(d, n, w, m, self.session.head(), &self.session.staged, a, l, from, count, e.cast(), 2 * k) };
         settle(answer.refusal, 0, answer.count as usize)
     }
 }

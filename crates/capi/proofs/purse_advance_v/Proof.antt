@@ -2,6 +2,7 @@ use Rattle.spec.specs.declared.Session.{Session}
 use Rattle.spec.specs.Transaction.{stateOf}
 use Rattle.spec.specs.Calls.{advance}
 use Rattle.mirror.proofs.Laws.{advances}
+use mathlib.Core.Path.{refl}
 use borrow.Author.Needs.{needs}
 use Rattle.capi.proofs.purse_advance_v.Statement.{statement}
 use Rattle.capi.proofs.purse_advance_v.Tie as tie
@@ -19,9 +20,7 @@ same-length : tie.Need-same-length
 same-length c = search needs
 
 returns : tie.Need-returns
-returns c =
-    let a = c .before .before .before .before .before .before .before .before .args in
-    advances (λ (s : Session). advance (stateOf s (a .device .now) (a .work .now))) _ _ (c .before .before .before .before .before .decode .ensures) _ _ _ _ (c .before .before .before .advance .ensures) _ (c .advanced .ensures)
+returns c = let a = c .before .before .before .before .before .before .before .before .before .before .before .args in advances (λ (s : Session). advance (stateOf s (a .device .now) (a .work .now))) _ _ (c .before .before .before .before .before .before .before .decode .ensures) _ _ _ _ (c .before .before .before .before .before .advance .ensures) _ (c .advanced .ensures) _ refl
 
 pub purse-advance-v-spec : {M : Type 1} → statement M
 purse-advance-v-spec =

@@ -2,6 +2,7 @@ use Rattle.spec.specs.declared.Session.{Session}
 use Rattle.spec.specs.Transaction.{stateOf}
 use Rattle.spec.specs.Calls.{create}
 use Rattle.mirror.proofs.Laws.{finishes}
+use mathlib.Core.Path.{refl}
 use borrow.Author.Needs.{needs}
 use Rattle.capi.proofs.purse_create_v.Statement.{statement}
 use Rattle.capi.proofs.purse_create_v.Tie as tie
@@ -19,9 +20,7 @@ same-length : tie.Need-same-length
 same-length c = search needs
 
 returns : tie.Need-returns
-returns c =
-    let a = c .before .before .before .before .before .before .before .before .before .args in
-    finishes (λ (s : Session). create (stateOf s (a .device .now) (a .work .now)) (a .name .now)) _ _ (c .before .before .before .before .before .decode .ensures) _ _ _ _ (c .before .before .before .create .ensures) _ (c .finished .ensures)
+returns c = let a = c .before .before .before .before .before .before .before .before .before .before .before .before .args in finishes (λ (s : Session). create (stateOf s (a .device .now) (a .work .now)) (a .name .now)) _ _ (c .before .before .before .before .before .before .before .decode .ensures) _ _ _ _ (c .before .before .before .before .before .create .ensures) _ (c .finished .ensures) _ refl
 
 pub purse-create-v-spec : {M : Type 1} → statement M
 purse-create-v-spec =

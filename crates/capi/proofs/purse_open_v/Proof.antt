@@ -2,6 +2,7 @@ use Rattle.spec.specs.declared.Session.{Session}
 use Rattle.spec.specs.Transaction.{stateOf}
 use Rattle.spec.specs.Calls.{openStore}
 use Rattle.mirror.proofs.Laws.{finishes}
+use mathlib.Core.Path.{refl}
 use borrow.Author.Needs.{needs}
 use Rattle.capi.proofs.purse_open_v.Statement.{statement}
 use Rattle.capi.proofs.purse_open_v.Tie as tie
@@ -16,9 +17,7 @@ finished-requires : tie.Need-finished-requires
 finished-requires c κs = search needs
 
 returns : tie.Need-returns
-returns c =
-    let a = c .before .before .before .before .args in
-    λ w. finishes (λ (s : Session). openStore (stateOf s (a .device .now) w)) _ _ (c .before .before .decode .ensures) _ _ _ _ (c .before .open-store .ensures w) _ (c .finished .ensures)
+returns c = let a = c .before .before .before .before .before .before .before .args in λ w. finishes (λ (s : Session). openStore (stateOf s (a .device .now) w)) _ _ (c .before .before .before .before .decode .ensures) _ _ _ _ (c .before .before .before .open-store .ensures w) _ (c .finished .ensures) _ refl
 
 pub purse-open-v-spec : {M : Type 1} → statement M
 purse-open-v-spec =

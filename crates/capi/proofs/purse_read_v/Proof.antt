@@ -1,16 +1,33 @@
+use native.Mathlib.Omega.{arith}
+use mathlib.Core.Path.{_≡_, refl}
+use lib.ListN.{length}
 use Rattle.spec.specs.declared.Session.{Session}
 use Rattle.spec.specs.Transaction.{stateOf}
 use Rattle.spec.specs.Calls.{read}
+use Rattle.mirror.specs.Mirror.{decode}
 use Rattle.mirror.proofs.Laws.{reads}
+use Rattle.capi.proofs.Laws.{seen, few}
 use borrow.Author.Needs.{needs}
 use Rattle.capi.proofs.purse_read_v.Statement.{statement}
 use Rattle.capi.proofs.purse_read_v.Tie as tie
 
-decode-requires : tie.Need-decode-requires
-decode-requires c κs = search needs
+phase-in-requires : tie.Need-phase-in-requires
+phase-in-requires c κs = search needs
 
-read-requires : tie.Need-read-requires
-read-requires c κs = search needs
+staged-in-requires : tie.Need-staged-in-requires
+staged-in-requires c κs = search needs
+
+sub-used : tie.Need-sub-used
+sub-used c = search needs
+
+part-used-start : tie.Need-part-used-start
+part-used-start c = search needs
+
+part-used-end : tie.Need-part-used-end
+part-used-end c = let l : length (c .before .before .before .before .before .before .before .args .staged .now) ≡ 32 = search needs in omega (arith, l, c .staged-in .ensures)
+
+read-in-requires : tie.Need-read-in-requires
+read-in-requires c κs = let l : length (c .before .before .before .before .before .before .before .before .before .args .staged .now) ≡ 32 = search needs in few (c .before .before .before .before .before .before .before .before .before .args .head) (c .before .before .before .before .before .before .before .before .before .args .staged .now) _ l (c .before .before .staged-in .ensures)
 
 counted-requires : tie.Need-counted-requires
 counted-requires c κs = search needs
@@ -19,10 +36,19 @@ same-length : tie.Need-same-length
 same-length c = search needs
 
 returns : tie.Need-returns
-returns c =
-    let a = c .before .before .before .before .before .before .before .before .before .before .args in
-    reads (λ (s : Session). read (stateOf s (a .device .now) (a .work .now)) (a .name .now) (a .x) (a .buffer .now)) _ _ (c .before .before .before .before .before .decode .ensures) _ _ _ _ _ (c .before .before .before .read .ensures) _ (c .counted .ensures)
+returns c = let a = c .before .before .before .before .before .before .before .before .before .before .before .before .before .args in let l : length (a .staged .now) ≡ 32 = search (needs, c .before .before .before .before .before .before .before .before .before .before .before .before .before .good) in let s = decode (a .head) (a .staged .now) in
+    reads (λ (x : Session). read (stateOf x (a .device .now) (a .work .now)) (a .name .now) (a .x) (a .buffer .now)) s s refl _ _ _ _ _ (c .before .before .before .read-in .ensures s (seen (a .head) (a .staged .now) _ l (c .before .before .before .before .before .before .staged-in .ensures) _ (c .before .before .before .before .before .before .before .before .phase-in .ensures))) _ (c .counted .ensures)
 
 pub purse-read-v-spec : {M : Type 1} → statement M
 purse-read-v-spec =
-    tie.close (tie.spec decode-requires read-requires counted-requires same-length returns)
+    tie.close
+    (tie.spec
+    phase-in-requires
+    staged-in-requires
+    sub-used
+    part-used-start
+    part-used-end
+    read-in-requires
+    counted-requires
+    same-length
+    returns)

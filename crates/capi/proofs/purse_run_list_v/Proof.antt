@@ -1,13 +1,31 @@
-use Rattle.capi.proofs.Laws.{at-decoded}
+use native.Mathlib.Omega.{arith}
+use mathlib.Core.Path.{_≡_}
+use lib.ListN.{length}
+use Rattle.spec.specs.Transaction.{stateOf}
+use Rattle.spec.specs.Calls.{runList}
+use Rattle.mirror.specs.Mirror.{decode, extentsOf}
+use Rattle.capi.proofs.Laws.{seen, few, in-numbers}
 use borrow.Author.Needs.{needs}
 use Rattle.capi.proofs.purse_run_list_v.Statement.{statement}
 use Rattle.capi.proofs.purse_run_list_v.Tie as tie
 
-decode-requires : tie.Need-decode-requires
-decode-requires c κs = search needs
+phase-in-requires : tie.Need-phase-in-requires
+phase-in-requires c κs = search needs
+
+staged-in-requires : tie.Need-staged-in-requires
+staged-in-requires c κs = search needs
+
+sub-used : tie.Need-sub-used
+sub-used c = search needs
+
+part-used-start : tie.Need-part-used-start
+part-used-start c = search needs
+
+part-used-end : tie.Need-part-used-end
+part-used-end c = let l : length (c .before .before .before .before .before .before .before .args .staged .now) ≡ 32 = search needs in omega (arith, l, c .staged-in .ensures)
 
 list-runs-requires : tie.Need-list-runs-requires
-list-runs-requires c κs = search needs
+list-runs-requires c κs = let l : length (c .before .before .before .before .before .before .before .before .before .args .staged .now) ≡ 32 = search needs in few (c .before .before .before .before .before .before .before .before .before .args .head) (c .before .before .before .before .before .before .before .before .before .args .staged .now) _ l (c .before .before .staged-in .ensures)
 
 counted-requires : tie.Need-counted-requires
 counted-requires c κs = search needs
@@ -16,15 +34,18 @@ same-length : tie.Need-same-length
 same-length c = search needs
 
 returns : tie.Need-returns
-returns c =
-    let a = c .before .before .before .before .before .before .before .before .before .before .args in
-    at-decoded _ _ _ _ (a .device .now) (a .work .now) (a .name .now) (a .from) (a .n) _ _ (c .counted .ensures) (c .before .before .before .before .before .decode .ensures) (c .before .before .before .list-runs .ensures)
+returns c = let a = c .before .before .before .before .before .before .before .before .before .before .before .before .before .args in let l : length (a .staged .now) ≡ 32 = search (needs, c .before .before .before .before .before .before .before .before .before .before .before .before .before .good) in
+    in-numbers _ _ _ _ (runList (stateOf (decode (a .head) (a .staged .now)) (a .device .now) (a .work .now)) (a .name .now) (a .from) (a .n) (extentsOf (a .list .now))) (c .counted .ensures) (c .before .before .before .list-runs .ensures (decode (a .head) (a .staged .now)) (seen (a .head) (a .staged .now) _ l (c .before .before .before .before .before .before .staged-in .ensures) _ (c .before .before .before .before .before .before .before .before .phase-in .ensures)))
 
 pub purse-run-list-v-spec : {M : Type 1} → statement M
 purse-run-list-v-spec =
     tie.close
     (tie.spec
-    decode-requires
+    phase-in-requires
+    staged-in-requires
+    sub-used
+    part-used-start
+    part-used-end
     list-runs-requires
     counted-requires
     same-length

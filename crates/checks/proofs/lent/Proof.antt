@@ -9,26 +9,19 @@ is-allowed-requires : tie.Need-is-allowed-requires
 is-allowed-requires c κs = search needs
 
 returns : tie.Need-returns
-returns c =
-    lent-allowed (c .before .before .before .before .args .session) (c .before .before .before .before .args .device .now) (c .before .before .before .before .args .work .now) (sym (c .before .is-allowed .ensures) ∙ not-true _ (c .if1 .taken))
+returns c = λ s q. lent-allowed s (c .before .before .before .before .args .device .now) (c .before .before .before .before .args .work .now) (sym (c .before .is-allowed .ensures) ∙ not-true _ (c .if1 .taken))
 
 same-size-requires : tie.Need-same-size-requires
 same-size-requires c κs = search needs
 
 returns-2 : tie.Need-returns-2
-returns-2 c =
-    lent-device (c .before .before .before .before .before .before .args .session) (c .before .before .before .before .before .before .args .device .now) (c .before .before .before .before .before .before .args .work .now) (sym (c .before .before .before .is-allowed .ensures) ∙ not-false _ (c .before .before .if1 .left))
-    (sym (c .before .same-size .ensures) ∙ not-true _ (c .if2 .taken))
+returns-2 c = λ s q. lent-device s (c .before .before .before .before .before .before .args .device .now) (c .before .before .before .before .before .before .args .work .now) _ q (sym (c .before .before .before .is-allowed .ensures) ∙ not-false _ (c .before .before .if1 .left)) (sym (c .before .same-size .ensures) ∙ not-true _ (c .if2 .taken))
 
 returns-3 : tie.Need-returns-3
-returns-3 c =
-    lent-work (c .before .before .before .before .before .before .before .args .session) (c .before .before .before .before .before .before .before .args .device .now) (c .before .before .before .before .before .before .before .args .work .now) (sym (c .before .before .before .before .is-allowed .ensures) ∙ not-false _ (c .before .before .before .if1 .left))
-    (sym (c .before .before .same-size .ensures) ∙ not-false _ (c .before .if2 .left)) (c .if3 .taken)
+returns-3 c = λ s q. lent-work s (c .before .before .before .before .before .before .before .args .device .now) (c .before .before .before .before .before .before .before .args .work .now) _ q (sym (c .before .before .before .before .is-allowed .ensures) ∙ not-false _ (c .before .before .before .if1 .left)) (sym (c .before .before .same-size .ensures) ∙ not-false _ (c .before .if2 .left)) (c .if3 .taken)
 
 returns-4 : tie.Need-returns-4
-returns-4 c =
-    lent-fine (c .before .before .before .before .before .before .before .args .session) (c .before .before .before .before .before .before .before .args .device .now) (c .before .before .before .before .before .before .before .args .work .now) (sym (c .before .before .before .before .is-allowed .ensures) ∙ not-false _ (c .before .before .before .if1 .left))
-    (sym (c .before .before .same-size .ensures) ∙ not-false _ (c .before .if2 .left)) (c .if3 .left)
+returns-4 c = λ s q. lent-fine s (c .before .before .before .before .before .before .before .args .device .now) (c .before .before .before .before .before .before .before .args .work .now) _ q (sym (c .before .before .before .before .is-allowed .ensures) ∙ not-false _ (c .before .before .before .if1 .left)) (sym (c .before .before .same-size .ensures) ∙ not-false _ (c .before .if2 .left)) (c .if3 .left)
 
 pub lent-spec : {M : Type 1} → statement M
 lent-spec =

@@ -19,20 +19,16 @@ is-name-requires : tie.Need-is-name-requires
 is-name-requires c κs = search needs
 
 returns : tie.Need-returns
-returns c =
-    named-bad (c .before .before .before .before .before .before .before .before .args .session) (c .before .before .before .before .before .before .before .before .args .device .now) (c .before .before .before .before .before .before .before .before .args .work .now) (c .before .before .before .before .before .before .before .before .args .name .now) (sym (ap resultOf (c .before .before .enum-told .given .1)) ∙ c .before .before .before .before .lent .ensures) (sym (c .before .is-name .ensures) ∙ not-true _ (c .if1 .taken))
+returns c = λ s q. named-bad s (c .before .before .before .before .before .before .before .before .args .device .now) (c .before .before .before .before .before .before .before .before .args .work .now) (c .before .before .before .before .before .before .before .before .args .name .now) (sym (ap resultOf (c .before .before .enum-told .given .1)) ∙ c .before .before .before .before .lent .ensures s (q .size)) (sym (c .before .is-name .ensures) ∙ not-true _ (c .if1 .taken))
 
 ready-phase-requires : tie.Need-ready-phase-requires
 ready-phase-requires c κs = search needs
 
 returns-2 : tie.Need-returns-2
-returns-2 c =
-    named-lent (c .before .before .before .before .before .before .before .args .session) (c .before .before .before .before .before .before .before .args .device .now) (c .before .before .before .before .before .before .before .args .work .now) (c .before .before .before .before .before .before .before .args .name .now) _ (sym (ap resultOf (c .before .why .given .1)) ∙ c .before .before .before .lent .ensures)
+returns-2 c = λ s q. named-lent s (c .before .before .before .before .before .before .before .args .device .now) (c .before .before .before .before .before .before .before .args .work .now) (c .before .before .before .before .before .before .before .args .name .now) _ (sym (ap resultOf (c .before .why .given .1)) ∙ c .before .before .before .lent .ensures s (q .size))
 
 returns-3 : tie.Need-returns-3
-returns-3 c =
-    ap resultOf (c .ready-phase .ensures)
-    ∙ named-fine (c .before .before .before .before .before .before .before .before .before .args .session) (c .before .before .before .before .before .before .before .before .before .args .device .now) (c .before .before .before .before .before .before .before .before .before .args .work .now) (c .before .before .before .before .before .before .before .before .before .args .name .now) (sym (ap resultOf (c .before .before .before .enum-told .given .1)) ∙ c .before .before .before .before .before .lent .ensures) (sym (c .before .before .is-name .ensures) ∙ not-false _ (c .before .if1 .left))
+returns-3 c = λ s q. ap resultOf (c .ready-phase .ensures) ∙ named-fine s (c .before .before .before .before .before .before .before .before .before .args .device .now) (c .before .before .before .before .before .before .before .before .before .args .work .now) (c .before .before .before .before .before .before .before .before .before .args .name .now) _ (q .at-phase) (sym (ap resultOf (c .before .before .before .enum-told .given .1)) ∙ c .before .before .before .before .before .lent .ensures s (q .size)) (sym (c .before .before .is-name .ensures) ∙ not-false _ (c .before .if1 .left))
 
 pub named-spec : {M : Type 1} → statement M
 named-spec =

@@ -18,13 +18,10 @@ ready-phase-requires : tie.Need-ready-phase-requires
 ready-phase-requires c κs = search needs
 
 returns : tie.Need-returns
-returns c =
-    ready-bad (c .before .before .before .before .before .before .args .session) (c .before .before .before .before .before .before .args .device .now) (c .before .before .before .before .before .before .args .work .now) _ (sym (ap resultOf (c .before .why .given .1)) ∙ c .before .before .before .lent .ensures)
+returns c = λ s q. ready-bad s (c .before .before .before .before .before .before .args .device .now) (c .before .before .before .before .before .before .args .work .now) _ (sym (ap resultOf (c .before .why .given .1)) ∙ c .before .before .before .lent .ensures s (q .size))
 
 returns-2 : tie.Need-returns-2
-returns-2 c =
-    ap resultOf (c .ready-phase .ensures)
-    ∙ ready-fine (c .before .before .before .before .before .before .args .session) (c .before .before .before .before .before .before .args .device .now) (c .before .before .before .before .before .before .args .work .now) (sym (ap resultOf (c .before .enum-told .given .1)) ∙ c .before .before .before .lent .ensures)
+returns-2 c = λ s q. ap resultOf (c .ready-phase .ensures) ∙ ready-fine s (c .before .before .before .before .before .before .args .device .now) (c .before .before .before .before .before .before .args .work .now) _ (q .at-phase) (sym (ap resultOf (c .before .enum-told .given .1)) ∙ c .before .before .before .lent .ensures s (q .size))
 
 pub ready-spec : {M : Type 1} → statement M
 ready-spec =

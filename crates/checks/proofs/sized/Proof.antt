@@ -19,22 +19,22 @@ is-name-requires : tie.Need-is-name-requires
 is-name-requires c κs = search needs
 
 returns : tie.Need-returns
-returns c = sized-name (c .before .before .before .before .before .before .before .before .args .session) (c .before .before .before .before .before .before .before .before .args .device .now) (c .before .before .before .before .before .before .before .before .args .work .now) (c .before .before .before .before .before .before .before .before .args .name .now) _ (sym (ap resultOf (c .before .before .enum-told .given .1)) ∙ c .before .before .before .before .lent .ensures) (sym (c .before .is-name .ensures) ∙ not-true _ (c .if1 .taken))
+returns c = λ s q. sized-name s (c .before .before .before .before .before .before .before .before .args .device .now) (c .before .before .before .before .before .before .before .before .args .work .now) (c .before .before .before .before .before .before .before .before .args .name .now) _ (sym (ap resultOf (c .before .before .enum-told .given .1)) ∙ c .before .before .before .before .lent .ensures s (q .size)) (sym (c .before .is-name .ensures) ∙ not-true _ (c .if1 .taken))
 
 size-fits-requires : tie.Need-size-fits-requires
 size-fits-requires c κs = search needs
 
 returns-2 : tie.Need-returns-2
-returns-2 c = sized-large (c .before .before .before .before .before .before .before .before .before .before .args .session) (c .before .before .before .before .before .before .before .before .before .before .args .device .now) (c .before .before .before .before .before .before .before .before .before .before .args .work .now) (c .before .before .before .before .before .before .before .before .before .before .args .name .now) _ (sym (ap resultOf (c .before .before .before .before .enum-told .given .1)) ∙ c .before .before .before .before .before .before .lent .ensures) (sym (c .before .before .before .is-name .ensures) ∙ not-false _ (c .before .before .if1 .left)) (sym (c .before .size-fits .ensures) ∙ not-true _ (c .if2 .taken))
+returns-2 c = λ s q. sized-large s (c .before .before .before .before .before .before .before .before .before .before .args .device .now) (c .before .before .before .before .before .before .before .before .before .before .args .work .now) (c .before .before .before .before .before .before .before .before .before .before .args .name .now) _ (sym (ap resultOf (c .before .before .before .before .enum-told .given .1)) ∙ c .before .before .before .before .before .before .lent .ensures s (q .size)) (sym (c .before .before .before .is-name .ensures) ∙ not-false _ (c .before .before .if1 .left)) (sym (c .before .size-fits .ensures) ∙ not-true _ (c .if2 .taken))
 
 ready-phase-requires : tie.Need-ready-phase-requires
 ready-phase-requires c κs = search needs
 
 returns-3 : tie.Need-returns-3
-returns-3 c = sized-lent (c .before .before .before .before .before .before .before .args .session) (c .before .before .before .before .before .before .before .args .device .now) (c .before .before .before .before .before .before .before .args .work .now) (c .before .before .before .before .before .before .before .args .name .now) _ _ (sym (ap resultOf (c .before .why .given .1)) ∙ c .before .before .before .lent .ensures)
+returns-3 c = λ s q. sized-lent s (c .before .before .before .before .before .before .before .args .device .now) (c .before .before .before .before .before .before .before .args .work .now) (c .before .before .before .before .before .before .before .args .name .now) _ _ (sym (ap resultOf (c .before .why .given .1)) ∙ c .before .before .before .lent .ensures s (q .size))
 
 returns-4 : tie.Need-returns-4
-returns-4 c = ap resultOf (c .ready-phase .ensures) ∙ sized-fine (c .before .before .before .before .before .before .before .before .before .before .before .args .session) (c .before .before .before .before .before .before .before .before .before .before .before .args .device .now) (c .before .before .before .before .before .before .before .before .before .before .before .args .work .now) (c .before .before .before .before .before .before .before .before .before .before .before .args .name .now) _ (sym (ap resultOf (c .before .before .before .before .before .enum-told .given .1)) ∙ c .before .before .before .before .before .before .before .lent .ensures) (sym (c .before .before .before .before .is-name .ensures) ∙ not-false _ (c .before .before .before .if1 .left)) (sym (c .before .before .size-fits .ensures) ∙ not-false _ (c .before .if2 .left))
+returns-4 c = λ s q. ap resultOf (c .ready-phase .ensures) ∙ sized-fine s (c .before .before .before .before .before .before .before .before .before .before .before .args .device .now) (c .before .before .before .before .before .before .before .before .before .before .before .args .work .now) (c .before .before .before .before .before .before .before .before .before .before .before .args .name .now) _ _ (q .at-phase) (sym (ap resultOf (c .before .before .before .before .before .enum-told .given .1)) ∙ c .before .before .before .before .before .before .before .lent .ensures s (q .size)) (sym (c .before .before .before .before .is-name .ensures) ∙ not-false _ (c .before .before .before .if1 .left)) (sym (c .before .before .size-fits .ensures) ∙ not-false _ (c .before .if2 .left))
 
 pub sized-spec : {M : Type 1} → statement M
 sized-spec =

@@ -1,40 +1,74 @@
-use mathlib.Core.Path.{_≡_, ap, _∙_}
+use Prim.Native.Nat.{_-_, _%_, _≤_}
+use mathlib.Core.Path.{_≡_, refl, sym, _∙_}
 use native.Mathlib.Omega.{arith}
-use lib.ListN.{length}
-use Rattle.spec.specs.Disk.{Disk}
-use Rattle.spec.specs.Inode.{find}
-use Rattle.transaction.proofs.Laws.{view-lent, lent-few}
-use Rattle.inode.specs.Records.{foundOf}
 use borrow.Author.Needs.{needs}
+use Rattle.transaction.specs.Places.{viewIn}
+use Rattle.transaction.proofs.Laws.{view-in-length}
+use Rattle.inode.specs.Records.{lowestTo}
+use Rattle.inode.proofs.Laws.{namedAt, find-all, find-hit, find-miss, find-other, lowest-none}
 use Rattle.inode.proofs.find.Statement.{statement}
 use Rattle.inode.proofs.find.Tie as tie
 
-staged-count-requires : tie.Need-staged-count-requires
-staged-count-requires c κs = search needs
+abbrev Inv-loop : tie.InvT-loop
+Inv-loop device work staged name key first₀ first = (first ≤ 128) × (first % 16 ≡ 0) × (lowestTo 128 (namedAt (viewIn staged device work) name) 0 ≡ lowestTo 128 (namedAt (viewIn staged device work) name) first)
 
-sub-find-in : tie.Need-sub-find-in
-sub-find-in c = search needs
+abbrev μ-loop : tie.MeasureT-loop
+μ-loop device work staged name key first₀ first = 128 - first
 
-part-find-in-start : tie.Need-part-find-in-start
-part-find-in-start c = search needs
+returns : tie.Need-returns Inv-loop μ-loop
+returns c = let a = c .before .before .before .before .before .args in find-other _ _ (view-in-length (a .staged .now) (a .device .now) (a .work .now)) (c .if1 .taken)
 
-part-find-in-end : tie.Need-part-find-in-end
-part-find-in-end c = let l : length (c .before .before .before .before .before .before .args .s .staged) ≡ 32 = search needs in omega (arith, l, c .before .staged-count .ensures .1)
+key-of-requires : tie.Need-key-of-requires Inv-loop μ-loop
+key-of-requires c κs = search needs
 
-find-in-requires : tie.Need-find-in-requires
-find-in-requires c κs = let l : length (c .before .before .before .before .before .before .before .args .s .staged) ≡ 32 = search needs in lent-few (c .before .before .before .before .before .before .before .args .s) _ l (c .before .before .staged-count .ensures .1)
+loop-holds : tie.Need-loop-holds Inv-loop μ-loop
+loop-holds c = (omega arith, omega arith, refl)
 
-returns : tie.Need-returns
-returns c = let l : length (c .before .before .before .before .before .before .before .before .args .s .staged) ≡ 32 = search needs in let a = c .before .before .before .before .before .before .before .before .args in
-    c .find-in .ensures ∙ ap (λ (v : Disk). foundOf (find v (a .name .now))) (view-lent (a .s) (a .device .now) (a .work .now) _ l (c .before .before .before .staged-count .ensures .0))
+inode-block-in-requires : tie.Need-inode-block-in-requires Inv-loop μ-loop
+inode-block-in-requires c κs = search needs
+
+find-block-requires : tie.Need-find-block-requires Inv-loop μ-loop
+find-block-requires c κs = search needs
+
+enum-known-i : tie.Need-enum-known-i Inv-loop μ-loop
+enum-known-i c = search needs
+
+returns-2 : tie.Need-returns-2 Inv-loop μ-loop
+returns-2 c = let a = c .before .before .before .before .before .before .before .before .before .before .before .before .before .args in let l = c .before .before .before .before .before .before .loop in let k = c .before .before .before .before .before .before .before .key-of .ensures in
+    sym (find-all (viewIn (a .staged .now) (a .device .now) (a .work .now)) _ ∙ l .inv .2 ∙ find-hit _ _ _ _ _ (omega arith) (l .inv .1) (c .before .before .before .before .inode-block-in .ensures .0) (c .before .before .before .find-block .ensures _ (k .1) (k .0)) _ (c .before .i .given .1))
+
+enum-told : tie.Need-enum-told Inv-loop μ-loop
+enum-told c = search needs
+
+add-first : tie.Need-add-first Inv-loop μ-loop
+add-first c = search needs
+
+loop-less : tie.Need-loop-less Inv-loop μ-loop
+loop-less c = search needs
+
+loop-again : tie.Need-loop-again Inv-loop μ-loop
+loop-again c = let l = c .before .before .before .before .before .loop in let k = c .before .before .before .before .before .before .key-of .ensures in
+    (omega arith, omega arith, l .inv .2 ∙ find-miss _ _ _ _ _ (omega arith) (l .inv .1) (c .before .before .before .inode-block-in .ensures .0) (c .before .before .find-block .ensures _ (k .1) (k .0)) (c .enum-told .given .1))
+
+returns-3 : tie.Need-returns-3 Inv-loop μ-loop
+returns-3 c = let a = c .before .before .before .before .before .before .before .before .args in
+    sym (find-all (viewIn (a .staged .now) (a .device .now) (a .work .now)) _ ∙ c .before .loop .inv .2 ∙ lowest-none _ _ _ (omega arith))
 
 pub find-spec : {M : Type 1} → statement M
 find-spec =
     tie.close
     (tie.spec
-    staged-count-requires
-    sub-find-in
-    part-find-in-start
-    part-find-in-end
-    find-in-requires
-    returns)
+    Inv-loop
+    μ-loop
+    returns
+    key-of-requires
+    loop-holds
+    inode-block-in-requires
+    find-block-requires
+    enum-known-i
+    returns-2
+    enum-told
+    add-first
+    loop-less
+    loop-again
+    returns-3)

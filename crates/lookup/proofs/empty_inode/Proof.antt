@@ -1,7 +1,10 @@
-use mathlib.Core.Path.{sym, _∙_}
+use mathlib.Core.Path.{sym, ap, _∙_}
 use mathlib.Core.List.{[]}
+use Rattle.spec.specs.Disk.{Disk}
+use Rattle.spec.specs.Inode.{findEmpty}
+use Rattle.inode.specs.Records.{foundOf}
 use Rattle.inode.proofs.Laws.{find-empty-low}
-use Rattle.lookup.proofs.Laws.{empty-at, empty-nothing}
+use Rattle.lookup.proofs.Laws.{view-of, empty-at, empty-nothing}
 use borrow.Author.Needs.{needs}
 use Rattle.lookup.proofs.empty_inode.Statement.{statement}
 use Rattle.lookup.proofs.empty_inode.Tie as tie
@@ -16,11 +19,12 @@ enum-told : tie.Need-enum-told
 enum-told c = search needs
 
 returns : tie.Need-returns
-returns c = let f = sym (c .before .before .before .find-empty .ensures) ∙ c .before .i .given .1 in
-    (empty-at (c .before .before .before .before .before .before .args .session) (c .before .before .before .before .before .before .args .device .now) (c .before .before .before .before .before .before .args .work .now) [] _ f, find-empty-low _ _ f)
+returns c = let a = c .before .before .before .before .before .before .before .args in let f = c .before .before .before .find-empty .ensures in
+    (λ s e. empty-at s (a .device .now) (a .work .now) [] _ (sym (f ∙ ap (λ (v : Disk). foundOf (findEmpty v)) (view-of s (a .device .now) (a .work .now) _ e)) ∙ c .before .i .given .1), find-empty-low _ _ (sym f ∙ c .before .i .given .1))
 
 returns-2 : tie.Need-returns-2
-returns-2 c = (empty-nothing (c .before .before .before .before .before .args .session) (c .before .before .before .before .before .args .device .now) (c .before .before .before .before .before .args .work .now) [] (sym (c .before .before .find-empty .ensures) ∙ c .enum-told .given .1), tt)
+returns-2 c = let a = c .before .before .before .before .before .before .args in
+    (λ s e. empty-nothing s (a .device .now) (a .work .now) [] (sym (c .before .before .find-empty .ensures ∙ ap (λ (v : Disk). foundOf (findEmpty v)) (view-of s (a .device .now) (a .work .now) _ e)) ∙ c .enum-told .given .1), tt)
 
 pub empty-inode-spec : {M : Type 1} → statement M
 empty-inode-spec =

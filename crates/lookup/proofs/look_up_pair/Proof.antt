@@ -19,10 +19,10 @@ renamed-requires : tie.Need-renamed-requires
 renamed-requires c κs = search needs
 
 returns : tie.Need-returns
-returns c = (rename-bad (c .before .before .before .before .before .before .before .before .args .session) (c .before .before .before .before .before .before .before .before .args .device .now) (c .before .before .before .before .before .before .before .before .args .work .now) (c .before .before .before .before .before .before .before .before .args .name .now) (c .before .before .before .before .before .before .before .before .args .new .now) _ (sym (ap resultOf (c .before .why .given .1)) ∙ c .before .before .before .both-named .ensures), tt)
+returns c = (λ s q. rename-bad s (c .before .before .before .before .before .before .before .before .before .args .device .now) (c .before .before .before .before .before .before .before .before .before .args .work .now) (c .before .before .before .before .before .before .before .before .before .args .name .now) (c .before .before .before .before .before .before .before .before .before .args .new .now) _ (sym (ap resultOf (c .before .why .given .1)) ∙ c .before .before .before .both-named .ensures s (q .head)), tt)
 
 returns-2 : tie.Need-returns-2
-returns-2 c = (c .renamed .ensures .0 ∙ rename-fine (c .before .before .before .before .before .before .before .before .args .session) (c .before .before .before .before .before .before .before .before .args .device .now) (c .before .before .before .before .before .before .before .before .args .work .now) (c .before .before .before .before .before .before .before .before .args .name .now) (c .before .before .before .before .before .before .before .before .args .new .now) true (sym (ap resultOf (c .before .enum-told .given .1)) ∙ c .before .before .before .both-named .ensures), c .renamed .ensures .1)
+returns-2 c = (λ s q. c .renamed .ensures .0 s (q .numbers) ∙ rename-fine s (c .before .before .before .before .before .before .before .before .before .args .device .now) (c .before .before .before .before .before .before .before .before .before .args .work .now) (c .before .before .before .before .before .before .before .before .before .args .name .now) (c .before .before .before .before .before .before .before .before .before .args .new .now) true (sym (ap resultOf (c .before .enum-told .given .1)) ∙ c .before .before .before .both-named .ensures s (q .head)), c .renamed .ensures .1)
 
 pub look-up-pair-spec : {M : Type 1} → statement M
 look-up-pair-spec =

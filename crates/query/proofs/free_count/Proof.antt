@@ -1,45 +1,37 @@
-use mathlib.Core.Path.{sym, ap, _∙_}
-use Rattle.checks.specs.Checks.{resultOf}
-use Rattle.query.proofs.Laws.{free-bad, free-fine}
+use mathlib.Core.Path.{_≡_}
+use native.Mathlib.Omega.{arith}
+use lib.ListN.{length}
+use Rattle.transaction.proofs.Laws.{lent-few}
+use Rattle.lookup.proofs.Laws.{seen-lent}
 use borrow.Author.Needs.{needs}
 use Rattle.query.proofs.free_count.Statement.{statement}
 use Rattle.query.proofs.free_count.Tie as tie
 
-ready-requires : tie.Need-ready-requires
-ready-requires c κs = search needs
+staged-count-requires : tie.Need-staged-count-requires
+staged-count-requires c κs = search needs
 
-enum-known-why : tie.Need-enum-known-why
-enum-known-why c = search needs
+sub-free-count-in : tie.Need-sub-free-count-in
+sub-free-count-in c = search needs
 
-enum-told : tie.Need-enum-told
-enum-told c = search needs
+part-free-count-in-start : tie.Need-part-free-count-in-start
+part-free-count-in-start c = search needs
 
-view-block-requires : tie.Need-view-block-requires
-view-block-requires c κs = search needs
+part-free-count-in-end : tie.Need-part-free-count-in-end
+part-free-count-in-end c = let l : length (c .before .before .before .before .before .args .session .staged) ≡ 32 = search needs in omega (arith, l, c .before .staged-count .ensures .1)
 
-copy-of-requires : tie.Need-copy-of-requires
-copy-of-requires c κs = search needs
-
-free-count-requires : tie.Need-free-count-requires
-free-count-requires c κs = search needs
+free-count-in-requires : tie.Need-free-count-in-requires
+free-count-in-requires c κs = let l : length (c .before .before .before .before .before .before .args .session .staged) ≡ 32 = search needs in lent-few (c .before .before .before .before .before .before .args .session) _ l (c .before .before .staged-count .ensures .1)
 
 returns : tie.Need-returns
-returns c =
-    free-bad (c .before .before .before .before .before .before .args .session) (c .before .before .before .before .before .before .args .device .now) (c .before .before .before .before .before .before .args .work .now) _ (sym (ap resultOf (c .before .why .given .1)) ∙ c .before .before .before .ready .ensures)
-
-returns-2 : tie.Need-returns-2
-returns-2 c =
-    free-fine (c .before .before .before .before .before .before .before .before .before .args .session) (c .before .before .before .before .before .before .before .before .before .args .device .now) (c .before .before .before .before .before .before .before .before .before .args .work .now) _ _ (c .before .before .before .view-block .result .now) (sym (ap resultOf (c .before .before .before .before .enum-told .given .1)) ∙ c .before .before .before .before .before .before .ready .ensures) (c .free-count .ensures .0) (c .before .before .copy-of .ensures) (c .before .before .before .view-block .ensures)
+returns c = let l : length (c .before .before .before .before .before .before .before .args .session .staged) ≡ 32 = search needs in c .free-count-in .ensures (c .before .before .before .before .before .before .before .args .session) (seen-lent (c .before .before .before .before .before .before .before .args .session) _ l (c .before .before .before .staged-count .ensures .0))
 
 pub free-count-spec : {M : Type 1} → statement M
 free-count-spec =
     tie.close
     (tie.spec
-    ready-requires
-    enum-known-why
-    enum-told
-    view-block-requires
-    copy-of-requires
-    free-count-requires
-    returns
-    returns-2)
+    staged-count-requires
+    sub-free-count-in
+    part-free-count-in-start
+    part-free-count-in-end
+    free-count-in-requires
+    returns)

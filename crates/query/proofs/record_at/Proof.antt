@@ -1,77 +1,37 @@
-use mathlib.Core.Path.{sym, ap, _∙_}
+use mathlib.Core.Path.{_≡_}
 use native.Mathlib.Omega.{arith}
-use Rattle.checks.specs.Checks.{resultOf}
-use Rattle.query.proofs.Laws.{none-told, record-bad, record-past, record-empty, record-file}
+use lib.ListN.{length}
+use Rattle.transaction.proofs.Laws.{lent-few}
+use Rattle.lookup.proofs.Laws.{seen-lent}
 use borrow.Author.Needs.{needs}
 use Rattle.query.proofs.record_at.Statement.{statement}
 use Rattle.query.proofs.record_at.Tie as tie
 
-ready-requires : tie.Need-ready-requires
-ready-requires c κs = search needs
+staged-count-requires : tie.Need-staged-count-requires
+staged-count-requires c κs = search needs
 
-enum-known-why : tie.Need-enum-known-why
-enum-known-why c = search needs
+sub-record-in : tie.Need-sub-record-in
+sub-record-in c = search needs
 
-no-file-requires : tie.Need-no-file-requires
-no-file-requires c κs = search needs
+part-record-in-start : tie.Need-part-record-in-start
+part-record-in-start c = search needs
 
-enum-told : tie.Need-enum-told
-enum-told c = search needs
+part-record-in-end : tie.Need-part-record-in-end
+part-record-in-end c = let l : length (c .before .before .before .before .before .args .session .staged) ≡ 32 = search needs in omega (arith, l, c .before .staged-count .ensures .1)
 
-no-file-requires-2 : tie.Need-no-file-requires-2
-no-file-requires-2 c κs = search needs
+record-in-requires : tie.Need-record-in-requires
+record-in-requires c κs = let l : length (c .before .before .before .before .before .before .args .session .staged) ≡ 32 = search needs in lent-few (c .before .before .before .before .before .before .args .session) _ l (c .before .before .staged-count .ensures .1)
 
 returns : tie.Need-returns
-returns c =
-    none-told (c .before .before .before .before .before .before .before .args .session) (c .before .before .before .before .before .before .before .args .device .now) (c .before .before .before .before .before .before .before .args .work .now) _ _ _ (c .no-file2 .ensures) (record-past (c .before .before .before .before .before .before .before .args .session) (c .before .before .before .before .before .before .before .args .device .now) (c .before .before .before .before .before .before .before .args .work .now) (c .before .before .before .before .before .before .before .args .i) (sym (ap resultOf (c .before .before .enum-told .given .1)) ∙ c .before .before .before .before .ready .ensures) (omega arith))
-
-inode-block-requires : tie.Need-inode-block-requires
-inode-block-requires c κs = search needs
-
-is-empty-requires : tie.Need-is-empty-requires
-is-empty-requires c κs = search needs
-
-no-file-requires-3 : tie.Need-no-file-requires-3
-no-file-requires-3 c κs = search needs
-
-returns-2 : tie.Need-returns-2
-returns-2 c =
-    none-told (c .before .before .before .before .before .before .before .before .before .before .args .session) (c .before .before .before .before .before .before .before .before .before .before .args .device .now) (c .before .before .before .before .before .before .before .before .before .before .args .work .now) _ _ _ (c .no-file3 .ensures)
-    (record-empty (c .before .before .before .before .before .before .before .before .before .before .args .session) (c .before .before .before .before .before .before .before .before .before .before .args .device .now) (c .before .before .before .before .before .before .before .before .before .before .args .work .now) (c .before .before .before .before .before .before .before .before .before .before .args .i) (c .before .before .before .inode-block .result .now) (sym (ap resultOf (c .before .before .before .before .before .enum-told .given .1)) ∙ c .before .before .before .before .before .before .before .ready .ensures) (omega arith)
-    (c .before .before .before .inode-block .ensures) (sym (c .before .before .is-empty .ensures) ∙ c .before .if2 .taken))
-
-name-of-requires : tie.Need-name-of-requires
-name-of-requires c κs = search needs
-
-size-of-requires : tie.Need-size-of-requires
-size-of-requires c κs = search needs
-
-returns-3 : tie.Need-returns-3
-returns-3 c =
-    none-told (c .before .before .before .before .before .before .before .args .session) (c .before .before .before .before .before .before .before .args .device .now) (c .before .before .before .before .before .before .before .args .work .now) _ _ _ (c .no-file .ensures) (record-bad (c .before .before .before .before .before .before .before .args .session) (c .before .before .before .before .before .before .before .args .device .now) (c .before .before .before .before .before .before .before .args .work .now) (c .before .before .before .before .before .before .before .args .i) _ (sym (ap resultOf (c .before .before .why .given .1)) ∙ c .before .before .before .before .ready .ensures))
-
-returns-4 : tie.Need-returns-4
-returns-4 c = (
-  record-file (c .before .before .before .before .before .before .before .before .before .before .before .args .session) (c .before .before .before .before .before .before .before .before .before .before .before .args .device .now) (c .before .before .before .before .before .before .before .before .before .before .before .args .work .now) (c .before .before .before .before .before .before .before .before .before .before .before .args .i) (c .before .before .before .before .inode-block .result .now) (sym (ap resultOf (c .before .before .before .before .before .before .enum-told .given .1)) ∙ c .before .before .before .before .before .before .before .before .ready .ensures) (omega arith)
-      (c .before .before .before .before .inode-block .ensures) _ _ (sym (c .before .before .before .is-empty .ensures) ∙ c .before .before .if2 .left) (c .before .name-of .ensures) (c .size-of .ensures),
-  tt,
-)
+returns c = let l : length (c .before .before .before .before .before .before .before .args .session .staged) ≡ 32 = search needs in c .record-in .ensures (c .before .before .before .before .before .before .before .args .session) (seen-lent (c .before .before .before .before .before .before .before .args .session) _ l (c .before .before .before .staged-count .ensures .0))
 
 pub record-at-spec : {M : Type 1} → statement M
 record-at-spec =
     tie.close
     (tie.spec
-    ready-requires
-    enum-known-why
-    no-file-requires
-    enum-told
-    no-file-requires-2
-    returns
-    inode-block-requires
-    is-empty-requires
-    no-file-requires-3
-    returns-2
-    name-of-requires
-    size-of-requires
-    returns-3
-    returns-4)
+    staged-count-requires
+    sub-record-in
+    part-record-in-start
+    part-record-in-end
+    record-in-requires
+    returns)

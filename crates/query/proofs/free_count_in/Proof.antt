@@ -1,0 +1,44 @@
+use mathlib.Core.Path.{sym, ap, _∙_}
+use Rattle.checks.specs.Checks.{resultOf}
+use Rattle.query.proofs.Laws.{block-of, free-bad, free-fine}
+use borrow.Author.Needs.{needs}
+use Rattle.query.proofs.free_count_in.Statement.{statement}
+use Rattle.query.proofs.free_count_in.Tie as tie
+
+ready-requires : tie.Need-ready-requires
+ready-requires c κs = search needs
+
+enum-known-why : tie.Need-enum-known-why
+enum-known-why c = search needs
+
+enum-told : tie.Need-enum-told
+enum-told c = search needs
+
+view-in-requires : tie.Need-view-in-requires
+view-in-requires c κs = search needs
+
+copy-of-requires : tie.Need-copy-of-requires
+copy-of-requires c κs = search needs
+
+free-count-requires : tie.Need-free-count-requires
+free-count-requires c κs = search needs
+
+returns : tie.Need-returns
+returns c = λ s q. free-bad s (c .before .before .before .before .before .before .before .args .device .now) (c .before .before .before .before .before .before .before .args .work .now) _ (sym (ap resultOf (c .before .why .given .1)) ∙ c .before .before .before .ready .ensures s (q .head))
+
+returns-2 : tie.Need-returns-2
+returns-2 c = λ s q. free-fine s (c .before .before .before .before .before .before .before .before .before .before .args .device .now) (c .before .before .before .before .before .before .before .before .before .before .args .work .now) _ _ (c .before .before .before .view-in .result .now) (sym (ap resultOf (c .before .before .before .before .enum-told .given .1)) ∙ c .before .before .before .before .before .before .ready .ensures s (q .head)) (c .free-count .ensures .0) (c .before .before .copy-of .ensures)
+    (block-of s (c .before .before .before .before .before .before .before .before .before .before .args .device .now) (c .before .before .before .before .before .before .before .before .before .before .args .work .now) _ (c .before .before .before .view-in .result .now) _ (q .numbers) (c .before .before .before .view-in .ensures .0))
+
+pub free-count-in-spec : {M : Type 1} → statement M
+free-count-in-spec =
+    tie.close
+    (tie.spec
+    ready-requires
+    enum-known-why
+    enum-told
+    view-in-requires
+    copy-of-requires
+    free-count-requires
+    returns
+    returns-2)

@@ -21,7 +21,7 @@ use Rattle.inode.specs.declared.Cursor.{Cursor}
 use Rattle.inode.specs.Walk.{restNodes, startOf, Onward, Inward, Ended}
 use Rattle.inode.proofs.Walk.{nodes-start, weight-start}
 use Rattle.extents.specs.declared.Scan.{Scan}
-use Rattle.extents.specs.Stretches.{pending, Starts, NextPiece}
+use Rattle.extents.specs.Stretches.{pending, Starts, NextPiece, GoesOn}
 use Rattle.extents.proofs.Laws.{length-up}
 use Rattle.runs.specs.Tree.{Runs}
 use Rattle.runs.specs.Push.{Holds, Small, Pushed}
@@ -112,6 +112,10 @@ pub record Passed (v : Disk) (tb : ℕ) (all : List ℕ) (scan : Scan) (n : ℕ)
 pub pass-start : (v : Disk) (tb i from n : ℕ) (c : Scan) → tb ≡ blockOfInode i → Starts v i from n c → Passed v tb (take n (drop from (dataAt v i))) c 0
 pass-start v tb i from n c t s = record { within = omega arith; rest = rw t (s .blocks); room = omega (arith, s .room) }
 
+-- slots passed, or the next node
+pub pass-on : (v : Disk) (tb : ℕ) (all : List ℕ) (c : Scan) (n : ℕ) → Passed v tb all c n → (d : Scan) → GoesOn v tb c d → Passed v tb all d n
+pass-on v tb all c n p d g = record { within = p .within; rest = sym (g .blocks) ∙ p .rest; room = omega (arith, p .room, g .room) }
+
 -- a front that goes on
 record Split (all xs ys : List ℕ) (n m : ℕ) : Type 0 where
   front : take m all ≡ take n all ++ xs
@@ -173,6 +177,9 @@ keep-more v tb all c q n k e d s u p =
       holds = rw (pass-taken v tb all c n (k .passed) e d s) (pushed-blocks q u (e .first) (e .count) p (s .some) (take n all) (k .holds));
       small = p .small n (k .small) (s .first) (s .some);
     }
+
+pub keep-on : (v : Disk) (tb : ℕ) (all : List ℕ) (c : Scan) (q : Runs) (n : ℕ) → Keeping v tb all c q n → (d : Scan) → GoesOn v tb c d → Keeping v tb all d q n
+keep-on v tb all c q n k d g = record { passed = pass-on v tb all c n (k .passed) d g; holds = k .holds; small = k .small }
 
 pub keep-end : (v : Disk) (tb wanted : ℕ) (blocks : List ℕ) (c : Scan) (q : Runs) (n : ℕ) → Keeping v tb (take wanted blocks) c q n → pending v tb c ≡ [] → KeptOf blocks wanted q n
 keep-end v tb wanted blocks c q n k e =

@@ -5,10 +5,14 @@ use bitmap::free_count;
 use bitmap::known;
 use bitmap::lowest_free_from;
 use bitmap::set_bit;
+use block::DiskBlock;
 use checks::Checked;
-use extents::Piece;
-use extents::next_piece_in;
+use extents::AtNode;
+use extents::AtSlot;
+use extents::pass_slots;
 use extents::stretch_at;
+use extents::take_node;
+use extents::take_slot;
 use inode::Cursor;
 use inode::Step;
 use inode::inode_block_in;
@@ -21,6 +25,7 @@ use spec::Limits;
 use spec::Refusal;
 use spec::Session;
 use transaction::staged_count;
+use transaction::view_in;
 ghost use mathlib.Core.Path.{_≡_};
 ghost use mathlib.Core.Bool.{true};
 ghost use Prim.Native.Nat.{_+_, _*_, _-_, _%_, _<_, _≤_};
@@ -138,23 +143,35 @@ fn keep<'a>(
     ensures { λ q. ⌜ KeptOf (dataAt (viewIn (now (staged .entry)) (now (device .entry)) (now (work .entry))) i) wanted
         (columns (now (first .exit)) (now (count .exit)) (q .end)) (q .count) ⌝ }
 {
-    let tb = table_block(i);
-    let mut scan = stretch_at(inode_block_in(device, work, staged, i), i, 0, wanted);
+    let table = inode_block_in(device, work, staged, i);
+    let mut scan = stretch_at(table, i, 0, wanted);
+    let cur = scan.at;
+    let mut block = view_in(device, work, staged, DiskBlock(cur.block));
     let mut end = End { len: 0, next: 0 };
     let mut n: usize = 0;
-    loop {
-        match next_piece_in(device, work, staged, tb, scan) {
-            Piece::Blocks(e, then) => {
+    while 0 < scan.room {
+        match take_slot(block, scan) {
+            AtSlot::Piece(e, then) => {
                 let more = push(first, count, end, e.first, e.count);
                 end = more;
                 n += e.count as usize;
                 scan = then;
             }
-            Piece::End => {
-                return Kept { end: end, count: n };
+            AtSlot::Passed(then) => {
+                scan = pass_slots(block, then);
             }
+            AtSlot::Unused => match take_node(table, scan) {
+                AtNode::Node(b, then) => {
+                    block = view_in(device, work, staged, DiskBlock(b));
+                    scan = then;
+                }
+                AtNode::End => {
+                    return Kept { end: end, count: n };
+                }
+            },
         }
     }
+    Kept { end: end, count: n }
 }
 
 // The data blocks of record i from block `from` on given back, where so many of those before are kept; how many.
@@ -170,25 +187,36 @@ fn give_back<'a>(
     requires { ⌜ (i < 128) × (length (now staged) ≤ 32) × (kept ≡ length (take from (dataAt (viewIn (now staged) (now device) (now work)) i))) ⌝ }
     ensures { λ n. ⌜ GaveBack (drop from (dataAt (viewIn (now (staged .entry)) (now (device .entry)) (now (work .entry))) i)) (now (t .entry)) (now (t .exit)) n ⌝ }
 {
-    let tb = table_block(i);
     if kept < from {
         return 0;
     }
     let table = inode_block_in(device, work, staged, i);
     let mut scan = stretch_at(table, i, from, MAX_FILE_BLOCKS);
+    let cur = scan.at;
+    let mut block = view_in(device, work, staged, DiskBlock(cur.block));
     let mut count: usize = 0;
-    loop {
-        match next_piece_in(device, work, staged, tb, scan) {
-            Piece::Blocks(e, then) => {
+    while 0 < scan.room {
+        match take_slot(block, scan) {
+            AtSlot::Piece(e, then) => {
                 release_run(t, e.first, e.count);
                 count += e.count as usize;
                 scan = then;
             }
-            Piece::End => {
-                return count;
+            AtSlot::Passed(then) => {
+                scan = pass_slots(block, then);
             }
+            AtSlot::Unused => match take_node(table, scan) {
+                AtNode::Node(b, then) => {
+                    block = view_in(device, work, staged, DiskBlock(b));
+                    scan = then;
+                }
+                AtNode::End => {
+                    return count;
+                }
+            },
         }
     }
+    count
 }
 
 // n blocks picked in turn, behind those that the file keeps.

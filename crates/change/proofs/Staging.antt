@@ -20,8 +20,7 @@ use Rattle.spec.specs.Calls.{left, outcome, settle, staging}
 use Rattle.lists.specs.Places.{place-lt}
 use Rattle.transaction.specs.Places.{spot, blocksWith}
 use Rattle.transaction.proofs.Laws.{staged-with, staged-is, view-stage, withStaged-twice, stage-longer, stage-is}
-use Rattle.agenda.specs.declared.Agenda.{Agenda}
-use Rattle.agenda.specs.Agenda.{storesBy, Rising, Lists, freshIn}
+use Rattle.agenda.specs.Agenda.{Agenda, storesBy, Rising, Lists, freshIn}
 use Rattle.agenda.proofs.Laws.{ascending-rising, fits-is}
 use Rattle.lists.specs.Tests.{both-true}
 use Rattle.change.specs.Change.{Change}

@@ -16,8 +16,7 @@ use Rattle.spec.specs.Inode.{blocksIn, blockOfInode, placeOfInode, nodeBytes}
 use Rattle.spec.specs.Transaction.{BlockStore, put, insert, ascending}
 use Rattle.spec.specs.Plan.{Edit, edit, ifChanged, storesOf, inodeEdit, nodeEdits, dataEdits, isStaged, newContent}
 use Rattle.runs.specs.Runs.{listed, nodesIn}
-use Rattle.agenda.specs.declared.Agenda.{Agenda}
-use Rattle.agenda.specs.Agenda.{Lists}
+use Rattle.agenda.specs.Agenda.{Agenda, Lists}
 use Rattle.agenda.proofs.Laws.{insert-over}
 use Rattle.block.proofs.Laws.{lt-or-le}
 use Rattle.change.specs.Change.{Change, changeStores}

@@ -1,8 +1,6 @@
 // A change staged: which blocks, with which content, in ascending order.
-use agenda::Agenda;
 use agenda::fits;
 use agenda::insert;
-use agenda::nothing;
 use block::DiskBlock;
 use block::block_in;
 use block::copy;
@@ -43,7 +41,7 @@ ghost use Rattle.content.specs.Content.{withRecord};
 ghost use Rattle.spec.specs.Calls.{left, settle, outcome, staging};
 ghost use Rattle.runs.specs.Runs.{Bounded, listed};
 ghost use Rattle.runs.specs.Push.{columns};
-ghost use Rattle.agenda.specs.Agenda.{Lists, storesBy, Rising};
+ghost use Rattle.agenda.specs.Agenda.{agenda, Room, Lists, storesBy, Rising};
 ghost use Rattle.change.specs.Change.{Change, changeStores};
 ghost use Rattle.change.specs.Window.{Outside};
 ghost use Rattle.change.specs.Contents.{contentOf, contentIn, withChanged, dataStores, nodeStores, placeOf, changeOf, Numbers, IsBlock};
@@ -141,20 +139,22 @@ fn add_block<'a>(
     device: &'a [u8],
     work: &'a [u8],
     s: Session,
-    a: Agenda,
+    blocks: &mut [u32; 32],
+    tags: &mut [u32; 32],
+    len: usize,
     b: u32,
     tag: u32,
     new: &[u8; 512],
-) -> Agenda
-    requires { ⌜ a .len ≤ 33 ⌝ }
-    ensures { λ q. ⌜ ((f : ℕ → ℕ → List ℕ) (ws : List BlockStore) → f b tag ≡ now (new .entry) → Lists f a (ascending ws)
-        → Lists f q (ascending (withChanged (view (stateOf s (now (device .entry)) (now (work .entry)))) (f b tag) b ws))) × (q .len ≤ 33) ⌝ }
+) -> usize
+    requires { ⌜ Room (agenda (now blocks) (now tags) len) ⌝ }
+    ensures { λ q. ⌜ ((f : ℕ → ℕ → List ℕ) (ws : List BlockStore) → f b tag ≡ now (new .entry) → Lists f (agenda (now (blocks .entry)) (now (tags .entry)) len) (ascending ws)
+        → Lists f (agenda (now (blocks .exit)) (now (tags .exit)) q) (ascending (withChanged (view (stateOf s (now (device .entry)) (now (work .entry)))) (f b tag) b ws))) × Room (agenda (now (blocks .exit)) (now (tags .exit)) q) ⌝ }
 {
     let bytes: &[u8] = new;
     if same_at(view_block(device, work, s, DiskBlock(b)), 0, bytes) {
-        return a;
+        return len;
     }
-    insert(a, b, tag)
+    insert(blocks, tags, len, b, tag)
 }
 
 // The block of record i on the agenda, where the record's bytes change.
@@ -162,20 +162,22 @@ fn add_record<'a>(
     device: &'a [u8],
     work: &'a [u8],
     s: Session,
-    a: Agenda,
+    blocks: &mut [u32; 32],
+    tags: &mut [u32; 32],
+    len: usize,
     i: usize,
     new: [u8; 32],
-) -> Agenda
-    requires { ⌜ (a .len ≤ 33) × (i < 128) ⌝ }
+) -> usize
+    requires { ⌜ Room (agenda (now blocks) (now tags) len) × (i < 128) ⌝ }
     ensures { λ q. ⌜ ((f : ℕ → ℕ → List ℕ) (ws : List BlockStore)
-        → f (blockOfInode i) 1 ≡ withRecord i new (view (stateOf s (now (device .entry)) (now (work .entry))) (blockOfInode i)) → Lists f a (ascending ws)
-        → Lists f q (ascending (withChanged (view (stateOf s (now (device .entry)) (now (work .entry)))) (f (blockOfInode i) 1) (blockOfInode i) ws))) × (q .len ≤ 33) ⌝ }
+        → f (blockOfInode i) 1 ≡ withRecord i new (view (stateOf s (now (device .entry)) (now (work .entry))) (blockOfInode i)) → Lists f (agenda (now (blocks .entry)) (now (tags .entry)) len) (ascending ws)
+        → Lists f (agenda (now (blocks .exit)) (now (tags .exit)) q) (ascending (withChanged (view (stateOf s (now (device .entry)) (now (work .entry)))) (f (blockOfInode i) 1) (blockOfInode i) ws))) × Room (agenda (now (blocks .exit)) (now (tags .exit)) q) ⌝ }
 {
     let bytes: &[u8] = &new;
     if same_at(inode_block(device, work, s, i), 32 * (i % 16), bytes) {
-        return a;
+        return len;
     }
-    insert(a, table_block(i), RECORD)
+    insert(blocks, tags, len, table_block(i), RECORD)
 }
 
 // The lower of two numbers.
@@ -251,7 +253,9 @@ fn window_of(held: usize, old: usize, size: usize, x: usize, bytes: &[u8]) -> Wi
 
 // Data block p of the file, which is block b, on the agenda where it is staged.
 fn add_place(
-    a: Agenda,
+    blocks: &mut [u32; 32],
+    tags: &mut [u32; 32],
+    len: usize,
     held: usize,
     old: usize,
     size: usize,
@@ -259,16 +263,16 @@ fn add_place(
     bytes: &[u8],
     p: usize,
     b: u32,
-) -> Agenda
-    requires { ⌜ (a .len ≤ 33) × (x + length (now bytes) ≤ 1048576) × (p < 8192) ⌝ }
+) -> usize
+    requires { ⌜ Room (agenda (now blocks) (now tags) len) × (x + length (now bytes) ≤ 1048576) × (p < 8192) ⌝ }
     ensures { λ q. ⌜ ((v : Disk) (i : ℕ) (c : Change) → Numbers c held old size → IsBlock c p b
-        → Lists (contentIn v i c x (now (bytes .entry))) a (ascending (dataStores v c x (now (bytes .entry)) (p + 1)))
-        → Lists (contentIn v i c x (now (bytes .entry))) q (ascending (dataStores v c x (now (bytes .entry)) p))) × (q .len ≤ 33) ⌝ }
+        → Lists (contentIn v i c x (now (bytes .entry))) (agenda (now (blocks .entry)) (now (tags .entry)) len) (ascending (dataStores v c x (now (bytes .entry)) (p + 1)))
+        → Lists (contentIn v i c x (now (bytes .entry))) (agenda (now (blocks .exit)) (now (tags .exit)) q) (ascending (dataStores v c x (now (bytes .entry)) p))) × Room (agenda (now (blocks .exit)) (now (tags .exit)) q) ⌝ }
 {
     if is_staged(held, old, size, x, bytes, p) {
-        return insert(a, b, FIRST_DATA + (p as u32));
+        return insert(blocks, tags, len, b, FIRST_DATA + (p as u32));
     }
-    a
+    len
 }
 
 // From place at + j of the file on to `high`, if that is lower.
@@ -284,7 +288,9 @@ fn down_to(high: usize, at: usize, j: u32) -> u32
 
 // n blocks of the file, from the last to the first; the first is block `first` and data block `at` of the file.
 fn add_run(
-    a: Agenda,
+    blocks: &mut [u32; 32],
+    tags: &mut [u32; 32],
+    len: usize,
     w: Window,
     held: usize,
     old: usize,
@@ -294,31 +300,31 @@ fn add_run(
     first: u32,
     n: u32,
     at: usize,
-) -> Agenda
-    requires { ⌜ (a .len ≤ 33) × (x + length (now bytes) ≤ 1048576) × (first < 131072) × (at + n ≤ 8192) × Outside held old size x (now bytes) w ⌝ }
+) -> usize
+    requires { ⌜ Room (agenda (now blocks) (now tags) len) × (x + length (now bytes) ≤ 1048576) × (first < 131072) × (at + n ≤ 8192) × Outside held old size x (now bytes) w ⌝ }
     ensures { λ q. ⌜ ((v : Disk) (i : ℕ) (c : Change) → Numbers c held old size → ((j : ℕ) → j < n → IsBlock c (at + j) (first + j))
-        → Lists (contentIn v i c x (now (bytes .entry))) a (ascending (dataStores v c x (now (bytes .entry)) (at + n)))
-        → Lists (contentIn v i c x (now (bytes .entry))) q (ascending (dataStores v c x (now (bytes .entry)) at))) × (q .len ≤ 33) ⌝ }
+        → Lists (contentIn v i c x (now (bytes .entry))) (agenda (now (blocks .entry)) (now (tags .entry)) len) (ascending (dataStores v c x (now (bytes .entry)) (at + n)))
+        → Lists (contentIn v i c x (now (bytes .entry))) (agenda (now (blocks .exit)) (now (tags .exit)) q) (ascending (dataStores v c x (now (bytes .entry)) at))) × Room (agenda (now (blocks .exit)) (now (tags .exit)) q) ⌝ }
 {
-    let mut out = a;
+    let mut m = len;
     let mut j = n;
     while 0 < j {
         // Nothing more is told by an agenda of more than 32.
-        if Limits::LOG_LENGTH < out.len {
-            return out;
+        if Limits::LOG_LENGTH < m {
+            return m;
         }
         j -= 1;
         let p = at + (j as usize);
         if p < w.low {
-            return out;
+            return m;
         }
         if (w.high <= p) & (p < held) {
             j = down_to(w.high, at, j);
         } else {
-            out = add_place(out, held, old, size, x, bytes, p, first + j);
+            m = add_place(blocks, tags, m, held, old, size, x, bytes, p, first + j);
         }
     }
-    out
+    m
 }
 
 fn wide(n: u32) -> usize
@@ -343,20 +349,22 @@ fn total(count: &[u32; 512], end: End) -> usize
 
 // The data blocks of a change, from the last to the first.
 fn add_data<'a>(
+    blocks: &mut [u32; 32],
+    tags: &mut [u32; 32],
     table: &'a [u8; 512],
     first: &'a [u32; 512],
     count: &'a [u32; 512],
     o: Outline,
     x: usize,
     bytes: &[u8],
-) -> Agenda
-    requires { ⌜ (x + length (now bytes) ≤ 1048576) × Bounded ((changeOf (now table) (now first) (now count) o) .tree) ⌝ }
-    ensures { λ q. ⌜ ((v : Disk) (i : ℕ) → Lists (contentIn v i (changeOf (now (table .entry)) (now (first .entry)) (now (count .entry)) o) x (now (bytes .entry))) q
-        (ascending (dataStores v (changeOf (now (table .entry)) (now (first .entry)) (now (count .entry)) o) x (now (bytes .entry)) 0))) × (q .len ≤ 33) ⌝ }
+) -> usize
+    requires { ⌜ Room (agenda (now blocks) (now tags) 0) × (x + length (now bytes) ≤ 1048576) × Bounded ((changeOf (now table) (now first) (now count) o) .tree) ⌝ }
+    ensures { λ q. ⌜ ((v : Disk) (i : ℕ) → Lists (contentIn v i (changeOf (now (table .entry)) (now (first .entry)) (now (count .entry)) o) x (now (bytes .entry))) (agenda (now (blocks .exit)) (now (tags .exit)) q)
+        (ascending (dataStores v (changeOf (now (table .entry)) (now (first .entry)) (now (count .entry)) o) x (now (bytes .entry)) 0))) × Room (agenda (now (blocks .exit)) (now (tags .exit)) q) ⌝ }
 {
     let end = o.end;
     let w = window_of(o.held, o.old, o.size, x, bytes);
-    let mut out = nothing();
+    let mut m: usize = 0;
     let mut k = end.len;
     let mut at = total(count, end);
     while 0 < k {
@@ -366,10 +374,23 @@ fn add_data<'a>(
         let behind = at;
         at -= wide(n);
         if (w.low < behind) & ((at < w.high) | (o.held < behind)) {
-            out = add_run(out, w, o.held, o.old, o.size, x, bytes, b, n, at);
+            m = add_run(
+                blocks,
+                tags,
+                m,
+                w,
+                o.held,
+                o.old,
+                o.size,
+                x,
+                bytes,
+                b,
+                n,
+                at,
+            );
         }
     }
-    out
+    m
 }
 
 // The block of node j.
@@ -385,7 +406,9 @@ fn add_node<'a>(
     device: &'a [u8],
     work: &'a [u8],
     s: Session,
-    a: Agenda,
+    blocks: &mut [u32; 32],
+    tags: &mut [u32; 32],
+    len: usize,
     i: usize,
     table: &'a [u8; 512],
     first: &'a [u32; 512],
@@ -394,13 +417,13 @@ fn add_node<'a>(
     x: usize,
     bytes: &[u8],
     j: usize,
-) -> Agenda
-    requires { ⌜ (a .len ≤ 33) × (x + length (now bytes) ≤ 1048576) × Bounded ((changeOf (now table) (now first) (now count) o) .tree) × (j < o .nodes)
-        × Lists (contentIn (view (stateOf s (now device) (now work))) i (changeOf (now table) (now first) (now count) o) x (now bytes)) a
+) -> usize
+    requires { ⌜ Room (agenda (now blocks) (now tags) len) × (x + length (now bytes) ≤ 1048576) × Bounded ((changeOf (now table) (now first) (now count) o) .tree) × (j < o .nodes)
+        × Lists (contentIn (view (stateOf s (now device) (now work))) i (changeOf (now table) (now first) (now count) o) x (now bytes)) (agenda (now blocks) (now tags) len)
         (ascending (nodeStores (view (stateOf s (now device) (now work))) (changeOf (now table) (now first) (now count) o) x (now bytes) (j + 1))) ⌝ }
-    ensures { λ q. ⌜ Lists (contentIn (view (stateOf s (now (device .entry)) (now (work .entry)))) i (changeOf (now (table .entry)) (now (first .entry)) (now (count .entry)) o) x (now (bytes .entry))) q
+    ensures { λ q. ⌜ Lists (contentIn (view (stateOf s (now (device .entry)) (now (work .entry)))) i (changeOf (now (table .entry)) (now (first .entry)) (now (count .entry)) o) x (now (bytes .entry))) (agenda (now (blocks .exit)) (now (tags .exit)) q)
         (ascending (nodeStores (view (stateOf s (now (device .entry)) (now (work .entry)))) (changeOf (now (table .entry)) (now (first .entry)) (now (count .entry)) o) x (now (bytes .entry)) j))
-        × (q .len ≤ 33) ⌝ }
+        × Room (agenda (now (blocks .exit)) (now (tags .exit)) q) ⌝ }
 {
     let node = o.node;
     let b = node_at(node, j);
@@ -408,9 +431,9 @@ fn add_node<'a>(
     if j < o.before {
         let end = o.end;
         let new = node_content(first, count, end, j);
-        return add_block(device, work, s, a, b, tag, &new);
+        return add_block(device, work, s, blocks, tags, len, b, tag, &new);
     }
-    insert(a, b, tag)
+    insert(blocks, tags, len, b, tag)
 }
 
 // The nodes of a change, from the last to the first.
@@ -418,7 +441,9 @@ fn add_nodes<'a>(
     device: &'a [u8],
     work: &'a [u8],
     s: Session,
-    a: Agenda,
+    blocks: &mut [u32; 32],
+    tags: &mut [u32; 32],
+    len: usize,
     i: usize,
     table: &'a [u8; 512],
     first: &'a [u32; 512],
@@ -426,25 +451,42 @@ fn add_nodes<'a>(
     o: Outline,
     x: usize,
     bytes: &[u8],
-) -> Agenda
-    requires { ⌜ (a .len ≤ 33) × (x + length (now bytes) ≤ 1048576) × Bounded ((changeOf (now table) (now first) (now count) o) .tree)
-        × Lists (contentIn (view (stateOf s (now device) (now work))) i (changeOf (now table) (now first) (now count) o) x (now bytes)) a
+) -> usize
+    requires { ⌜ Room (agenda (now blocks) (now tags) len) × (x + length (now bytes) ≤ 1048576) × Bounded ((changeOf (now table) (now first) (now count) o) .tree)
+        × Lists (contentIn (view (stateOf s (now device) (now work))) i (changeOf (now table) (now first) (now count) o) x (now bytes)) (agenda (now blocks) (now tags) len)
         (ascending (dataStores (view (stateOf s (now device) (now work))) (changeOf (now table) (now first) (now count) o) x (now bytes) 0)) ⌝ }
-    ensures { λ q. ⌜ Lists (contentIn (view (stateOf s (now (device .entry)) (now (work .entry)))) i (changeOf (now (table .entry)) (now (first .entry)) (now (count .entry)) o) x (now (bytes .entry))) q
+    ensures { λ q. ⌜ Lists (contentIn (view (stateOf s (now (device .entry)) (now (work .entry)))) i (changeOf (now (table .entry)) (now (first .entry)) (now (count .entry)) o) x (now (bytes .entry))) (agenda (now (blocks .exit)) (now (tags .exit)) q)
         (ascending (nodeStores (view (stateOf s (now (device .entry)) (now (work .entry)))) (changeOf (now (table .entry)) (now (first .entry)) (now (count .entry)) o) x (now (bytes .entry)) 0))
-        × (q .len ≤ 33) ⌝ }
+        × Room (agenda (now (blocks .exit)) (now (tags .exit)) q) ⌝ }
 {
-    let mut out = a;
+    let mut m = len;
     let mut j = o.nodes;
     while 0 < j {
         j -= 1;
-        out = add_node(device, work, s, out, i, table, first, count, o, x, bytes, j);
+        m = add_node(
+            device,
+            work,
+            s,
+            blocks,
+            tags,
+            m,
+            i,
+            table,
+            first,
+            count,
+            o,
+            x,
+            bytes,
+            j,
+        );
     }
-    out
+    m
 }
 
 // All that a change stages.
 fn agenda_of<'a>(
+    blocks: &mut [u32; 32],
+    tags: &mut [u32; 32],
     device: &'a [u8],
     work: &'a [u8],
     s: Session,
@@ -455,16 +497,40 @@ fn agenda_of<'a>(
     o: Outline,
     x: usize,
     bytes: &[u8],
-) -> Agenda
-    requires { ⌜ (i < 128) × (x + length (now bytes) ≤ 1048576) × Bounded ((changeOf (now table) (now first) (now count) o) .tree) ⌝ }
-    ensures { λ q. ⌜ Lists (contentIn (view (stateOf s (now (device .entry)) (now (work .entry)))) i (changeOf (now (table .entry)) (now (first .entry)) (now (count .entry)) o) x (now (bytes .entry))) q
-        (ascending (changeStores (view (stateOf s (now (device .entry)) (now (work .entry)))) i (changeOf (now (table .entry)) (now (first .entry)) (now (count .entry)) o) x (now (bytes .entry)))) ⌝ }
+) -> usize
+    requires { ⌜ Room (agenda (now blocks) (now tags) 0) × (i < 128) × (x + length (now bytes) ≤ 1048576) × Bounded ((changeOf (now table) (now first) (now count) o) .tree) ⌝ }
+    ensures { λ q. ⌜ Lists (contentIn (view (stateOf s (now (device .entry)) (now (work .entry)))) i (changeOf (now (table .entry)) (now (first .entry)) (now (count .entry)) o) x (now (bytes .entry))) (agenda (now (blocks .exit)) (now (tags .exit)) q)
+        (ascending (changeStores (view (stateOf s (now (device .entry)) (now (work .entry)))) i (changeOf (now (table .entry)) (now (first .entry)) (now (count .entry)) o) x (now (bytes .entry)))) × Room (agenda (now (blocks .exit)) (now (tags .exit)) q) ⌝ }
 {
-    let data = add_data(table, first, count, o, x, bytes);
-    let nodes = add_nodes(device, work, s, data, i, table, first, count, o, x, bytes);
+    let data = add_data(blocks, tags, table, first, count, o, x, bytes);
+    let nodes = add_nodes(
+        device,
+        work,
+        s,
+        blocks,
+        tags,
+        data,
+        i,
+        table,
+        first,
+        count,
+        o,
+        x,
+        bytes,
+    );
     let new = o.bytes;
-    let record = add_record(device, work, s, nodes, i, new);
-    add_block(device, work, s, record, BITMAP_BLOCK, BITMAP, table)
+    let record = add_record(device, work, s, blocks, tags, nodes, i, new);
+    add_block(
+        device,
+        work,
+        s,
+        blocks,
+        tags,
+        record,
+        BITMAP_BLOCK,
+        BITMAP,
+        table,
+    )
 }
 
 // Block b of some bytes becomes the first 512 of others, zeros past their end.
@@ -554,7 +620,9 @@ fn stage_all<'a>(
     device: &'a [u8],
     work: &mut [u8],
     s: Session,
-    a: Agenda,
+    blocks: &'a [u32; 32],
+    tags: &'a [u32; 32],
+    n: usize,
     i: usize,
     table: &'a [u8; 512],
     first: &'a [u32; 512],
@@ -563,17 +631,14 @@ fn stage_all<'a>(
     x: usize,
     bytes: &[u8],
 ) -> Session
-    requires { ⌜ (a .len ≤ 32) × (length (now work) ≡ 16384) × (o .end .len ≤ 512) × (x + length (now bytes) ≤ 1048576)
-        × Rising 0 (storesBy (contentIn (view (stateOf s (now device) (now work))) i (changeOf (now table) (now first) (now count) o) x (now bytes)) (take (a .len) (a .block)) (take (a .len) (a .tag)))
+    requires { ⌜ (n ≤ 32) × (length (now work) ≡ 16384) × (o .end .len ≤ 512) × (x + length (now bytes) ≤ 1048576)
+        × Rising 0 (storesBy (contentIn (view (stateOf s (now device) (now work))) i (changeOf (now table) (now first) (now count) o) x (now bytes)) (take n (now blocks)) (take n (now tags)))
         × (length (stageEach (stagedOf (stateOf s (now device) (now work)))
-        (storesBy (contentIn (view (stateOf s (now device) (now work))) i (changeOf (now table) (now first) (now count) o) x (now bytes)) (take (a .len) (a .block)) (take (a .len) (a .tag))) .blocks) ≤ 32) × (length (a .block) ≡ 32) × (length (a .tag) ≡ 32) ⌝ }
+        (storesBy (contentIn (view (stateOf s (now device) (now work))) i (changeOf (now table) (now first) (now count) o) x (now bytes)) (take n (now blocks)) (take n (now tags))) .blocks) ≤ 32) × (length (now blocks) ≡ 32) × (length (now tags) ≡ 32) ⌝ }
     ensures { λ q. ⌜ stateOf q (now (device .entry)) (now (work .exit))
         ≡ withStaging (stateOf s (now (device .entry)) (now (work .entry))) (stageEach (stagedOf (stateOf s (now (device .entry)) (now (work .entry))))
-        (storesBy (contentIn (view (stateOf s (now (device .entry)) (now (work .entry)))) i (changeOf (now (table .entry)) (now (first .entry)) (now (count .entry)) o) x (now (bytes .entry))) (take (a .len) (a .block)) (take (a .len) (a .tag)))) ⌝ }
+        (storesBy (contentIn (view (stateOf s (now (device .entry)) (now (work .entry)))) i (changeOf (now (table .entry)) (now (first .entry)) (now (count .entry)) o) x (now (bytes .entry))) (take n (now (blocks .entry))) (take n (now (tags .entry))))) ⌝ }
 {
-    let blocks = a.block;
-    let tags = a.tag;
-    let n = a.len;
     let mut t = s;
     let mut k: usize = 0;
     while k < n {
@@ -618,9 +683,38 @@ pub fn apply<'a>(
         (staging (stateOf s (now (device .entry)) (now (work .entry)))
         (changeStores (view (stateOf s (now (device .entry)) (now (work .entry)))) i (changeOf (now (table .entry)) (now (first .entry)) (now (count .entry)) o) x (now (bytes .entry)))) ⌝ }
 {
-    let a = agenda_of(device, work, s, i, table, first, count, o, x, bytes);
-    if fits(s, a) {
-        let t = stage_all(device, work, s, a, i, table, first, count, o, x, bytes);
+    let mut blocks = [0u32; 32];
+    let mut tags = [0u32; 32];
+    let n = agenda_of(
+        &mut blocks,
+        &mut tags,
+        device,
+        work,
+        s,
+        i,
+        table,
+        first,
+        count,
+        o,
+        x,
+        bytes,
+    );
+    if fits(s, &blocks, n) {
+        let t = stage_all(
+            device,
+            work,
+            s,
+            &blocks,
+            &tags,
+            n,
+            i,
+            table,
+            first,
+            count,
+            o,
+            x,
+            bytes,
+        );
         return Finished {
             session: t,
             answer: Done::Done,

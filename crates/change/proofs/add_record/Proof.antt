@@ -6,6 +6,7 @@ use Rattle.spec.specs.Transaction.{view, stateOf}
 use Rattle.change.proofs.Steps.{changed-not, changed-is}
 use Rattle.change.proofs.Images.{record-compared}
 use native.Mathlib.Omega.{arith}
+use Rattle.agenda.specs.Agenda.{agenda, Room}
 use borrow.Author.Needs.{needs}
 use Rattle.change.proofs.add_record.Statement.{statement}
 use Rattle.change.proofs.add_record.Tie as tie
@@ -23,36 +24,16 @@ same-at-requires : tie.Need-same-at-requires
 same-at-requires c κs = search needs
 
 returns : tie.Need-returns
-returns c =
-    let o = c .before .before .before .before .before .before in
-    let a = o .args in
-    (λ f ws e h. changed-not f (view (stateOf (a .s) (a .device .now) (a .work .now))) (a .a) _ 1 ws h _ (record-compared (view (stateOf (a .s) (a .device .now) (a .work .now))) (a .i) _ _ _ (c .before .before .inode-block .ensures) (search needs) (c .before .same-at .ensures) _ e) (c .if1 .taken), o .pre .0)
+returns c = let a = c .before .before .before .before .before .before .args in (λ f ws e h. changed-not f (view (stateOf (a .s) (a .device .now) (a .work .now))) (agenda (a .blocks .now) (a .tags .now) (a .len)) _ 1 ws h _ (record-compared (view (stateOf (a .s) (a .device .now) (a .work .now))) (a .i) _ _ _ (c .before .before .inode-block .ensures) (search needs) (c .before .same-at .ensures) _ e) (c .if1 .taken), c .before .before .before .before .before .before .pre .0)
 
 table-block-requires : tie.Need-table-block-requires
 table-block-requires c κs = search needs
 
 insert-requires : tie.Need-insert-requires
-insert-requires c κs = search needs
+insert-requires c κs = c .before .before .before .before .before .before .before .before .before .pre .0
 
 returns-2 : tie.Need-returns-2
-returns-2 c =
-    let o = c .before .before .before .before .before .before .before .before in
-    let a = o .args in (
-      λ f ws e h. changed-is f (view (stateOf (a .s) (a .device .now) (a .work .now))) (a .a) _ 1 ws h _
-          (record-compared (view (stateOf (a .s) (a .device .now) (a .work .now))) (a .i) _ _ _ (c .before .before .before .before .inode-block .ensures) (search needs) (c .before .before .before .same-at .ensures) _ e) _ (c .before .before .if1 .left)
-          (λ z. subst (λ (b : ℕ). Lists f (c .insert .result) (insert (put b (f b 1)) (ascending ws))) (c .before .table-block .ensures) (c .insert .ensures .0 f _ z)),
-      c .insert .ensures .1,
-    )
+returns-2 c = let a = c .before .before .before .before .before .before .before .before .before .before .args in (λ f ws e h. changed-is f (view (stateOf (a .s) (a .device .now) (a .work .now))) (agenda (a .blocks .now) (a .tags .now) (a .len)) _ 1 ws h _ (record-compared (view (stateOf (a .s) (a .device .now) (a .work .now))) (a .i) _ _ _ (c .before .before .before .before .before .before .inode-block .ensures) (search needs) (c .before .before .before .before .before .same-at .ensures) _ e) _ (c .before .before .before .before .if1 .left) (λ z. subst (λ (b : ℕ). Lists f (agenda (c .insert .last .0) (c .insert .last .1 .0) (c .insert .result)) (insert (put b (f b 1)) (ascending ws))) (c .before .table-block .ensures) (c .insert .ensures .0 f _ z)), c .insert .ensures .1)
 
 pub add-record-spec : {M : Type 1} → statement M
-add-record-spec =
-    tie.close
-    (tie.spec
-    slice-aggregate-bytes
-    inode-block-requires
-    mul-same-at
-    same-at-requires
-    returns
-    table-block-requires
-    insert-requires
-    returns-2)
+add-record-spec = tie.close (tie.spec slice-aggregate-bytes inode-block-requires mul-same-at same-at-requires returns table-block-requires insert-requires returns-2)

@@ -2,37 +2,25 @@ use Rattle.change.specs.Contents.{changeOf}
 use Rattle.spec.specs.Transaction.{view, stateOf}
 use Rattle.change.proofs.Contents.{bitmap-told, record-told}
 use Rattle.change.proofs.Steps.{record-lists, change-lists}
+use Rattle.agenda.specs.Agenda.{agenda, Room}
+use borrow.Author.Needs.{needs}
 use Rattle.change.proofs.agenda_of.Statement.{statement}
 use Rattle.change.proofs.agenda_of.Tie as tie
 
 add-data-requires : tie.Need-add-data-requires
-add-data-requires c κs = let o = c .before .before .before in (o .pre .1, o .pre .2)
+add-data-requires c κs = (c .before .before .before .before .before .pre .0, c .before .before .before .before .before .pre .2, c .before .before .before .before .before .pre .3)
 
 add-nodes-requires : tie.Need-add-nodes-requires
-add-nodes-requires c κs = let o = c .before .before .before .before in (c .add-data .ensures .1, o .pre .1, o .pre .2, c .add-data .ensures .0 _ _)
+add-nodes-requires c κs = (c .before .before .add-data .ensures .1, c .before .before .before .before .before .before .before .before .pre .2, c .before .before .before .before .before .before .before .before .pre .3, c .before .before .add-data .ensures .0 _ _)
 
 add-record-requires : tie.Need-add-record-requires
-add-record-requires c κs = (c .before .add-nodes .ensures .1, c .before .before .before .before .before .before .pre .0)
+add-record-requires c κs = (c .before .before .before .add-nodes .ensures .1, c .before .before .before .before .before .before .before .before .before .before .before .before .pre .1)
 
 add-block-requires : tie.Need-add-block-requires
-add-block-requires c κs = c .add-record .ensures .1
+add-block-requires c κs = c .before .before .add-record .ensures .1
 
 returns : tie.Need-returns
-returns c =
-    let a = c .before .before .before .before .before .before .before .before .args in
-    let v = view (stateOf (a .s) (a .device .now) (a .work .now)) in
-    let d = changeOf (a .table .now) (a .first .now) (a .count .now) (a .o) in
-    change-lists v (a .i) d (a .x) (a .bytes .now) _
-    (c .add-block .ensures .0 _ _ (bitmap-told v (a .i) d (a .x) (a .bytes .now))
-    (record-lists v (a .i) d (a .x) (a .bytes .now) _
-    (c .before .add-record .ensures .0 _ _ (record-told v (a .i) d (a .x) (a .bytes .now) _) (c .before .before .before .add-nodes .ensures .0))))
+returns c = let a = c .before .before .before .before .before .before .before .before .before .before .before .before .before .before .before .before .args in let v = view (stateOf (a .s) (a .device .now) (a .work .now)) in let d = changeOf (a .table .now) (a .first .now) (a .count .now) (a .o) in (change-lists v (a .i) d (a .x) (a .bytes .now) _ (c .add-block .ensures .0 _ _ (bitmap-told v (a .i) d (a .x) (a .bytes .now)) (record-lists v (a .i) d (a .x) (a .bytes .now) _ (c .before .before .before .add-record .ensures .0 _ _ (record-told v (a .i) d (a .x) (a .bytes .now) _) (c .before .before .before .before .before .before .before .add-nodes .ensures .0)))), c .add-block .ensures .1)
 
 pub agenda-of-spec : {M : Type 1} → statement M
-agenda-of-spec =
-    tie.close
-    (tie.spec
-    add-data-requires
-    add-nodes-requires
-    add-record-requires
-    add-block-requires
-    returns)
+agenda-of-spec = tie.close (tie.spec add-data-requires add-nodes-requires add-record-requires add-block-requires returns)

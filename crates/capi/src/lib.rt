@@ -12,6 +12,8 @@ use extents::stretch_at;
 use extents::take_node;
 use extents::take_slot;
 use inode::inode_block_in;
+use journal::last_phase;
+use journal::phase_at;
 use lookup::Looked;
 use lookup::look_up;
 use mirror::CAdvanced;
@@ -26,6 +28,7 @@ use mirror::committed;
 use mirror::counted;
 use mirror::decode;
 use mirror::finished;
+use mirror::head_of;
 use mirror::phase_in;
 use mirror::recorded;
 use mirror::run;
@@ -39,8 +42,9 @@ use spec::Counted;
 use spec::Extent;
 use spec::Phase;
 use spec::Refusal;
+use spec::Stored;
 use store::abort;
-use store::advance;
+use store::advance_in;
 use store::commit;
 use store::create;
 use store::format;
@@ -58,11 +62,14 @@ ghost use Rattle.spec.specs.Answers.{countedOf as answerOf};
 ghost use Rattle.spec.specs.Transaction.{stateOf};
 ghost use Rattle.spec.specs.Calls.{format, openStore, advance, commit, abort, create, remove, rename, write, setSize, read, sizeOf, freeCount, recordAt, nthExtent, runList};
 ghost use Rattle.spec.specs.declared.Session.{Session};
+ghost use Rattle.spec.specs.declared.Phase.{Phase};
+ghost use Rattle.mirror.specs.declared.CHead.{CHead};
+ghost use Rattle.journal.specs.Entries.{behind};
 ghost use Rattle.checks.specs.Checks.{Seen};
 ghost use Rattle.transaction.specs.Places.{viewIn};
 ghost use Rattle.extents.specs.Stretches.{runsIn};
 ghost use Rattle.capi.specs.Cells.{Put, Last, Listed};
-ghost use Rattle.mirror.specs.Mirror.{decode, countedOf, recordedOf, runOf, Finishes, Commits, Advances, Reads, Lists, extentsOf};
+ghost use Rattle.mirror.specs.Mirror.{phaseOf, decode, encode, countedOf, recordedOf, runOf, Finishes, Commits, Advances, Reads, Lists, extentsOf};
 
 // Makes an empty store. The work space is not lent: whatever it holds stays.
 #[no_mangle]
@@ -94,6 +101,46 @@ pub extern "C" fn purse_open_v(device: &[u8], head: CHead, staged: &mut [u32; 32
     finished(after)
 }
 
+// The numbers behind an answer of advance.
+fn head_behind(h: CHead, phase: Phase, answer: Stored) -> CHead
+    ensures { λ r. ⌜ ((l : List ℕ) → phase ≡ phaseOf (h .phase) (h .place) → r ≡ encode (behind phase (decode h l) answer)) ⌝ }
+{
+    match answer {
+        Stored::Refused(_) => head_of(h.blocks, phase, h.count),
+        Stored::Stored {
+            block: _,
+            last,
+            number,
+        } => {
+            if last {
+                return head_of(h.blocks, last_phase(phase), 0);
+            }
+            head_of(h.blocks, phase_at(phase, number), h.count)
+        }
+        Stored::Idle => head_of(h.blocks, phase, h.count),
+    }
+}
+
+// The cells behind it: none is in use behind the last store.
+fn forget(staged: &mut [u32; 32], answer: Stored)
+    ensures { λ _. ⌜ ((p : Phase) (h : CHead) → now (staged .exit) ≡ behind p (decode h (now (staged .entry))) answer .staged) ⌝ }
+{
+    match answer {
+        Stored::Refused(_) => {}
+        Stored::Stored {
+            block: _,
+            last,
+            number: _,
+        } => {
+            if last {
+                let none = [0u32; 32];
+                *staged = none;
+            }
+        }
+        Stored::Idle => {}
+    }
+}
+
 // Stores the next block of a commit or a recovery under way.
 #[no_mangle]
 pub extern "C" fn purse_advance_v(
@@ -105,12 +152,13 @@ pub extern "C" fn purse_advance_v(
     ensures { λ r. ⌜ Advances r (now (staged .exit)) (now (device .exit)) (now (work .entry))
         (advance (stateOf (decode head (now (staged .entry))) (now (device .entry)) (now (work .entry)))) ⌝ }
 {
-    let before = decode(head, *staged);
-    let after = advance(device, work, before);
-    let s = after.session;
-    let cells = s.staged;
-    *staged = cells;
-    advanced(after)
+    let blocks = head.blocks as usize;
+    let phase = phase_in(head);
+    let cells: &[u32] = staged;
+    let used = &cells[0..staged_in(head)];
+    let answer = advance_in(device, work, blocks, phase, used);
+    forget(staged, answer);
+    advanced(head_behind(head, phase, answer), answer)
 }
 
 // Starts the stores of a commit and tells how many they are.

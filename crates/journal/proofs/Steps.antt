@@ -9,12 +9,14 @@ use native.Mathlib.Omega.{arith}
 use borrow.Author.Tests.{leb-true, leb-false}
 use lib.Dec.{leb}
 use lib.ListN.{length, take, getD, getElem?, replicate}
-use lib.Seq.{length-take-le, take-all}
+use lib.Seq.{length-take-le, take-all, take-length}
 use Rattle.spec.specs.Bytes.{zeros, patch, bytes2, distinct}
 use Rattle.spec.specs.Disk.{Slice, blocksOf, sliceOf}
 use Rattle.spec.specs.declared.Advanced.{Advanced}
 use Rattle.spec.specs.declared.Phase.{Phase}
 use Rattle.spec.specs.declared.Session.{Session}
+use Rattle.spec.specs.declared.Stored.{Stored}
+use Rattle.spec.specs.declared.Stored.the-variants as answers
 use Rattle.spec.specs.declared.Stored.the-variants.{Idle}
 use Rattle.spec.specs.Session.{opened, inPhase, stagedIn}
 use Rattle.spec.specs.declared.Phase.the-variants.{Closed, Ready, Committing, Recovering}
@@ -24,7 +26,7 @@ use Rattle.spec.specs.Journal.{headerOf, targetsIn, areTargets, commitStores, r
 use Rattle.spec.specs.Calls.{Outcome, perform, advanceIn, left}
 use Rattle.block.specs.Stores.{storedIn}
 use Rattle.journal.specs.Order.{rank, sorted}
-use Rattle.journal.specs.Entries.{entryContent, entryStore, Told}
+use Rattle.journal.specs.Entries.{entryContent, entryStore, phaseAt, lastPhase, behind, Told}
 use Rattle.journal.specs.declared.Entry.{Entry}
 use Rattle.journal.proofs.Order.{sorted-length, sorted-at}
 use Rattle.journal.proofs.Listed.{targets-listed, targets-some, listed-at}
@@ -226,3 +228,29 @@ module _ (s : Session) (d w : List ℕ) where
   pub idle-ready : (p : Phase) → p ≡ Ready → left s d w idle ≡ advanceIn (stateOf s d w) p
   unfolding advanceIn
   idle-ready p e = rw e
+
+-- ---- the code's test, before a session is at hand
+
+pub passes : (N n d : ℕ) (l : List ℕ) (a : Bool) → a ≡ areTargets N l → (not a || leb n d) ≡ false → (areTargets N l ≡ true) × (d < n)
+passes N n d l a t q = let g = goes a n d q in (sym t ∙ g .0, g .1)
+
+-- a session that has these blocks staged
+pub sessionWith : ℕ → List ℕ → Session
+sessionWith N l = record { blocks = N; phase = Ready; staged = l; count = length l }
+
+pub with-staged : (N : ℕ) (l : List ℕ) → stagedIn (sessionWith N l) ≡ l
+unfolding stagedIn sessionWith
+with-staged N l = take-length l
+
+pub with-blocks : (N : ℕ) (l : List ℕ) → sessionWith N l .blocks ≡ N
+unfolding sessionWith
+with-blocks N l = refl
+
+-- ---- the session behind a store
+
+module _ (p : Phase) (s : Session) (b n : ℕ) (last : Bool) (a : Stored) (f : a ≡ answers.Stored b last n) where
+  pub behind-last : last ≡ true → opened (s .blocks) (lastPhase p) ≡ behind p s a
+  behind-last e = rw (f, e)
+
+  pub behind-next : last ≡ false → inPhase s (phaseAt p n) ≡ behind p s a
+  behind-next e = rw (f, e)

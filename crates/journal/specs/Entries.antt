@@ -12,6 +12,9 @@ use Rattle.spec.specs.Answers.{stored, storedOf}
 use Rattle.spec.specs.Transaction.{BlockStore, put}
 use Rattle.spec.specs.declared.Advanced.{Advanced}
 use Rattle.spec.specs.declared.Phase.{Phase}
+use Rattle.spec.specs.declared.Phase.the-variants.{Closed, Ready, Committing, Recovering}
+use Rattle.spec.specs.declared.Stored.{Stored}
+use Rattle.spec.specs.declared.Stored.the-variants as answer
 use Rattle.spec.specs.declared.Session.{Session}
 use Rattle.spec.specs.Journal.{headerOf}
 use Rattle.journal.specs.Order.{sorted}
@@ -27,6 +30,25 @@ entryContent bs device work source.Zeros = zeros blockSize
 
 abbrev pub entryStore : List ℕ → List ℕ → List ℕ → Entry → BlockStore
 entryStore bs device work e = put (e .block .0) (entryContent bs device work (e .source))
+
+-- the phase behind store number n, and behind the last one
+abbrev pub phaseAt : Phase → ℕ → Phase
+phaseAt Closed n = Closed
+phaseAt Ready n = Ready
+phaseAt (Committing d) n = Committing n
+phaseAt (Recovering d) n = Recovering n
+
+abbrev pub lastPhase : Phase → Phase
+lastPhase Closed = Closed
+lastPhase Ready = Ready
+lastPhase (Committing d) = Ready
+lastPhase (Recovering d) = Closed
+
+-- the session behind an answer in phase p
+abbrev pub behind : Phase → Session → Stored → Session
+behind p s (answer.Refused r) = s
+behind p s (answer.Stored b last n) = cond last (opened (s .blocks) (lastPhase p)) (inPhase s (phaseAt p n))
+behind p s answer.Idle = s
 
 -- the answer to store d of n, at block b, and the session behind it
 pub record Told (s : Session) (b d n : ℕ) (next done : Phase) (r : Advanced) : Type 0 where

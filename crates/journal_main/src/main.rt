@@ -160,7 +160,14 @@ fn advance(device: &mut [u8], work: &[u8], s: Session) -> Advanced {
         return idle(s);
     }
     let p = s.phase;
-    journal::advance_in(device, work, s, p)
+    let l = s.staged;
+    let n = transaction::staged_count(s);
+    let answer = journal::step(device, work, blocks, p, &l[0..n]);
+    let next = journal::after(p, s, answer);
+    Advanced {
+        session: next,
+        answer: answer,
+    }
 }
 
 fn run(device: &mut [u8], work: &[u8], s: Session, steps: usize) {

@@ -1,5 +1,4 @@
 // Sessions and answers as structs of numbers, in which they cross to C. What the numbers mean is defined in specs/Mirror.antt.
-use spec::Advanced;
 use spec::Committed;
 use spec::Counted;
 use spec::Done;
@@ -17,6 +16,7 @@ ghost use mathlib.Core.Path.{_≡_};
 ghost use mathlib.Core.Bool.{cond};
 ghost use Prim.Native.Nat.{min};
 ghost use lib.ListN.{replicate};
+ghost use Rattle.spec.specs.declared.Session.{Session};
 ghost use Rattle.spec.specs.Answers.{refusalOf, doneOf, startedOf, storedOf, countedOf as answerOf, recordedOf as fileOf, runOf as extentOf};
 ghost use Rattle.mirror.specs.Mirror.{phaseOf, phaseNumber, placeIn, decode, encode, refusalNumber, faultIn, finishedOf, committedOf, advancedOf, countedOf, recordedOf, runOf};
 
@@ -144,17 +144,24 @@ pub fn decode(h: CHead, staged: [u32; 32]) -> Session
     }
 }
 
+// The numbers of a session on so many blocks, in this phase, with so many cells in use.
+pub fn head_of(blocks: u64, phase: Phase, count: u64) -> CHead
+    ensures { λ h. ⌜ h ≡ record { blocks = blocks; phase = phaseNumber phase; place = placeIn phase; count = count } ⌝ }
+{
+    CHead {
+        blocks: blocks,
+        phase: phase_number(phase),
+        place: place_in(phase),
+        count: count,
+    }
+}
+
 // The numbers of a session.
 pub fn encode(s: Session) -> CHead
     ensures { λ h. ⌜ h ≡ encode s ⌝ }
 {
     let phase = s.phase;
-    CHead {
-        blocks: s.blocks as u64,
-        phase: phase_number(phase),
-        place: place_in(phase),
-        count: s.count as u64,
-    }
+    head_of(s.blocks as u64, phase, s.count as u64)
 }
 
 // The number of a refusal.
@@ -247,12 +254,10 @@ fn flag(b: bool) -> u64
     if b { 1 } else { 0 }
 }
 
-pub fn advanced(a: Advanced) -> CAdvanced
-    ensures { λ r. ⌜ r ≡ advancedOf (a .session) (storedOf (a .answer)) ⌝ }
+// Of every session with these numbers.
+pub fn advanced(head: CHead, answer: Stored) -> CAdvanced
+    ensures { λ r. ⌜ ((s : Session) → head ≡ encode s → r ≡ advancedOf s (storedOf answer)) ⌝ }
 {
-    let s = a.session;
-    let answer = a.answer;
-    let head = encode(s);
     match answer {
         Stored::Refused(why) => CAdvanced {
             head: head,

@@ -11,7 +11,8 @@ use fsck::is_sound;
 use header::Fault;
 use header::header_fault;
 use header::targets_in;
-use journal::advance_in;
+use journal::after;
+use journal::step;
 use mkfs::make_empty;
 pub use query::free_count;
 pub use query::nth_extent;
@@ -36,7 +37,11 @@ pub use update::set_size;
 pub use update::write;
 ghost use mathlib.Core.Path.{_≡_};
 ghost use mathlib.Core.List.{List};
-ghost use Prim.Native.Nat.{ℕ};
+ghost use Prim.Native.Nat.{ℕ, _≤_};
+ghost use lib.ListN.{length};
+ghost use Rattle.spec.specs.declared.Session.{Session};
+ghost use Rattle.checks.specs.Checks.{Seen};
+ghost use Rattle.journal.specs.Entries.{behind};
 ghost use Rattle.spec.specs.Answers.{doneOf, startedOf, storedOf};
 ghost use Rattle.spec.specs.Transaction.{stateOf};
 ghost use Rattle.spec.specs.Calls.{left, format, openStore, advance, commit, abort};
@@ -77,21 +82,38 @@ pub fn open_store(device: &[u8], session: Session) -> Finished
     done(Session::opened(n, Phase::Ready))
 }
 
-// Stores the next block of a commit or a recovery under way.
+// Stores the next block of a commit or a recovery under way, of every session with these parts.
+pub fn advance_in(
+    device: &mut [u8],
+    work: &[u8],
+    blocks: usize,
+    phase: Phase,
+    staged: &[u32],
+) -> Stored
+    requires { ⌜ length (now staged) ≤ 32 ⌝ }
+    ensures { λ r. ⌜ ((s : Session) → Seen blocks phase (now (staged .entry)) s
+        → left (behind phase s r) (now (device .exit)) (now (work .entry)) (storedOf r) ≡ advance (stateOf s (now (device .entry)) (now (work .entry)))) ⌝ }
+{
+    match lent(device, work, blocks) {
+        Checked::Bad(why) => Stored::Refused(why),
+        Checked::Fine => step(device, work, blocks, phase, staged),
+    }
+}
+
+// The same of a session.
 pub fn advance(device: &mut [u8], work: &[u8], session: Session) -> Advanced
     ensures { λ r. ⌜ left (r .session) (now (device .exit)) (now (work .entry)) (storedOf (r .answer))
         ≡ advance (stateOf session (now (device .entry)) (now (work .entry))) ⌝ }
 {
     let blocks = session.blocks;
-    match lent(device, work, blocks) {
-        Checked::Bad(why) => Advanced {
-            session: session,
-            answer: Stored::Refused(why),
-        },
-        Checked::Fine => {
-            let phase = session.phase;
-            advance_in(device, work, session, phase)
-        }
+    let phase = session.phase;
+    let l = session.staged;
+    let n = staged_count(session);
+    let answer = advance_in(device, work, blocks, phase, &l[0..n]);
+    let next = after(phase, session, answer);
+    Advanced {
+        session: next,
+        answer: answer,
     }
 }
 
@@ -133,6 +155,6 @@ pub fn abort(device: &[u8], work: &[u8], session: Session) -> Finished
     let phase = session.phase;
     match ready(device, work, blocks, phase) {
         Checked::Bad(why) => refused(session, why),
-        Checked::Fine => { done(Session::opened(blocks, Phase::Ready)) }
+        Checked::Fine => done(Session::opened(blocks, Phase::Ready)),
     }
 }

@@ -1,6 +1,6 @@
 use borrow.Author.Needs.{needs}
-use Rattle.mirror.proofs.encode.Statement.{statement}
-use Rattle.mirror.proofs.encode.Tie as tie
+use Rattle.mirror.proofs.head_of.Statement.{statement}
+use Rattle.mirror.proofs.head_of.Tie as tie
 
 phase-number-requires : tie.Need-phase-number-requires
 phase-number-requires c κs = search needs
@@ -11,5 +11,5 @@ place-in-requires c κs = search needs
 returns : tie.Need-returns
 returns c = rw (c .before .phase-number .ensures, c .place-in .ensures)
 
-pub encode-spec : {M : Type 1} → statement M
-encode-spec = tie.close (tie.spec phase-number-requires place-in-requires returns)
+pub head-of-spec : {M : Type 1} → statement M
+head-of-spec = tie.close (tie.spec phase-number-requires place-in-requires returns)

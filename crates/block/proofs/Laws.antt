@@ -63,9 +63,6 @@ exactly-nil (suc n) = ap (λ (l : List ℕ). 0 ∷ l) (exactly-nil n)
 pub number2-exactly : (n : ℕ) (xs : List ℕ) (at : ℕ) → at + 2 ≤ n → number2 at (exactly n xs) ≡ number2 at xs
 number2-exactly n xs at h = rw (getD-exactly n xs at (omega arith), getD-exactly n xs (at + 1) (omega arith))
 
-pub number4-exactly : (n : ℕ) (xs : List ℕ) (at : ℕ) → at + 4 ≤ n → number4 at (exactly n xs) ≡ number4 at xs
-number4-exactly n xs at h = let a = number2-exactly n xs at (omega arith) in let b = number2-exactly n xs (at + 2) (omega arith) in omega arith
-
 -- ---- blocks
 
 pub block-is : (xs : List ℕ) (b : ℕ) → blocksOf xs b ≡ exactly 512 (take 512 (drop (512 * b) xs))
@@ -79,10 +76,6 @@ block-length xs b = length-exactly 512 (drop (512 * b) xs)
 pub block-byte : (xs : List ℕ) (b i : ℕ) → i < 512 → getD (blocksOf xs b) i 0 ≡ getD xs (512 * b + i) 0
 unfolding blocksOf
 block-byte xs b i h = getD-exactly 512 (drop (512 * b) xs) i h ∙ getD-drop (512 * b) xs i 0
-
-pub block-past : (xs : List ℕ) (b : ℕ) → length xs ≤ 512 * b → blocksOf xs b ≡ zeros 512
-unfolding blocksOf
-block-past xs b h = rw (drop-of-length-le xs h) (exactly-nil 512)
 
 pub block-small : (xs : List ℕ) (b : ℕ) → ((i : ℕ) → getD xs i 0 < 256) → (i : ℕ) → getD (blocksOf xs b) i 0 < 256
 unfolding blocksOf
@@ -99,9 +92,6 @@ part-byte xs ys b i p = rw p (sym (exactly-byte 512 (drop (512 * b) xs) i))
 
 pub part-number2 : (xs ys : List ℕ) (b at : ℕ) → ys ≡ take 512 (drop (512 * b) xs) → number2 at ys ≡ number2 at (blocksOf xs b)
 part-number2 xs ys b at p = rw (part-byte xs ys b at p, part-byte xs ys b (at + 1) p)
-
-pub part-number4 : (xs ys : List ℕ) (b at : ℕ) → ys ≡ take 512 (drop (512 * b) xs) → number4 at ys ≡ number4 at (blocksOf xs b)
-part-number4 xs ys b at p = rw (part-number2 xs ys b at p, part-number2 xs ys b (at + 2) p)
 
 -- the equation of two slices tells each byte
 pub slice-bytes : (xs ys : List ℕ) → sliceOf xs ≡ sliceOf ys → xs ≡ ys
@@ -189,20 +179,6 @@ with-same b x d = rw (eq-eqb b b refl)
 pub with-other : (b c : ℕ) (x : List ℕ) (d : Disk) → (c ≡ b → ⊥) → withBlock b x d c ≡ d c
 with-other b c x d h = rw (ne-eqb c b h)
 
--- what store_block ensures, apart
-module _ (v w x : List ℕ) (b : ℕ) (e : sliceOf v ≡ storedIn (sliceOf w) b x) where
-  pub stored-length : length v ≡ length w
-  stored-length = ap (λ (s : Slice). s .size) e
-
-  pub stored-blocks : blocksOf v ≡ withBlock b x (blocksOf w)
-  stored-blocks = ap (λ (s : Slice). s .block) e
-
-  pub stored-same : blocksOf v b ≡ x
-  stored-same = ap (λ (d : Disk). d b) stored-blocks ∙ with-same b x (blocksOf w)
-
-  pub stored-other : (c : ℕ) → (c ≡ b → ⊥) → blocksOf v c ≡ blocksOf w c
-  stored-other c h = ap (λ (d : Disk). d c) stored-blocks ∙ with-other b c x (blocksOf w) h
-
 -- ---- numbers read back
 
 pub number2-bytes2 : (n : ℕ) → n < 65536 → number2 0 (bytes2 n) ≡ n
@@ -210,21 +186,6 @@ number2-bytes2 n h = omega arith
 
 pub number4-bytes4 : (n : ℕ) → n < 4294967296 → number4 0 (bytes4 n) ≡ n
 number4-bytes4 n h = let a = number2-bytes2 (n % 65536) (omega arith) in let b = number2-bytes2 (n / 65536) (omega arith) in omega arith
-
--- inside a patch
-pub number2-patch : (at i : ℕ) (x w : List ℕ) → at + length x ≤ length w → i + 2 ≤ length x → number2 (at + i) (patch at x w) ≡ number2 i x
-number2-patch at i x w fits h =
-    let a = patch-in at x w fits i (omega arith) in
-    let b = patch-in at x w fits (i + 1) (omega arith) in
-    let e : at + i + 1 ≡ at + (i + 1) = omega arith in
-    rw (e, a, b)
-
-pub number4-patch : (at i : ℕ) (x w : List ℕ) → at + length x ≤ length w → i + 4 ≤ length x → number4 (at + i) (patch at x w) ≡ number4 i x
-number4-patch at i x w fits h =
-    let a = number2-patch at i x w fits (omega arith) in
-    let b = number2-patch at (i + 2) x w fits (omega arith) in
-    let e : at + i + 2 ≡ at + (i + 2) = omega arith in
-    rw (e, a, b)
 
 -- ---- equal lists
 

@@ -159,6 +159,21 @@ pub fn store_block(bytes: &mut [u8], b: DiskBlock, x: &[u8; 512])
     copy(x, &mut bytes[at..end]);
 }
 
+// Block b stored from the first 512 of some bytes, zeros past their end.
+pub fn store_copy(bytes: &mut [u8], b: DiskBlock, from: &[u8])
+    requires { ⌜ 512 * b .0 + 512 ≤ length (now bytes) ⌝ }
+    ensures { λ _. ⌜ sliceOf (now (bytes .exit)) ≡ storedIn (sliceOf (now (bytes .entry))) (b .0) (exactly 512 (now (from .entry))) ⌝ }
+{
+    if from.len() == Limits::BLOCK_SIZE {
+        let at = Limits::BLOCK_SIZE * (b.0 as usize);
+        let end = at + Limits::BLOCK_SIZE;
+        copy(from, &mut bytes[at..end]);
+        return;
+    }
+    let x = copy_of(from);
+    store_block(bytes, b, &x);
+}
+
 // Block b cleared.
 pub fn clear_block(bytes: &mut [u8], b: DiskBlock)
     requires { ⌜ 512 * b .0 + 512 ≤ length (now bytes) ⌝ }

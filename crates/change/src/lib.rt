@@ -5,7 +5,7 @@ use block::DiskBlock;
 use block::block_in;
 use block::copy;
 use block::copy_of;
-use block::store_block;
+use block::store_copy;
 use content::is_staged;
 use content::lay_data;
 use content::lay_record;
@@ -531,21 +531,6 @@ fn agenda_of<'a>(
         BITMAP,
         table,
     )
-}
-
-// Block b of some bytes becomes the first 512 of others, zeros past their end.
-fn store_copy(bytes: &mut [u8], b: DiskBlock, from: &[u8])
-    requires { ⌜ 512 * b .0 + 512 ≤ length (now bytes) ⌝ }
-    ensures { λ _. ⌜ sliceOf (now (bytes .exit)) ≡ storedIn (sliceOf (now (bytes .entry))) (b .0) (exactly 512 (now (from .entry))) ⌝ }
-{
-    if from.len() == Limits::BLOCK_SIZE {
-        let at = Limits::BLOCK_SIZE * (b.0 as usize);
-        let end = at + Limits::BLOCK_SIZE;
-        copy(from, &mut bytes[at..end]);
-        return;
-    }
-    let x = copy_of(from);
-    store_block(bytes, b, &x);
 }
 
 // The image that block b has or gets becomes its working copy: it is that already where b is staged.

@@ -154,16 +154,6 @@ module _ (v : Disk) (i p : ℕ) where
   pub held-past : 2048 ≤ p → drop p (dataOf v (inodeAt v i)) ≡ []
   held-past h = data-from v i p ∙ (let z : 2048 - p ≡ 0 = omega arith in rw z)
 
-  -- the block itself
-  pub held-block : (e : Extent) (k : ℕ) → Held v i p e k → getElem? (dataOf v (inodeAt v i)) p ≡ some (e .first + k)
-  held-block e k h = nth (dataOf v (inodeAt v i)) p (e .first + k) (h .follow 1 (omega (arith, h .inside)) (omega (arith, h .low)))
-    where
-      nth : (xs : List ℕ) (p a : ℕ) → take 1 (drop p xs) ≡ a ∷ [] → getElem? xs p ≡ some a
-      nth [] zero a q = cc
-      nth [] (suc p) a q = cc
-      nth (x ∷ xs) zero a q = cc
-      nth (x ∷ xs) (suc p) a q = nth xs p a q
-
 -- ---- pieces of a stretch
 
 module _ (v : Disk) (i from n : ℕ) (c : Scan) where

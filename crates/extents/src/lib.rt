@@ -276,15 +276,7 @@ pub fn take_node(table: &[u8], scan: Scan) -> AtNode
     )
 }
 
-pub fn next_piece<'a>(device: &'a [u8], work: &'a [u8], s: Session, tb: u32, scan: Scan) -> Piece
-    ensures { λ r. ⌜ Pieces (view (stateOf s (now (device .entry)) (now (work .entry)))) tb scan r ⌝ }
-{
-    let l = s.staged;
-    let n = staged_count(s);
-    next_piece_in(device, work, &l[0..n], tb, scan)
-}
-
-// The same where these blocks are staged.
+// The next piece of a stretch, where these blocks are staged.
 pub fn next_piece_in<'a>(
     device: &'a [u8],
     work: &'a [u8],

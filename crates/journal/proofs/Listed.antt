@@ -11,9 +11,7 @@ use Rattle.spec.specs.Bytes.{all, distinct}
 use Rattle.spec.specs.Disk.{isTarget, isTargetArea, areaOf}
 use Rattle.spec.specs.Journal.{areTargets}
 use Rattle.transaction.proofs.Laws.{Listed}
-use Rattle.journal.specs.Order.{sorted}
-use Rattle.header.proofs.Every.{Every, every-at, every-weaken, all-every, every-all, Differ, differ-distinct}
-use Rattle.journal.proofs.Order.{Ascending, order-rises, order-every}
+use Rattle.header.proofs.Every.{Every, every-at, all-every}
 
 -- within 33 to N-1
 pub target-within : (N b : ℕ) → isTarget N b ≡ true → (33 ≤ b) × (b < N)
@@ -52,18 +50,3 @@ module _ (N : ℕ) (ts : List ℕ) where
 
   pub targets-some : areTargets N ts ≡ true → 0 < length ts
   targets-some h = omega (arith, eqb-false (length ts) 0 (not-true (eqb (length ts) 0) (parts h .0)))
-
--- ---- in ascending order
-
-ascending-differ : (xs : List ℕ) → Ascending xs → Differ xs
-ascending-differ [] g = tt
-ascending-differ (x ∷ xs) g =
-    (every-weaken (λ (y : ℕ). x < y) (λ (y : ℕ). y ≡ x → ⊥) xs (λ y k e. omega arith) (g .0), ascending-differ xs (g .1))
-
-pub sorted-listed : (N : ℕ) (bs : List ℕ) → Listed N bs → Listed N (sorted bs)
-unfolding sorted
-sorted-listed N bs l =
-    record {
-      targets = every-all (isTarget N) (sorted bs) (order-every bs (λ i. []) (l .differ) (λ (t : ℕ). isTarget N t ≡ true) (listed-every N bs l));
-      differ = differ-distinct (sorted bs) (ascending-differ (sorted bs) (order-rises bs (λ i. []) (l .differ)));
-    }

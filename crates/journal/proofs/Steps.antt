@@ -161,9 +161,6 @@ module _ (s : Session) (d k : ℕ) (l : List ℕ) (a : Bool) (test : a ≡ areTa
   may : areTargets (s .blocks) (stagedIn s) ≡ a
   may = ap (areTargets (s .blocks)) (sym (h .list)) ∙ sym test
 
-  pub commit-goes : (not a || leb (2 * k + 2) d) ≡ false → (areTargets (s .blocks) l ≡ true) × (length l ≤ 32) × (d < 2 * length l + 2)
-  commit-goes q = let g = goes a (2 * k + 2) d q in (sym test ∙ g .0, rw (← h .count) (h .few), rw (← h .count) (g .1))
-
   module _ (device work : List ℕ) where
     abbrev commits : List BlockStore
     commits = commitStores (stateOf s device work)
@@ -189,9 +186,6 @@ module _ (s : Session) (d k : ℕ) (l : List ℕ) (a : Bool) (test : a ≡ areTa
         step-stored s device work commits a (2 * k + 2) d commits-none commits-length Committing Ready r (e .block .0) (entryContent l device work (e .source)) after
 
 module _ (s : Session) (d k : ℕ) (l : List ℕ) (a : Bool) (test : a ≡ areTargets (s .blocks) l) (device : List ℕ) (h : Held l k (targetsIn (blocksOf device 0))) where
-  pub recovery-goes : (not a || leb (k + 1) d) ≡ false → (areTargets (s .blocks) l ≡ true) × (length l ≤ 32) × (d ≤ length l)
-  recovery-goes q = let g = goes a (k + 1) d q in let c = h .count in (sym test ∙ g .0, rw (← h .count) (h .few), omega (arith, g .1))
-
   can : areTargets (s .blocks) (targetsIn (blocksOf device 0)) ≡ a
   can = ap (areTargets (s .blocks)) (sym (h .list)) ∙ sym test
 

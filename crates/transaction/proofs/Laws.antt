@@ -100,9 +100,6 @@ pub record Listed (N : ℕ) (bs : List ℕ) : Type 0 where
   pub targets : all (isTarget N) bs ≡ true
   pub differ : distinct bs ≡ true
 
-pub listed-none : (N : ℕ) → Listed N []
-listed-none N = record { targets = refl; differ = refl }
-
 pub stage-listed : (N : ℕ) (t : Staged) (w : BlockStore) → Listed N (t .blocks) → isTarget N (w .block) ≡ true → Listed N (stage t w .blocks)
 stage-listed N t w l h = go (place (w .block) (t .blocks)) refl
   where
@@ -121,14 +118,6 @@ pub record Valid (N : ℕ) (s : Session) : Type 0 where
   pub whole : s ≡ withStaged (opened N (s .phase)) (stagedIn s)
   pub few : length (stagedIn s) ≤ 32
   pub listed : Listed N (stagedIn s)
-
-pub valid-opened : (N : ℕ) (p : Phase) → Valid N (opened N p)
-unfolding stagedIn withStaged
-valid-opened N p = record { whole = refl; few = omega arith; listed = listed-none N }
-
-pub valid-in-phase : (N : ℕ) (s : Session) (p : Phase) → Valid N s → Valid N (inPhase s p)
-unfolding stagedIn withStaged
-valid-in-phase N s p v = record { whole = ap (λ (t : Session). inPhase t p) (v .whole); few = v .few; listed = v .listed }
 
 -- numbers staged over fewer ones
 pub withStaged-twice : (t : Session) (old bs : List ℕ) → length old ≤ length bs → withStaged (withStaged t old) bs ≡ withStaged t bs
@@ -156,12 +145,6 @@ stage-longer t w = go (place (w .block) (t .blocks)) refl
     go : (o : Option ℕ) → place (w .block) (t .blocks) ≡ o → length (t .blocks) ≤ length (stage t w .blocks)
     go none e = rw (stage-new t w e) (simp length-append (omega arith))
     go (some i) e = rw (stage-again t w i e) (omega arith)
-
--- one block staged
-pub valid-stage : (N : ℕ) (s : State) (w : BlockStore) → Valid N (s .session) → isTarget N (w .block) ≡ true → length (stage (stagedOf s) w .blocks) ≤ 32
-    → Valid N (withStaging s (stage (stagedOf s) w) .session)
-valid-stage N s w v h few =
-    valid-staged N (s .session) (stage (stagedOf s) w .blocks) v (stage-longer (stagedOf s) w) few (stage-listed N (stagedOf s) w (v .listed) h)
 
 -- ---- of the code
 

@@ -1,11 +1,11 @@
 use Rattle.block.specs.Stores.{storedIn}
 use Rattle.block.proofs.Steps.{slice-stored}
 use Rattle.block.proofs.Laws.{length-exactly, exactly-all}
 use native.Mathlib.Omega.{arith}
 use mathlib.Core.Path.{sym, ap, _∙_}
 use borrow.Author.Needs.{needs}
-use Rattle.change.proofs.store_copy.Statement.{statement}
-use Rattle.change.proofs.store_copy.Tie as tie
+use Rattle.block.proofs.store_copy.Statement.{statement}
+use Rattle.block.proofs.store_copy.Tie as tie
 
 cast-at : tie.Need-cast-at
 cast-at c = search needs

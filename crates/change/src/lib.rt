@@ -18,9 +18,7 @@ use spec::Finished;
 use spec::Limits;
 use spec::Refusal;
 use spec::Session;
-use transaction::Place;
 use transaction::spot;
-use transaction::staged_at;
 use transaction::staged_count;
 use transaction::view_block;
 use transaction::with_block;
@@ -533,19 +531,16 @@ fn agenda_of<'a>(
     )
 }
 
-// The image that block b has or gets becomes its working copy: it is that already where b is staged.
-fn load_image(device: &[u8], work: &mut [u8], s: Session, b: DiskBlock)
-    requires { ⌜ (length (now work) ≡ 16384) × (spot s (b .0) < 32) ⌝ }
+// The image of block b, whose place is k, becomes its working copy: it is that already where b is staged.
+fn load_image(device: &[u8], work: &mut [u8], s: Session, b: DiskBlock, k: usize)
+    requires { ⌜ (length (now work) ≡ 16384) × (k ≡ spot s (b .0)) × (k < 32) ⌝ }
     ensures { λ _. ⌜ sliceOf (now (work .exit))
         ≡ storedIn (sliceOf (now (work .entry))) (spot s (b .0)) (view (stateOf s (now (device .entry)) (now (work .entry))) (b .0)) ⌝ }
 {
-    match staged_at(s, b) {
-        Place::At(_) => {}
-        Place::Nothing => {
-            let n = staged_count(s);
-            store_copy(work, DiskBlock(n as u32), block_in(device, b));
-        }
+    if k < staged_count(s) {
+        return;
     }
+    store_copy(work, DiskBlock(k as u32), block_in(device, b));
 }
 
 // Block b staged with the content of its tag, which is made in its image.
@@ -569,11 +564,12 @@ fn stage_block<'a>(
         (put b (contentOf i (changeOf (now (table .entry)) (now (first .entry)) (now (count .entry)) o) x (now (bytes .entry)) tag
         (view (stateOf s (now (device .entry)) (now (work .entry))) b)))) ⌝ }
 {
-    load_image(device, work, s, DiskBlock(b));
-    let at = Limits::BLOCK_SIZE * spot(s, DiskBlock(b));
+    let k = spot(s, DiskBlock(b));
+    load_image(device, work, s, DiskBlock(b), k);
+    let at = Limits::BLOCK_SIZE * k;
     let end = at + Limits::BLOCK_SIZE;
     edit_block(&mut work[at..end], i, table, first, count, o, x, bytes, tag);
-    with_block(s, DiskBlock(b))
+    with_block(s, DiskBlock(b), k)
 }
 
 // The block of record i staged with these bytes of the record.
@@ -584,11 +580,12 @@ pub fn stage_record(device: &[u8], work: &mut [u8], s: Session, i: usize, new: [
         (put (blockOfInode i) (withRecord i new (view (stateOf s (now (device .entry)) (now (work .entry))) (blockOfInode i))))) ⌝ }
 {
     let b = table_block(i);
-    load_image(device, work, s, DiskBlock(b));
-    let at = Limits::BLOCK_SIZE * spot(s, DiskBlock(b));
+    let k = spot(s, DiskBlock(b));
+    load_image(device, work, s, DiskBlock(b), k);
+    let at = Limits::BLOCK_SIZE * k;
     let end = at + Limits::BLOCK_SIZE;
     lay_record(&mut work[at..end], i, new);
-    with_block(s, DiskBlock(b))
+    with_block(s, DiskBlock(b), k)
 }
 
 // A count past the array is read as the array's length.

@@ -250,6 +250,23 @@ module _ (s : Session) (b : ℕ) where
       go none e = rw e (omega arith)
       go (some i) e = rw e (omega (arith, place-lt b i (stagedIn s) e))
 
+  -- whether it is among them already is told by its place
+  pub spot-found : spot s b < length (stagedIn s) → foundAt (place b (stagedIn s)) ≡ At (spot s b)
+  unfolding spot
+  spot-found h = go (place b (stagedIn s)) refl
+    where
+      go : (o : Option ℕ) → place b (stagedIn s) ≡ o → foundAt (place b (stagedIn s)) ≡ At (spot s b)
+      go none e = let z : length (stagedIn s) < length (stagedIn s) = rw e at h in absurd (omega arith)
+      go (some i) e = rw e
+
+  pub spot-absent : length (stagedIn s) ≤ spot s b → foundAt (place b (stagedIn s)) ≡ Nothing
+  unfolding spot
+  spot-absent h = go (place b (stagedIn s)) refl
+    where
+      go : (o : Option ℕ) → place b (stagedIn s) ≡ o → foundAt (place b (stagedIn s)) ≡ Nothing
+      go none e = rw e
+      go (some i) e = let z : length (stagedIn s) ≤ i = rw e at h in absurd (omega (arith, place-lt b i (stagedIn s) e))
+
   -- the session's cells after staging: all as they were, or one more in use
   pub with-at : (n i : ℕ) → length (s .staged) ≡ 32 → n ≡ length (stagedIn s) → foundAt (place b (stagedIn s)) ≡ At i
       → record { blocks = s .blocks; phase = s .phase; staged = s .staged; count = n } ≡ withStaged s (blocksWith s b)

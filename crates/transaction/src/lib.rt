@@ -84,25 +84,21 @@ pub fn spot(s: Session, b: DiskBlock) -> usize
     }
 }
 
-// The session with block b staged.
-pub fn with_block(s: Session, b: DiskBlock) -> Session
-    requires { ⌜ spot s (b .0) < 32 ⌝ }
+// The session with block b staged at its place i.
+pub fn with_block(s: Session, b: DiskBlock, i: usize) -> Session
+    requires { ⌜ (i ≡ spot s (b .0)) × (i < 32) ⌝ }
     ensures { λ q. ⌜ q ≡ withStaged s (blocksWith s (b .0)) ⌝ }
 {
     let n = staged_count(s);
     let x = b.0;
     let mut q = s;
-    match staged_at(s, b) {
-        Place::At(_) => {
-            q.count = n;
-            q
-        }
-        Place::Nothing => {
-            q.staged[n] = x;
-            q.count = n + 1;
-            q
-        }
+    if i < n {
+        q.count = n;
+        return q;
     }
+    q.staged[n] = x;
+    q.count = n + 1;
+    q
 }
 
 // Block b staged with content x: appended, or its image overwritten; the rest of the work space is unchanged.
@@ -113,5 +109,5 @@ pub fn stage(work: &mut [u8], s: Session, b: DiskBlock, x: &[u8; 512]) -> Sessio
 {
     let i = spot(s, b);
     store_block(work, DiskBlock(i as u32), x);
-    with_block(s, b)
+    with_block(s, b, i)
 }

@@ -6,17 +6,17 @@ use borrow.Author.Needs.{needs}
 use Rattle.change.proofs.stage_block.Statement.{statement}
 use Rattle.change.proofs.stage_block.Tie as tie
 
-load-image-requires : tie.Need-load-image-requires
-load-image-requires c κs = search needs
-
 spot-requires : tie.Need-spot-requires
 spot-requires c κs = search needs
 
+load-image-requires : tie.Need-load-image-requires
+load-image-requires c κs = (c .before .before .before .before .before .pre .0, c .before .spot .ensures, omega (arith, c .before .spot .ensures, c .before .before .before .before .before .pre .1))
+
 mul-at : tie.Need-mul-at
-mul-at c = search needs
+mul-at c = omega (arith, c .before .before .before .before .spot .ensures, c .before .before .before .before .before .before .before .before .pre .1)
 
 add-end : tie.Need-add-end
-add-end c = search needs
+add-end c = omega (arith, c .before .before .before .before .spot .ensures, c .before .before .before .before .before .before .before .before .pre .1)
 
 sub-edit-block : tie.Need-sub-edit-block
 sub-edit-block c = search needs
@@ -25,35 +25,19 @@ part-edit-block-start : tie.Need-part-edit-block-start
 part-edit-block-start c = search needs
 
 part-edit-block-end : tie.Need-part-edit-block-end
-part-edit-block-end c = search needs
+part-edit-block-end c = omega (arith, c .before .before .before .before .spot .ensures, c .before .before .before .before .before .before .before .before .pre .0, c .before .before .before .before .before .before .before .before .pre .1, c .before .before .load-image .kept .1 .0)
 
 edit-block-requires : tie.Need-edit-block-requires
 edit-block-requires c κs = search needs
 
 with-block-requires : tie.Need-with-block-requires
-with-block-requires c κs = search needs
+with-block-requires c κs = (c .before .before .before .before .before .before .before .before .spot .ensures, omega (arith, c .before .before .before .before .before .before .before .before .spot .ensures, c .before .before .before .before .before .before .before .before .before .before .before .before .pre .1))
 
 same-length : tie.Need-same-length
 same-length c = search needs
 
 returns : tie.Need-returns
-returns c =
-    let a = c .before .before .before .before .before .before .before .before .before .before .before .before .before .args in
-    image-edited _ (a .device .now) (a .work .now) _ _ _ (c .before .before .before .before .before .spot .ensures) (omega (arith, c .before .before .before .before .before .before .before .before .before .before .before .before .before .pre .0, c .before .before .before .before .before .before .before .before .before .before .before .before .before .pre .1, c .before .before .before .before .before .spot .ensures, c .before .before .before .before .before .before .before .before .load-image .kept .1 .0)) (c .before .before .before .before .before .before .before .before .load-image .ensures) _
-    (contentOf (a .i) (changeOf (a .table .now) (a .first .now) (a .count .now) (a .o)) (a .x) (a .bytes .now) (a .tag)) _ (c .before .before .before .edit-block .ensures) (search needs) (c .with-block .ensures)
+returns c = let a = c .before .before .before .before .before .before .before .before .before .before .before .before .before .args in image-edited _ (a .device .now) (a .work .now) _ _ _ (c .before .before .before .before .before .before .before .before .before .spot .ensures) (omega (arith, c .before .before .before .before .before .before .before .before .before .before .before .before .before .pre .0, c .before .before .before .before .before .before .before .before .before .before .before .before .before .pre .1, c .before .before .before .before .before .before .before .before .before .spot .ensures, c .before .before .before .before .before .before .before .load-image .kept .1 .0)) (c .before .before .before .before .before .before .before .load-image .ensures) _ (contentOf (a .i) (changeOf (a .table .now) (a .first .now) (a .count .now) (a .o)) (a .x) (a .bytes .now) (a .tag)) _ (c .before .before .before .edit-block .ensures) (search needs) (c .with-block .ensures)
 
 pub stage-block-spec : {M : Type 1} → statement M
-stage-block-spec =
-    tie.close
-    (tie.spec
-    load-image-requires
-    spot-requires
-    mul-at
-    add-end
-    sub-edit-block
-    part-edit-block-start
-    part-edit-block-end
-    edit-block-requires
-    with-block-requires
-    same-length
-    returns)
+stage-block-spec = tie.close (tie.spec spot-requires load-image-requires mul-at add-end sub-edit-block part-edit-block-start part-edit-block-end edit-block-requires with-block-requires same-length returns)

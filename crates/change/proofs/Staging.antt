@@ -1,5 +1,5 @@
 -- Laws of staging an agenda block by block, each content from the working copy as it then is. Assumes nothing.
-use Prim.Native.Nat.{ℕ, suc, _+_, _<_, _≤_}
+use Prim.Native.Nat.{ℕ, _-_, suc, _+_, _<_, _≤_}
 use mathlib.Core.Path.{_≡_, refl, sym, ap, ap₂, _∙_, subst}
 use mathlib.Core.Bool.{Bool, true, false, _&&_}
 use mathlib.Core.List.{List, [], _∷_, _++_}
@@ -19,7 +19,7 @@ use Rattle.spec.specs.Transaction.{State, stateOf, view, BlockStore, put, Stage
 use Rattle.spec.specs.Calls.{left, outcome, settle, staging}
 use Rattle.lists.specs.Places.{place-lt}
 use Rattle.transaction.specs.Places.{spot, blocksWith}
-use Rattle.transaction.proofs.Laws.{staged-with, staged-is, view-stage, withStaged-twice, stage-longer, stage-is}
+use Rattle.transaction.proofs.Laws.{staged-lent, staged-with, staged-is, view-stage, withStaged-twice, stage-longer, stage-is}
 use Rattle.agenda.specs.Agenda.{Agenda, storesBy, Rising, Lists, freshIn}
 use Rattle.agenda.proofs.Laws.{ascending-rising, fits-is}
 use Rattle.lists.specs.Tests.{both-true}
@@ -163,6 +163,12 @@ module _ (s : State) (ws : List BlockStore) (r : Bool) (e : r ≡ leb (length (s
   pub fits-not : r ≡ false → outcome s (refused 18 []) ≡ settle (outcome s) (staging s ws)
   unfolding staging stageAll
   fits-not q = let z : leb (length (stageEach (stagedOf s) (ascending ws) .blocks)) 32 ≡ false = sym e ∙ q in rw z
+
+-- the numbers staged are lent to `fits`
+pub fits-lent : (s : Session) (k n : ℕ) (blocks : List ℕ) (r : Bool) → length (s .staged) ≡ 32 → k ≡ length (stagedIn s)
+    → r ≡ (leb n 32 && leb (length (take (k - 0) (drop 0 (s .staged))) + freshIn (take (k - 0) (drop 0 (s .staged))) (take n blocks)) 32)
+    → r ≡ (leb n 32 && leb (length (stagedIn s) + freshIn (stagedIn s) (take n blocks)) 32)
+fits-lent s k n blocks r h e q = rw (staged-lent s h k e) at q
 
 -- what the answer of `fits` says of the agenda of some stores
 module _ (f : ℕ → ℕ → List ℕ) (s : Session) (device work : List ℕ) (a : Agenda) (ws : List BlockStore) (l : Lists f a (ascending ws)) (r : Bool)

@@ -681,7 +681,9 @@ pub fn apply<'a>(
         x,
         bytes,
     );
-    if fits(s, &blocks, n) {
+    let l = s.staged;
+    let many = staged_count(s);
+    if fits(&l[0..many], &blocks, n) {
         let t = stage_all(
             device,
             work,

@@ -31,7 +31,7 @@ pub fn staged_count(s: Session) -> usize
 }
 
 // Where block b stands among these.
-fn place_in(staged: &[u32], b: DiskBlock) -> Place
+pub fn place_in(staged: &[u32], b: DiskBlock) -> Place
     ensures { λ r. ⌜ r ≡ foundAt (place (b .0) (now (staged .entry))) ⌝ }
 {
     let want = b.0;

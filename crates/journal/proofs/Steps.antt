@@ -20,10 +20,11 @@ use Rattle.spec.specs.declared.Stored.the-variants as answers
 use Rattle.spec.specs.declared.Stored.the-variants.{Idle}
 use Rattle.spec.specs.Session.{opened, inPhase, stagedIn}
 use Rattle.spec.specs.declared.Phase.the-variants.{Closed, Ready, Committing, Recovering}
-use Rattle.spec.specs.Answers.{idle, storedOf}
+use Rattle.spec.specs.Answers.{idle, storedOf, refusalOf, refuse, accept}
+use Rattle.spec.specs.declared.Refusal.{Refusal}
 use Rattle.spec.specs.Transaction.{BlockStore, put, stateOf}
 use Rattle.spec.specs.Journal.{headerOf, targetsIn, areTargets, commitStores, recoveryStores}
-use Rattle.spec.specs.Calls.{Outcome, perform, advanceIn, left}
+use Rattle.spec.specs.Calls.{Outcome, perform, advanceIn, advance, left, lentOk}
 use Rattle.block.specs.Stores.{storedIn}
 use Rattle.journal.specs.Order.{rank, sorted}
 use Rattle.journal.specs.Entries.{entryContent, entryStore, phaseAt, lastPhase, behind, Told}
@@ -248,3 +249,14 @@ module _ (p : Phase) (s : Session) (b n : ℕ) (last : Bool) (a : Stored) (f : a
 
   pub behind-next : last ≡ false → inPhase s (phaseAt p n) ≡ behind p s a
   behind-next e = rw (f, e)
+
+-- ---- the call
+
+module _ (s : Session) (d w : List ℕ) where
+  pub advance-bad : (r : Refusal) → refuse r ≡ lentOk (stateOf s d w) → left s d w (refusalOf r) ≡ advance (stateOf s d w)
+  unfolding advance
+  advance-bad r e = rw (← e)
+
+  pub advance-fine : (o : Outcome) → accept true ≡ lentOk (stateOf s d w) → o ≡ advanceIn (stateOf s d w) (s .phase) → o ≡ advance (stateOf s d w)
+  unfolding advance
+  advance-fine o e f = f ∙ rw (← e)

@@ -162,7 +162,7 @@ fn advance(device: &mut [u8], work: &[u8], s: Session) -> Advanced {
     let p = s.phase;
     let l = s.staged;
     let n = transaction::staged_count(s);
-    let answer = journal::step(device, work, blocks, p, &l[0..n]);
+    let answer = journal::advance_in(device, work, blocks, p, &l[0..n]);
     let next = journal::after(p, s, answer);
     Advanced {
         session: next,

@@ -94,17 +94,6 @@ module _ (s : Session) (d w : List ℕ) where
       unfolding openStore openPhase
       open-ready h g = rw (e, f, eq-eqb (length (targetsIn (blocksOf d 0))) 0 h, g)
 
--- ---- advance
-
-module _ (s : Session) (d w : List ℕ) where
-  pub advance-bad : (r : Refusal) → refuse r ≡ lentOk (stateOf s d w) → left s d w (refusalOf r) ≡ advance (stateOf s d w)
-  unfolding advance
-  advance-bad r e = rw (← e)
-
-  pub advance-fine : (o : Outcome) → accept true ≡ lentOk (stateOf s d w) → o ≡ advanceIn (stateOf s d w) (s .phase) → o ≡ advance (stateOf s d w)
-  unfolding advance
-  advance-fine o e f = f ∙ rw (← e)
-
 -- ---- commit and abort
 
 module _ (s : Session) (d w : List ℕ) where

@@ -4,15 +4,14 @@ use block::block_in;
 use checks::Checked;
 use checks::done;
 use checks::is_allowed;
-use checks::lent;
 use checks::ready;
 use checks::refused;
 use fsck::is_sound;
 use header::Fault;
 use header::header_fault;
 use header::targets_in;
+use journal::advance_in;
 use journal::after;
-use journal::step;
 use mkfs::make_empty;
 pub use query::free_count;
 pub use query::nth_extent;
@@ -37,11 +36,7 @@ pub use update::set_size;
 pub use update::write;
 ghost use mathlib.Core.Path.{_≡_};
 ghost use mathlib.Core.List.{List};
-ghost use Prim.Native.Nat.{ℕ, _≤_};
-ghost use lib.ListN.{length};
-ghost use Rattle.spec.specs.declared.Session.{Session};
-ghost use Rattle.checks.specs.Checks.{Seen};
-ghost use Rattle.journal.specs.Entries.{behind};
+ghost use Prim.Native.Nat.{ℕ};
 ghost use Rattle.spec.specs.Answers.{doneOf, startedOf, storedOf};
 ghost use Rattle.spec.specs.Transaction.{stateOf};
 ghost use Rattle.spec.specs.Calls.{left, format, openStore, advance, commit, abort};
@@ -82,25 +77,7 @@ pub fn open_store(device: &[u8], session: Session) -> Finished
     done(Session::opened(n, Phase::Ready))
 }
 
-// Stores the next block of a commit or a recovery under way, of every session with these parts.
-pub fn advance_in(
-    device: &mut [u8],
-    work: &[u8],
-    blocks: usize,
-    phase: Phase,
-    staged: &[u32],
-) -> Stored
-    requires { ⌜ length (now staged) ≤ 32 ⌝ }
-    ensures { λ r. ⌜ ((s : Session) → Seen blocks phase (now (staged .entry)) s
-        → left (behind phase s r) (now (device .exit)) (now (work .entry)) (storedOf r) ≡ advance (stateOf s (now (device .entry)) (now (work .entry)))) ⌝ }
-{
-    match lent(device, work, blocks) {
-        Checked::Bad(why) => Stored::Refused(why),
-        Checked::Fine => step(device, work, blocks, phase, staged),
-    }
-}
-
-// The same of a session.
+// Stores the next block of a commit or a recovery under way.
 pub fn advance(device: &mut [u8], work: &[u8], session: Session) -> Advanced
     ensures { λ r. ⌜ left (r .session) (now (device .exit)) (now (work .entry)) (storedOf (r .answer))
         ≡ advance (stateOf session (now (device .entry)) (now (work .entry))) ⌝ }

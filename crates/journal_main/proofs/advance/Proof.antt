@@ -21,17 +21,17 @@ returns-2 c = search needs
 staged-count-requires : tie.Need-staged-count-requires
 staged-count-requires c κs = search needs
 
-sub-step : tie.Need-sub-step
-sub-step c = search needs
+sub-advance-in : tie.Need-sub-advance-in
+sub-advance-in c = search needs
 
-part-step-start : tie.Need-part-step-start
-part-step-start c = search needs
+part-advance-in-start : tie.Need-part-advance-in-start
+part-advance-in-start c = search needs
 
-part-step-end : tie.Need-part-step-end
-part-step-end c = let l : length (c .before .before .before .before .before .before .before .before .args .s .staged) ≡ 32 = search needs in omega (arith, l, c .before .before .staged-count .ensures .1)
+part-advance-in-end : tie.Need-part-advance-in-end
+part-advance-in-end c = let l : length (c .before .before .before .before .before .before .before .before .args .s .staged) ≡ 32 = search needs in omega (arith, l, c .before .before .staged-count .ensures .1)
 
-step-requires : tie.Need-step-requires
-step-requires c κs = let l : length (c .before .before .before .before .before .before .before .before .before .args .s .staged) ≡ 32 = search needs in (omega arith, lent-few (c .before .before .before .before .before .before .before .before .before .args .s) _ l (c .before .before .before .staged-count .ensures .1))
+advance-in-requires : tie.Need-advance-in-requires
+advance-in-requires c κs = let l : length (c .before .before .before .before .before .before .before .before .before .args .s .staged) ≡ 32 = search needs in lent-few (c .before .before .before .before .before .before .before .before .before .args .s) _ l (c .before .before .before .staged-count .ensures .1)
 
 after-requires : tie.Need-after-requires
 after-requires c κs = search needs
@@ -43,4 +43,4 @@ returns-3 : tie.Need-returns-3
 returns-3 c = search needs
 
 pub advance-spec : {M : Type 1} → statement M
-advance-spec = tie.close (tie.spec idle-requires returns idle-requires-2 returns-2 staged-count-requires sub-step part-step-start part-step-end step-requires after-requires same-length returns-3)
+advance-spec = tie.close (tie.spec idle-requires returns idle-requires-2 returns-2 staged-count-requires sub-advance-in part-advance-in-start part-advance-in-end advance-in-requires after-requires same-length returns-3)

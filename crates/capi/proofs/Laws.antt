@@ -8,7 +8,7 @@ use mathlib.Core.List.{List, [], _∷_, _++_}
 use mathlib.Core.Logic.{_⊎_, inl, inr}
 use borrow.Author.Tests.{eqb-true, eqb-false}
 use lib.Dec.{eqb}
-use lib.ListN.{length, take, drop, replicate, getD, length-take, length-drop, length-set}
+use lib.ListN.{length, take, drop, getD, length-take, length-drop, length-set}
 use lib.Seq.{take-length, take-all}
 use Rattle.spec.specs.declared.Extent.{Extent}
 use Rattle.spec.specs.declared.Counted.{Counted}
@@ -30,10 +30,9 @@ use Rattle.runlist.specs.Lists.{countsOf, countOk, namedRuns, manyOf, filled}
 use Rattle.runlist.proofs.Laws.{Told, told, count-bad, count-fine, count-short}
 use Rattle.mirror.specs.declared.CCounted.{CCounted}
 use Rattle.mirror.specs.declared.CHead.{CHead}
-use Rattle.journal.specs.Entries.{phaseAt, lastPhase, behind}
+use Rattle.journal.specs.Entries.{behind}
 use Rattle.spec.specs.declared.Stored.{Stored}
-use Rattle.spec.specs.declared.Stored.the-variants as answers
-use Rattle.mirror.specs.Mirror.{phaseOf, phaseNumber, placeIn, encode, decode, countedOf, Lists, extentsOf, withExtents}
+use Rattle.mirror.specs.Mirror.{phaseOf, headOf, encode, decode, countedOf, Lists, extentsOf, withExtents}
 use Rattle.checks.specs.Checks.{Seen}
 use Rattle.lookup.proofs.Laws.{seen-lent}
 use Rattle.transaction.proofs.Laws.{length-staged, lent-few}
@@ -227,26 +226,8 @@ module _ (h : CHead) (l : List ℕ) (n : ℕ) (k : length l ≡ 32) (e : n ≡ m
 pub in-numbers : (r q : CCounted) (before after : List ℕ) (o : Outcome) → r ≡ q → Lists q before after o → Lists r before after o
 in-numbers r q before after o e l = rw e l
 
--- ---- the numbers behind an answer of advance
+-- ---- the numbers behind an answer of advance that stores nothing
 
-abbrev pub numbered : ℕ → ℕ → Phase → CHead
-numbered blocks count p = record { blocks = blocks; phase = phaseNumber p; place = placeIn p; count = count }
-
-module _ (h : CHead) (p : Phase) (l : List ℕ) (e : p ≡ phaseOf (h .phase) (h .place)) (a : Stored) where
-  pub head-same : behind p (decode h l) a ≡ decode h l → record { blocks = h .blocks; phase = phaseNumber p; place = placeIn p; count = h .count } ≡ encode (behind p (decode h l) a)
-  head-same f = rw f (ap (λ (q : Phase). record { blocks = h .blocks; phase = phaseNumber q; place = placeIn q; count = h .count }) e)
-
-  module _ (b n : ℕ) (last : Bool) (f : a ≡ answers.Stored b last n) where
-    pub head-last : last ≡ true → record { blocks = h .blocks; phase = phaseNumber (lastPhase p); place = placeIn (lastPhase p); count = 0 } ≡ encode (behind p (decode h l) a)
-    head-last g = rw (f, g)
-
-    pub head-next : last ≡ false → record { blocks = h .blocks; phase = phaseNumber (phaseAt p n); place = placeIn (phaseAt p n); count = h .count } ≡ encode (behind p (decode h l) a)
-    head-next g = rw (f, g)
-
--- the cells behind it
-module _ (p : Phase) (h : CHead) (l : List ℕ) (a : Stored) (b n : ℕ) (last : Bool) (f : a ≡ answers.Stored b last n) where
-  pub cells-last : last ≡ true → replicate 32 0 ≡ behind p (decode h l) a .staged
-  cells-last g = rw (f, g)
-
-  pub cells-next : last ≡ false → l ≡ behind p (decode h l) a .staged
-  cells-next g = rw (f, g)
+pub head-same : (h : CHead) (p : Phase) (l : List ℕ) → p ≡ phaseOf (h .phase) (h .place) → (a : Stored) → behind p (decode h l) a ≡ decode h l
+    → headOf (h .blocks) p (h .count) ≡ encode (behind p (decode h l) a)
+head-same h p l e a f = rw f (ap (λ (q : Phase). headOf (h .blocks) q (h .count)) e)

@@ -43,9 +43,13 @@ placeIn (Recovering d) = d
 abbrev pub decode : CHead → List ℕ → Session
 decode h staged = record { blocks = h .blocks; phase = phaseOf (h .phase) (h .place); staged = staged; count = h .count }
 
+-- the numbers of a session on so many blocks, in this phase, with so many cells in use
+abbrev pub headOf : ℕ → Phase → ℕ → CHead
+headOf blocks p count = record { blocks = blocks; phase = phaseNumber p; place = placeIn p; count = count }
+
 -- its numbers; its cells are lent beside them
 abbrev pub encode : Session → CHead
-encode s = record { blocks = s .blocks; phase = phaseNumber (s .phase); place = placeIn (s .phase); count = s .count }
+encode s = headOf (s .blocks) (s .phase) (s .count)
 
 -- ---- answers
 

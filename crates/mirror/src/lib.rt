@@ -18,7 +18,7 @@ ghost use Prim.Native.Nat.{min};
 ghost use lib.ListN.{replicate};
 ghost use Rattle.spec.specs.declared.Session.{Session};
 ghost use Rattle.spec.specs.Answers.{refusalOf, doneOf, startedOf, storedOf, countedOf as answerOf, recordedOf as fileOf, runOf as extentOf};
-ghost use Rattle.mirror.specs.Mirror.{phaseOf, phaseNumber, placeIn, decode, encode, refusalNumber, faultIn, finishedOf, committedOf, advancedOf, countedOf, recordedOf, runOf};
+ghost use Rattle.mirror.specs.Mirror.{phaseOf, phaseNumber, placeIn, headOf, decode, encode, refusalNumber, faultIn, finishedOf, committedOf, advancedOf, countedOf, recordedOf, runOf};
 
 // A session but for the cells of its staged blocks, which are lent beside it.
 // phase: 0 closed, 1 ready, 2 committing, 3 recovering; place: the stores made so far of a commit or a recovery, else 0.
@@ -146,7 +146,7 @@ pub fn decode(h: CHead, staged: [u32; 32]) -> Session
 
 // The numbers of a session on so many blocks, in this phase, with so many cells in use.
 pub fn head_of(blocks: u64, phase: Phase, count: u64) -> CHead
-    ensures { λ h. ⌜ h ≡ record { blocks = blocks; phase = phaseNumber phase; place = placeIn phase; count = count } ⌝ }
+    ensures { λ h. ⌜ h ≡ headOf blocks phase count ⌝ }
 {
     CHead {
         blocks: blocks,

@@ -1,9 +1,9 @@
 use mathlib.Core.Path.{_≡_, sym, ap, _∙_}
 use Rattle.spec.specs.declared.Phase.{Phase}
-use Rattle.mirror.specs.declared.CHead.{CHead}
-use Rattle.mirror.specs.Mirror.{phaseNumber, placeIn, decode}
+use Rattle.mirror.specs.Mirror.{headOf, encode, decode}
 use Rattle.journal.specs.Entries.{behind}
-use Rattle.capi.proofs.Laws.{numbered, head-same, head-last, head-next}
+use Rattle.journal.proofs.Steps.{behind-last, behind-next}
+use Rattle.capi.proofs.Laws.{head-same}
 use borrow.Author.Needs.{needs}
 use Rattle.capi.proofs.head_behind.Statement.{statement}
 use Rattle.capi.proofs.head_behind.Tie as tie
@@ -24,7 +24,7 @@ head-of-requires-2 : tie.Need-head-of-requires-2
 head-of-requires-2 c κs = search needs
 
 returns : tie.Need-returns
-returns c = λ l e. let a = c .before .before .before .before .before .before .args in c .head-of2 .ensures ∙ ap (numbered (a .h .blocks) 0) (c .before .last-phase .ensures) ∙ head-last (a .h) (a .phase) l e (a .answer) _ _ _ (c .before .before .before .before .answer .given .1) (c .before .before .if1 .taken)
+returns c = λ l e. let a = c .before .before .before .before .before .before .args in c .head-of2 .ensures ∙ ap (λ (p : Phase). headOf (a .h .blocks) p 0) (c .before .last-phase .ensures) ∙ ap encode (behind-last (a .phase) (decode (a .h) l) _ _ _ (a .answer) (c .before .before .before .before .answer .given .1) (c .before .before .if1 .taken))
 
 phase-at-requires : tie.Need-phase-at-requires
 phase-at-requires c κs = search needs
@@ -42,7 +42,7 @@ returns-2 : tie.Need-returns-2
 returns-2 c = λ l e. let a = c .before .before .before .args in c .head-of .ensures ∙ head-same (a .h) (a .phase) l e (a .answer) (ap (behind (a .phase) (decode (a .h) l)) (c .before .enum-told .given .1))
 
 returns-3 : tie.Need-returns-3
-returns-3 c = λ l e. let a = c .before .before .before .before .before .before .args in c .head-of3 .ensures ∙ ap (numbered (a .h .blocks) (a .h .count)) (c .before .phase-at .ensures) ∙ head-next (a .h) (a .phase) l e (a .answer) _ _ _ (c .before .before .before .before .answer .given .1) (c .before .before .if1 .left)
+returns-3 c = λ l e. let a = c .before .before .before .before .before .before .args in c .head-of3 .ensures ∙ ap (λ (p : Phase). headOf (a .h .blocks) p (a .h .count)) (c .before .phase-at .ensures) ∙ ap encode (behind-next (a .phase) (decode (a .h) l) _ _ _ (a .answer) (c .before .before .before .before .answer .given .1) (c .before .before .if1 .left))
 
 returns-4 : tie.Need-returns-4
 returns-4 c = λ l e. let a = c .before .before .before .args in c .head-of4 .ensures ∙ head-same (a .h) (a .phase) l e (a .answer) (ap (behind (a .phase) (decode (a .h) l)) (c .before .enum-told2 .given .1))

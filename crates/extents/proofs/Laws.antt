@@ -18,7 +18,7 @@ use Rattle.spec.specs.Session.{stagedIn}
 use Rattle.spec.specs.Transaction.{State, stateOf, view}
 use Rattle.spec.specs.Calls.{runsOf}
 use Rattle.transaction.specs.Places.{viewIn}
-use Rattle.transaction.proofs.Laws.{view-lent}
+use Rattle.transaction.proofs.Laws.{staged-lent, view-of}
 use Rattle.inode.specs.declared.Cursor.{Cursor}
 use Rattle.inode.specs.Walk.{Slot, live, leaf, rest, startOf, Onward, Inward, Ended}
 use Rattle.inode.proofs.Walk.{walk-leaf, walk-node, walk-end, extents-start, slot-of, step-leaf, no-leaf, step-node, step-end}
@@ -447,11 +447,15 @@ pub runs-of : (s : State) (i from n : ℕ) → runsIn (view s) i from n ≡ runs
 unfolding runsIn runsOf
 runs-of s i from n = refl
 
+-- of a session with these numbers staged
+pub runs-seen : (s : Session) (device work l : List ℕ) (i from n : ℕ) → stagedIn s ≡ l → runsIn (viewIn l device work) i from n ≡ runsOf (stateOf s device work) i from n
+runs-seen s device work l i from n e = ap (λ (v : Disk). runsIn v i from n) (view-of s device work l e) ∙ runs-of (stateOf s device work) i from n
+
 -- of a session whose staged numbers are lent
 pub runs-lent : (s : Session) (device work : List ℕ) (m i from n : ℕ) → length (s .staged) ≡ 32 → m ≡ length (stagedIn s)
     → runsIn (viewIn (take (m - 0) (drop 0 (s .staged))) device work) i from n ≡ runsOf (stateOf s device work) i from n
 runs-lent s device work m i from n l e =
-    ap (λ (v : Disk). runsIn v i from n) (view-lent s device work m l e) ∙ runs-of (stateOf s device work) i from n
+    runs-seen s device work _ i from n (sym (staged-lent s l m e))
 
 pub record Begun (s : State) (i from n tb : ℕ) (g : Growing) : Type 0 where
   pub runs : restRuns (view s) tb g ≡ runsOf s i from n

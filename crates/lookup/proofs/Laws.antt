@@ -13,7 +13,7 @@ use Rattle.spec.specs.Answers.{Result, refuse, accept, require, _>>_}
 use Rattle.spec.specs.Session.{stagedIn}
 use Rattle.spec.specs.Transaction.{stateOf, view}
 use Rattle.transaction.specs.Places.{viewIn}
-use Rattle.transaction.proofs.Laws.{staged-lent}
+use Rattle.transaction.proofs.Laws.{staged-lent, view-of}
 use Rattle.spec.specs.Calls.{lentOk, nameOk, sizeFits, isReady, known, emptyInode, fileOk, sizedOk}
 use Rattle.checks.specs.Checks.{Seen, namesOk, nameSizeOk}
 use Rattle.checks.proofs.Laws.{then-passed, named-says, names-say, sized-says}
@@ -26,11 +26,6 @@ use Rattle.lookup.specs.Looks.{newOk, unlessTaken, renameOk}
 then-assoc : {A B C : Type 0} (a : Result A) (b : Result B) (x : Result C) → (a >> b) >> x ≡ a >> (b >> x)
 then-assoc (refuse r) b x = refl
 then-assoc (accept a) b x = refl
-
--- a session's working copy is that of the numbers that it has staged
-pub view-of : (s : Session) (d w l : List ℕ) → stagedIn s ≡ l → viewIn l d w ≡ view (stateOf s d w)
-unfolding view viewIn
-view-of s d w l e = rw (← e)
 
 -- a session by value is seen by its parts
 pub seen-lent : (s : Session) (n : ℕ) → length (s .staged) ≡ 32 → n ≡ length (stagedIn s) → Seen (s .blocks) (s .phase) (take (n - 0) (drop 0 (s .staged))) s

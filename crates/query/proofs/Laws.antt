@@ -21,9 +21,8 @@ use Rattle.spec.specs.Answers.{counted, file, noFile, run, noRun, refusalOf, re
 use Rattle.spec.specs.Disk.{Disk}
 use Rattle.spec.specs.Transaction.{stateOf, view}
 use Rattle.extents.specs.declared.RunOf.the-variants as RunOf
-use Rattle.extents.specs.Stretches.{runOf as asRun, runsIn}
-use Rattle.extents.proofs.Laws.{runs-of}
-use Rattle.lookup.proofs.Laws.{view-of}
+use Rattle.extents.specs.Stretches.{runOf as asRun}
+use Rattle.transaction.proofs.Laws.{view-of}
 use Rattle.transaction.specs.Places.{viewIn}
 use Rattle.spec.specs.Session.{stagedIn}
 use Rattle.file.specs.Bytes.{Filled}
@@ -31,12 +30,9 @@ use Rattle.inode.specs.Records.{recordIn}
 use Rattle.inode.proofs.Laws.{inode-at, record-at, empty-at}
 use Rattle.spec.specs.Calls.{Outcome, left, leftBuffer, outcome, withBuffer, readyOk, fileOk, read, sizeOf, freeCount, recordAt, runsOf, nthExtent}
 
--- a session's blocks and runs are those of the numbers that it has staged
+-- a session's blocks are those of the numbers that it has staged
 pub block-of : (s : Session) (d w l block : List ℕ) (b : ℕ) → stagedIn s ≡ l → exactly 512 block ≡ viewIn l d w b → exactly 512 block ≡ view (stateOf s d w) b
 block-of s d w l block b e f = f ∙ ap (λ (v : Disk). v b) (view-of s d w l e)
-
-pub runs-seen : (s : Session) (d w l : List ℕ) (i from n : ℕ) → stagedIn s ≡ l → runsIn (viewIn l d w) i from n ≡ runsOf (stateOf s d w) i from n
-runs-seen s d w l i from n e = ap (λ (v : Disk). runsIn v i from n) (view-of s d w l e) ∙ runs-of (stateOf s d w) i from n
 
 module _ (s : Session) (d w : List ℕ) where
   -- ---- size

@@ -223,11 +223,15 @@ module _ (l device work : List ℕ) (b : ℕ) where
       go none = block-length device b
       go (some i) = block-length work i
 
--- a session's working copy is that of the numbers that it has staged, however they are lent
+-- a session's working copy is that of the numbers that it has staged
+pub view-of : (s : Session) (device work l : List ℕ) → stagedIn s ≡ l → viewIn l device work ≡ view (stateOf s device work)
+unfolding view viewIn
+view-of s device work l e = rw (← e)
+
+-- the same where they are lent
 pub view-lent : (s : Session) (device work : List ℕ) (n : ℕ) → length (s .staged) ≡ 32 → n ≡ length (stagedIn s)
     → viewIn (take (n - 0) (drop 0 (s .staged))) device work ≡ view (stateOf s device work)
-unfolding view viewIn
-view-lent s device work n h e = rw (staged-lent s h n e)
+view-lent s device work n h e = view-of s device work _ (sym (staged-lent s h n e))
 
 -- fewer than 33 are lent
 pub lent-few : (s : Session) (n : ℕ) → length (s .staged) ≡ 32 → n ≤ 32 → length (take (n - 0) (drop 0 (s .staged))) ≤ 32

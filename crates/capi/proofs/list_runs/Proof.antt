@@ -3,7 +3,7 @@ use native.Mathlib.Omega.{arith}
 use lib.ListN.{length}
 use Rattle.lookup.specs.Looks.{lookedOf, InTable}
 use Rattle.capi.proofs.Laws.{list-bad, list-fine, list-short, listed-all}
-use Rattle.query.proofs.Laws.{runs-seen}
+use Rattle.extents.proofs.Laws.{runs-seen}
 use borrow.Author.Needs.{needs}
 use Rattle.capi.proofs.list_runs.Statement.{statement}
 use Rattle.capi.proofs.list_runs.Tie as tie

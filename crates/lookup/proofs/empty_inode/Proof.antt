@@ -4,7 +4,8 @@ use Rattle.spec.specs.Disk.{Disk}
 use Rattle.spec.specs.Inode.{findEmpty}
 use Rattle.inode.specs.Records.{foundOf}
 use Rattle.inode.proofs.Laws.{find-empty-low}
-use Rattle.lookup.proofs.Laws.{view-of, empty-at, empty-nothing}
+use Rattle.transaction.proofs.Laws.{view-of}
+use Rattle.lookup.proofs.Laws.{empty-at, empty-nothing}
 use borrow.Author.Needs.{needs}
 use Rattle.lookup.proofs.empty_inode.Statement.{statement}
 use Rattle.lookup.proofs.empty_inode.Tie as tie

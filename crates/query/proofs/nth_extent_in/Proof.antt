@@ -4,7 +4,8 @@ use mathlib.Core.List.{List}
 use lib.ListN.{getElem?}
 use Rattle.spec.specs.declared.Extent.{Extent}
 use Rattle.extents.specs.Stretches.{runOf}
-use Rattle.query.proofs.Laws.{runs-seen, nth-bad, nth-run, nth-none}
+use Rattle.extents.proofs.Laws.{runs-seen}
+use Rattle.query.proofs.Laws.{nth-bad, nth-run, nth-none}
 use borrow.Author.Needs.{needs}
 use Rattle.query.proofs.nth_extent_in.Statement.{statement}
 use Rattle.query.proofs.nth_extent_in.Tie as tie

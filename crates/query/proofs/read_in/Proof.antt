@@ -1,6 +1,6 @@
 use mathlib.Core.Path.{sym, ap, _∙_, subst}
 use Rattle.lookup.specs.Looks.{lookedOf, InTable}
-use Rattle.lookup.proofs.Laws.{view-of}
+use Rattle.transaction.proofs.Laws.{view-of}
 use Rattle.query.proofs.Laws.{read-bad, read-fine}
 use borrow.Author.Needs.{needs}
 use Rattle.query.proofs.read_in.Statement.{statement}

@@ -1,6 +1,7 @@
 -- Laws of blocks taken and given back. Assumes nothing.
 use Prim.Native.Nat.{ℕ, zero, suc, _+_, _*_, _-_, _/_, _<_, _≤_}
 use mathlib.Core.Path.{_≡_, refl, sym, ap, _∙_}
+use mathlib.Core.Bool.{Bool, true, false}
 use mathlib.Core.List.{List, [], _∷_, _++_, append-assoc, append-nil}
 use mathlib.Core.Logic.{_⊎_, inl, inr}
 use native.Mathlib.Nat.{add-zero}
@@ -12,14 +13,14 @@ use Rattle.spec.specs.Bytes.{upFrom, place}
 use Rattle.spec.specs.Disk.{Disk}
 use Rattle.spec.specs.Bitmap.{bitsOfByte, bitsOf, freeBits, mark, pick, picks}
 use Rattle.spec.specs.declared.Extent.{Extent}
-use Rattle.spec.specs.Inode.{dataOf, blockOfInode, runs}
+use Rattle.spec.specs.Inode.{dataOf, blockOfInode, runs, slotsIn}
 use Rattle.block.proofs.Laws.{lt-or-le}
 use Rattle.bitmap.specs.declared.Found.the-variants.{At, Nothing}
 use Rattle.bitmap.specs.Words.{Table, foundOf}
 use Rattle.bitmap.proofs.Laws.{length-bits, none-free, found-nothing, next-free}
 use Rattle.inode.specs.declared.Cursor.{Cursor}
-use Rattle.inode.specs.Walk.{restNodes, startOf, Onward, Inward, Ended}
-use Rattle.inode.proofs.Walk.{nodes-start, weight-start}
+use Rattle.inode.specs.Walk.{Slot, live, leaf, restNodes, startOf}
+use Rattle.inode.proofs.Walk.{live-left, nodes-start, weight-start, step-node, step-end}
 use Rattle.extents.specs.declared.Scan.{Scan}
 use Rattle.extents.specs.Stretches.{pending, Starts, NextPiece, GoesOn}
 use Rattle.extents.proofs.Laws.{length-up}
@@ -265,55 +266,51 @@ take-more t₀ t q₀ q from n k s l u b r p h =
 
 -- ---- nodes held
 
--- a cursor that has no leaf slots left
-abbrev pub atNodes : Cursor → Cursor
-atNodes c = record { block = 0; at = 0; left = 0; top = c .top; tops = c .tops }
+-- slots for nodes alone: so many, from a byte of the record's block on
+abbrev nodesFrom : ℕ → ℕ → Cursor
+nodesFrom top tops = record { block = 0; at = 0; left = 0; top = top; tops = tops }
 
-pub record Gathering (v : Disk) (tb : ℕ) (nodes : List ℕ) (c : Cursor) (node : List ℕ) (len : ℕ) : Type 0 where
-  pub few : len + c .tops ≤ 4
+pub record Gathering (v : Disk) (tb : ℕ) (nodes : List ℕ) (top tops : ℕ) (node : List ℕ) (len : ℕ) : Type 0 where
+  pub few : len + tops ≤ 4
   pub full : length node ≡ 4
-  pub is : take len node ++ restNodes v tb c ≡ nodes
+  pub is : take len node ++ restNodes v tb (nodesFrom top tops) ≡ nodes
 
-nodes-only : (v : Disk) (tb : ℕ) (c : Cursor) → restNodes v tb (atNodes c) ≡ restNodes v tb c
+nodes-only : (v : Disk) (tb : ℕ) (c : Cursor) → restNodes v tb (nodesFrom (c .top) (c .tops)) ≡ restNodes v tb c
 unfolding restNodes
 nodes-only v tb c = refl
 
-pub gather-start : (v : Disk) (tb i : ℕ) (c : Cursor) (node : List ℕ) → tb ≡ blockOfInode i → c ≡ startOf v i → length node ≡ 4 → Gathering v tb (nodesAt v i) c node 0
-gather-start v tb i c node t e l =
-    record { few = let w = weight-start v i in rw e (omega arith); full = l; is = rw (t, e) (nodes-start v i) }
+pub gather-start : (v : Disk) (i : ℕ) (c : Cursor) (node : List ℕ) → c ≡ startOf v i → length node ≡ 4 → Gathering v (blockOfInode i) (nodesAt v i) (c .top) (c .tops) node 0
+gather-start v i c node e l =
+    record { few = let w = weight-start v i in rw e (omega arith); full = l; is = rw (nodes-only v (blockOfInode i) c, e) (nodes-start v i) }
 
-module _ (v : Disk) (tb : ℕ) (nodes : List ℕ) (c : Cursor) (node : List ℕ) (len : ℕ) (g : Gathering v tb nodes c node len) where
-  pub gather-leaf : (e : Extent) (d : Cursor) → Onward v tb (atNodes c) e d → Gathering v tb nodes d node len
-  gather-leaf e d s =
+module _ (v : Disk) (tb : ℕ) (nodes : List ℕ) (top tops : ℕ) (node : List ℕ) (len : ℕ) (g : Gathering v tb nodes top tops node len)
+    (xs : List ℕ) (q : xs ≡ v tb) (e : Extent) (r : Bool) (o : Slot xs top e) (l : r ≡ live tops e) where
+  s : Slot (v tb) top e
+  s = rw (← q) o
+
+  none-left : leaf v 0 0 0 ≡ []
+  unfolding leaf slotsIn
+  none-left = refl
+
+  pub gather-next : r ≡ true → Gathering v tb nodes (top + 4) (tops - 1) (set node len (e .first)) (len + 1)
+  gather-next h =
+      let n = live-left tops e r l h in
+      let m : len < length node = omega (arith, g .few, n, g .full) in
+      let step = step-node v tb (nodesFrom top tops) e r none-left s l h in
+      let rest : restNodes v tb (nodesFrom top tops) ≡ e .first ∷ restNodes v tb (nodesFrom (top + 4) (tops - 1)) =
+      step .nodes ∙ ap (λ (xs : List ℕ). e .first ∷ xs) (sym (nodes-only v tb (record { block = e .first; at = 0; left = 128; top = top + 4; tops = tops - 1 })))
+      in
       record {
-        few = omega (arith, g .few, s .less);
-        full = g .full;
-        is = ap (λ (l : List ℕ). take len node ++ l) (sym (s .nodes) ∙ nodes-only v tb c) ∙ g .is;
+        few = omega (arith, g .few, n);
+        full = length-set node len (e .first) ∙ g .full;
+        is = rw (add-one len, take-suc-set node len (e .first) m, append-assoc (take len node) (e .first ∷ []) (restNodes v tb (nodesFrom (top + 4) (tops - 1))), ← rest) (g .is);
       }
 
-  pub leaf-less : (e : Extent) (d : Cursor) → Onward v tb (atNodes c) e d → d .tops < c .tops
-  leaf-less e d s = omega (arith, s .less)
-
-  module _ (b : ℕ) (d : Cursor) (s : Inward v tb (atNodes c) b d) where
-    pub node-less : d .tops < c .tops
-    node-less = omega (arith, s .less)
-
-    pub node-room : len < 4
-    node-room = omega (arith, g .few, node-less)
-
-    pub gather-node : Gathering v tb nodes d (set node len b) (len + 1)
-    gather-node =
-        let l : len < length node = omega (arith, node-room, g .full) in
-        record {
-          few = omega (arith, g .few, node-less);
-          full = length-set node len b ∙ g .full;
-          is = rw (add-one len, take-suc-set node len b l, append-assoc (take len node) (b ∷ []) (restNodes v tb d), ← s .nodes, nodes-only v tb c) (g .is);
-        }
-
-  pub gather-end : Ended v tb (atNodes c) → HeldNodes nodes (record { node = node; len = len })
-  gather-end s =
-      let q : take len node ≡ nodes = sym (append-nil (take len node)) ∙ ap (λ (l : List ℕ). take len node ++ l) (sym (sym (nodes-only v tb c) ∙ s .nodes)) ∙ g .is in
-      record { few = omega (arith, g .few); is = q; many = omega (arith, ap length q, length-take len node, g .full, g .few) }
+  pub gather-last : r ≡ false → HeldNodes nodes (record { node = node; len = len })
+  gather-last h =
+      let end = step-end v tb (nodesFrom top tops) e r none-left s l h in
+      let all : take len node ≡ nodes = sym (append-nil (take len node)) ∙ ap (λ (xs : List ℕ). take len node ++ xs) (sym (end .nodes)) ∙ g .is in
+      record { few = omega (arith, g .few); is = all; many = omega (arith, ap length all, length-take len node, g .full, g .few) }
 
 -- ---- nodes taken
 

@@ -13,27 +13,23 @@ use extents::pass_slots;
 use extents::stretch_at;
 use extents::take_node;
 use extents::take_slot;
-use inode::Cursor;
-use inode::Step;
 use inode::inode_block_in;
-use inode::next;
-use inode::start;
-use inode::table_block;
+use inode::is_live;
+use inode::slot_in;
+use inode::start_at;
 use runs::End;
 use runs::push;
 use spec::Limits;
 use spec::Refusal;
-use spec::Session;
-use transaction::staged_count;
 use transaction::view_in;
 ghost use mathlib.Core.Path.{_≡_};
 ghost use mathlib.Core.Bool.{true};
 ghost use Prim.Native.Nat.{_+_, _*_, _-_, _%_, _<_, _≤_};
 ghost use lib.ListN.{length, take, drop, set};
-ghost use Rattle.spec.specs.Bytes.{upFrom};
+ghost use Rattle.spec.specs.Bytes.{exactly, upFrom};
+ghost use Rattle.spec.specs.Disk.{Disk};
 ghost use Rattle.spec.specs.Bitmap.{bitsOf, freeBits, mark};
-ghost use Rattle.spec.specs.Inode.{nodesFor};
-ghost use Rattle.spec.specs.Transaction.{view, stateOf};
+ghost use Rattle.spec.specs.Inode.{blockOfInode, nodesFor};
 ghost use Rattle.transaction.specs.Places.{viewIn};
 ghost use Rattle.checks.specs.declared.Checked.the-variants.{Bad};
 ghost use Rattle.runs.specs.Push.{Small, columns, noEnd};
@@ -244,39 +240,28 @@ fn take_data(
     end
 }
 
-// The nodes of record i. A cursor with no leaf slots left steps from node to node.
-fn held_nodes<'a>(device: &'a [u8], work: &'a [u8], s: Session, i: usize) -> Nodes
-    requires { ⌜ i < 128 ⌝ }
-    ensures { λ q. ⌜ HeldNodes (nodesAt (view (stateOf s (now (device .entry)) (now (work .entry)))) i) q ⌝ }
+// The nodes of record i, of the block of the table that holds it.
+fn held_nodes(table: &[u8], i: usize) -> Nodes
+    requires { ⌜ (i < 128) × (length (now table) ≤ 512) ⌝ }
+    ensures { λ q. ⌜ ((v : Disk) → exactly 512 (now (table .entry)) ≡ v (blockOfInode i) → HeldNodes (nodesAt v i) q) ⌝ }
 {
-    let tb = table_block(i);
-    let mut at = start(device, work, s, i);
+    let cur = start_at(table, i);
+    let mut top = cur.top;
+    let mut tops = cur.tops;
     let mut node = [0u32; 4];
     let mut len: usize = 0;
     loop {
-        let top = Cursor {
-            block: 0,
-            at: 0,
-            left: 0,
-            top: at.top,
-            tops: at.tops,
-        };
-        match next(device, work, s, tb, top) {
-            Step::Leaf(_, then) => {
-                at = then;
-            }
-            Step::Node(b, then) => {
-                node[len] = b;
-                len += 1;
-                at = then;
-            }
-            Step::End => {
-                return Nodes {
-                    node: node,
-                    len: len,
-                };
-            }
+        let e = slot_in(table, top);
+        if !is_live(tops, e) {
+            return Nodes {
+                node: node,
+                len: len,
+            };
         }
+        node[len] = e.first;
+        len += 1;
+        top += 4;
+        tops -= 1;
     }
 }
 
@@ -347,23 +332,21 @@ pub fn draft_of<'a>(
     count: &mut [u32; 512],
     device: &'a [u8],
     work: &'a [u8],
-    s: Session,
+    staged: &[u32],
     i: usize,
     wanted: usize,
 ) -> Draft
-    requires { ⌜ (i < 128) × (wanted ≤ 8388608) × (now table ≡ view (stateOf s (now device) (now work)) 33) × Small (columns (now first) (now count) noEnd) 0 ⌝ }
-    ensures { λ d. ⌜ Drafted (view (stateOf s (now (device .entry)) (now (work .entry)))) i wanted (now (table .exit)) (now (first .exit)) (now (count .exit)) d ⌝ }
+    requires { ⌜ (i < 128) × (length (now staged) ≤ 32) × (wanted ≤ 8388608) × (now table ≡ viewIn (now staged) (now device) (now work) 33) × Small (columns (now first) (now count) noEnd) 0 ⌝ }
+    ensures { λ d. ⌜ Drafted (viewIn (now (staged .entry)) (now (device .entry)) (now (work .entry))) i wanted (now (table .exit)) (now (first .exit)) (now (count .exit)) d ⌝ }
 {
     let free = free_count(table);
-    let l = s.staged;
-    let n = staged_count(s);
-    let kept = keep(first, count, device, work, &l[0..n], i, wanted);
+    let kept = keep(first, count, device, work, staged, i, wanted);
     let fresh = wanted - kept.count;
     if free < fresh {
         return refused(Refusal::NoSpace);
     }
     let end = take_data(table, first, count, kept, fresh);
-    let held = held_nodes(device, work, s, i);
+    let held = held_nodes(inode_block_in(device, work, staged, i), i);
     let nodes = nodes_for(end.len);
     let lacking = minus(nodes, held.len);
     if free < fresh + lacking {
@@ -373,7 +356,7 @@ pub fn draft_of<'a>(
         return refused(Refusal::TooManyExtents);
     }
     let node = take_nodes(table, held, nodes);
-    let dropped = give_back(table, device, work, &l[0..n], i, wanted, kept.count);
+    let dropped = give_back(table, device, work, staged, i, wanted, kept.count);
     give_nodes(table, held, nodes);
     known(*table);
     Draft {

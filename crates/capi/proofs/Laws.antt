@@ -17,9 +17,10 @@ use Rattle.spec.specs.declared.Refusal.{Refusal}
 use Rattle.spec.specs.declared.Refusal.the-variants.{ListShort}
 use Rattle.spec.specs.declared.Phase.{Phase}
 use Rattle.spec.specs.Inode.{extent, blockOfInode}
-use Rattle.spec.specs.Answers.{refuse, accept, countedOf as answerOf}
+use Rattle.spec.specs.declared.Session.{Session}
+use Rattle.spec.specs.Answers.{Answer, refuse, accept, countedOf as answerOf}
 use Rattle.spec.specs.Transaction.{State, stateOf, view}
-use Rattle.spec.specs.Calls.{Outcome, fileOk, runsOf, runList}
+use Rattle.spec.specs.Calls.{Outcome, left, fileOk, runsOf, runList}
 use Rattle.spec.specs.Disk.{Disk}
 use Rattle.block.proofs.Laws.{lt-or-le}
 use Rattle.extents.specs.declared.Growing.{Growing}
@@ -30,9 +31,12 @@ use Rattle.runlist.specs.Lists.{countsOf, countOk, namedRuns, manyOf, filled}
 use Rattle.runlist.proofs.Laws.{Told, told, count-bad, count-fine, count-short}
 use Rattle.mirror.specs.declared.CCounted.{CCounted}
 use Rattle.mirror.specs.declared.CHead.{CHead}
+use Rattle.mirror.specs.declared.CFinished.{CFinished}
+use Rattle.transaction.specs.Places.{sessionOf}
+use Rattle.mirror.proofs.Laws.{finishes}
 use Rattle.journal.specs.Entries.{behind}
 use Rattle.spec.specs.declared.Stored.{Stored}
-use Rattle.mirror.specs.Mirror.{phaseOf, headOf, encode, decode, countedOf, Lists, extentsOf, withExtents}
+use Rattle.mirror.specs.Mirror.{phaseOf, headOf, encode, decode, countedOf, finishedOf, Finishes, Lists, extentsOf, withExtents}
 use Rattle.checks.specs.Checks.{Seen}
 use Rattle.lookup.proofs.Laws.{seen-lent}
 use Rattle.transaction.proofs.Laws.{length-staged, lent-few}
@@ -231,3 +235,11 @@ in-numbers r q before after o e l = rw e l
 pub head-same : (h : CHead) (p : Phase) (l : List ℕ) → p ≡ phaseOf (h .phase) (h .place) → (a : Stored) → behind p (decode h l) a ≡ decode h l
     → headOf (h .blocks) p (h .count) ≡ encode (behind p (decode h l) a)
 head-same h p l e a f = rw f (ap (λ (q : Phase). headOf (h .blocks) q (h .count)) e)
+
+-- a call on the session that numbers and cells stand for, given its parts
+pub finishes-in : (f : Session → Outcome) (h : CHead) (p : Phase) (cells left-cells : List ℕ) (count : ℕ) (d w : List ℕ) (a : Answer) → p ≡ phaseOf (h .phase) (h .place)
+    → left (sessionOf (h .blocks) p left-cells count) d w a ≡ f (sessionOf (h .blocks) p cells (h .count))
+    → (r : CFinished) → r ≡ finishedOf (sessionOf (h .blocks) p left-cells count) a → Finishes r left-cells d w (f (decode h cells))
+finishes-in f h p cells left-cells count d w a e q r g =
+    finishes f (sessionOf (h .blocks) p cells (h .count)) (decode h cells) (ap (λ (x : Phase). sessionOf (h .blocks) x cells (h .count)) e)
+    (sessionOf (h .blocks) p left-cells count) d w a q r g left-cells refl

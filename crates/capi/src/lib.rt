@@ -29,6 +29,7 @@ use mirror::committed;
 use mirror::counted;
 use mirror::decode;
 use mirror::finished;
+use mirror::finished_with;
 use mirror::head_of;
 use mirror::phase_in;
 use mirror::recorded;
@@ -46,14 +47,14 @@ use spec::Refusal;
 use spec::Stored;
 use store::abort;
 use store::commit;
-use store::create;
 use store::format;
 use store::open_store;
-use store::remove;
-use store::rename;
-use store::set_size;
-use store::write;
 use transaction::view_in;
+use update::create_in;
+use update::remove_in;
+use update::rename_in;
+use update::set_size_in;
+use update::write_in;
 ghost use mathlib.Core.Path.{_≡_};
 ghost use mathlib.Core.List.{List};
 ghost use Prim.Native.Nat.{ℕ, _<_, _≤_};
@@ -211,12 +212,12 @@ pub extern "C" fn purse_create_v(
     ensures { λ r. ⌜ Finishes r (now (staged .exit)) (now (device .entry)) (now (work .exit))
         (create (stateOf (decode head (now (staged .entry))) (now (device .entry)) (now (work .entry))) (now (name .entry))) ⌝ }
 {
-    let before = decode(head, *staged);
-    let after = create(device, work, before, name);
-    let s = after.session;
-    let cells = s.staged;
-    *staged = cells;
-    finished(after)
+    let blocks = head.blocks as usize;
+    let phase = phase_in(head);
+    let many = head.count as usize;
+    let c = create_in(device, work, blocks, phase, staged, many, name);
+    let answer = c.answer;
+    finished_with(head_of(head.blocks, phase, c.count as u64), answer)
 }
 
 // Removes a file.
@@ -231,12 +232,12 @@ pub extern "C" fn purse_remove_v(
     ensures { λ r. ⌜ Finishes r (now (staged .exit)) (now (device .entry)) (now (work .exit))
         (remove (stateOf (decode head (now (staged .entry))) (now (device .entry)) (now (work .entry))) (now (name .entry))) ⌝ }
 {
-    let before = decode(head, *staged);
-    let after = remove(device, work, before, name);
-    let s = after.session;
-    let cells = s.staged;
-    *staged = cells;
-    finished(after)
+    let blocks = head.blocks as usize;
+    let phase = phase_in(head);
+    let many = head.count as usize;
+    let c = remove_in(device, work, blocks, phase, staged, many, name);
+    let answer = c.answer;
+    finished_with(head_of(head.blocks, phase, c.count as u64), answer)
 }
 
 // Names a file anew.
@@ -252,12 +253,12 @@ pub extern "C" fn purse_rename_v(
     ensures { λ r. ⌜ Finishes r (now (staged .exit)) (now (device .entry)) (now (work .exit))
         (rename (stateOf (decode head (now (staged .entry))) (now (device .entry)) (now (work .entry))) (now (name .entry)) (now (new .entry))) ⌝ }
 {
-    let before = decode(head, *staged);
-    let after = rename(device, work, before, name, new);
-    let s = after.session;
-    let cells = s.staged;
-    *staged = cells;
-    finished(after)
+    let blocks = head.blocks as usize;
+    let phase = phase_in(head);
+    let many = head.count as usize;
+    let c = rename_in(device, work, blocks, phase, staged, many, name, new);
+    let answer = c.answer;
+    finished_with(head_of(head.blocks, phase, c.count as u64), answer)
 }
 
 // Bytes laid over a file from byte x on.
@@ -274,12 +275,22 @@ pub extern "C" fn purse_write_v(
     ensures { λ r. ⌜ Finishes r (now (staged .exit)) (now (device .entry)) (now (work .exit))
         (write (stateOf (decode head (now (staged .entry))) (now (device .entry)) (now (work .entry))) (now (name .entry)) x (now (bytes .entry))) ⌝ }
 {
-    let before = decode(head, *staged);
-    let after = write(device, work, before, name, ByteOffset(x as usize), bytes);
-    let s = after.session;
-    let cells = s.staged;
-    *staged = cells;
-    finished(after)
+    let blocks = head.blocks as usize;
+    let phase = phase_in(head);
+    let many = head.count as usize;
+    let c = write_in(
+        device,
+        work,
+        blocks,
+        phase,
+        staged,
+        many,
+        name,
+        ByteOffset(x as usize),
+        bytes,
+    );
+    let answer = c.answer;
+    finished_with(head_of(head.blocks, phase, c.count as u64), answer)
 }
 
 // A file cut, or lengthened by zeros.
@@ -295,12 +306,21 @@ pub extern "C" fn purse_set_size_v(
     ensures { λ r. ⌜ Finishes r (now (staged .exit)) (now (device .entry)) (now (work .exit))
         (setSize (stateOf (decode head (now (staged .entry))) (now (device .entry)) (now (work .entry))) (now (name .entry)) size) ⌝ }
 {
-    let before = decode(head, *staged);
-    let after = set_size(device, work, before, name, size as usize);
-    let s = after.session;
-    let cells = s.staged;
-    *staged = cells;
-    finished(after)
+    let blocks = head.blocks as usize;
+    let phase = phase_in(head);
+    let many = head.count as usize;
+    let c = set_size_in(
+        device,
+        work,
+        blocks,
+        phase,
+        staged,
+        many,
+        name,
+        size as usize,
+    );
+    let answer = c.answer;
+    finished_with(head_of(head.blocks, phase, c.count as u64), answer)
 }
 
 // Bytes of a file from byte x on, as many as the buffer takes and the file has; how many.

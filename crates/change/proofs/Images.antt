@@ -1,5 +1,5 @@
 -- Laws of comparing a block with its new content, and of making that in its image. Assumes nothing.
-use Prim.Native.Nat.{ℕ, _+_, _*_, _-_, _<_, _≤_}
+use Prim.Native.Nat.{ℕ, _+_, _*_, _-_, _<_, _≤_, min}
 use mathlib.Core.Path.{_≡_, refl, sym, ap, ap₂, _∙_, fun-ext}
 use mathlib.Core.Bool.{Bool, true, false, cond, _&&_, true≢false}
 use mathlib.Core.List.{List, [], _∷_, _++_}
@@ -11,6 +11,7 @@ use lib.Seq.{take-all, drop-drop, take-append-seam, drop-append-seam, ext-getD, 
 use Rattle.spec.specs.Bytes.{exactly, part, patch, same, place}
 use Rattle.spec.specs.Disk.{Disk, Slice, sliceOf, blocksOf, withBlock}
 use Rattle.spec.specs.Inode.{blockOfInode, placeOfInode}
+use Rattle.spec.specs.declared.Phase.{Phase}
 use Rattle.spec.specs.declared.Session.{Session}
 use Rattle.spec.specs.Session.{stagedIn, withStaged}
 use Rattle.spec.specs.Transaction.{view, stateOf, put, stage, stagedOf, withStaging}
@@ -19,8 +20,8 @@ use Rattle.block.specs.Stores.{storedIn}
 use Rattle.block.proofs.Laws.{length-exactly, getD-exactly, exactly-all, block-is, block-read, with-same, same-self, same-true}
 use Rattle.block.proofs.Steps.{slice-stored}
 use Rattle.transaction.specs.declared.Place.the-variants.{At, Nothing}
-use Rattle.transaction.specs.Places.{foundAt, spot, blocksWith, viewIn}
-use Rattle.transaction.proofs.Laws.{spot-at, spot-new, view-at, view-new, stage-leaves}
+use Rattle.transaction.specs.Places.{foundAt, spot, blocksWith, sessionOf, viewIn}
+use Rattle.transaction.proofs.Laws.{spot-at, spot-new, view-at, view-new, cells-lent, cells-view, stage-leaves}
 use Rattle.inode.specs.Records.{bytesIn}
 use Rattle.content.specs.Content.{withRecord}
 
@@ -112,27 +113,25 @@ with-twice k x y d = fun-ext (λ c. go c (eqb c k) refl)
     go c true h = rw h
     go c false h = rw h
 
+-- where these are staged
+module _ (l device work : List ℕ) (b : ℕ) where
+  -- where the block is staged its image is its working copy
+  pub image-held : (i : ℕ) → foundAt (place b l) ≡ At i → sliceOf work ≡ storedIn (sliceOf work) (spot l b) (viewIn l device work b)
+  image-held i e =
+      ap (λ (d : Disk). record { size = length work; block = d }) (sym (with-self i (blocksOf work)))
+      ∙ ap₂ (λ (k : ℕ) (x : List ℕ). storedIn (sliceOf work) k x) (spot-at l b i e) (sym (view-at l device work b i e))
+
+  pub image-new : (left from : List ℕ) (n : ℕ) → foundAt (place b l) ≡ Nothing → n ≡ length l → from ≡ take 512 (drop (512 * b) device)
+      → sliceOf left ≡ storedIn (sliceOf work) n (exactly 512 from) → sliceOf left ≡ storedIn (sliceOf work) (spot l b) (viewIn l device work b)
+  image-new left from n e en ef h =
+      h ∙ ap₂ (λ (k : ℕ) (x : List ℕ). storedIn (sliceOf work) k x) (en ∙ spot-new l b e) (block-read device from (exactly 512 from) b ef refl ∙ sym (view-new l device work b e))
+
 module _ (s : Session) (device work : List ℕ) (b : ℕ) where
   abbrev viewed : List ℕ
   viewed = view (stateOf s device work) b
 
-  view-staged : viewed ≡ viewIn (stagedIn s) device work b
-  unfolding view viewIn
-  view-staged = refl
-
-  -- where the block is staged its image is its working copy
-  pub image-held : (i : ℕ) → foundAt (place b (stagedIn s)) ≡ At i → sliceOf work ≡ storedIn (sliceOf work) (spot s b) viewed
-  image-held i e =
-      ap (λ (d : Disk). record { size = length work; block = d }) (sym (with-self i (blocksOf work)))
-      ∙ ap₂ (λ (k : ℕ) (x : List ℕ). storedIn (sliceOf work) k x) (spot-at s b i e) (sym (view-staged ∙ view-at (stagedIn s) device work b i e))
-
-  pub image-new : (left from : List ℕ) (n : ℕ) → foundAt (place b (stagedIn s)) ≡ Nothing → n ≡ length (stagedIn s) → from ≡ take 512 (drop (512 * b) device)
-      → sliceOf left ≡ storedIn (sliceOf work) n (exactly 512 from) → sliceOf left ≡ storedIn (sliceOf work) (spot s b) viewed
-  image-new left from n e en ef h =
-      h ∙ ap₂ (λ (k : ℕ) (x : List ℕ). storedIn (sliceOf work) k x) (en ∙ spot-new s b e) (block-read device from (exactly 512 from) b ef refl ∙ sym (view-staged ∙ view-new (stagedIn s) device work b e))
-
   -- its content made there, in the part that is lent
-  module _ (w : List ℕ) (k : ℕ) (e : k ≡ spot s b) (fits : 512 * k + 512 ≤ length w) (loaded : sliceOf w ≡ storedIn (sliceOf work) (spot s b) viewed) where
+  module _ (w : List ℕ) (k : ℕ) (e : k ≡ spot (stagedIn s) b) (fits : 512 * k + 512 ≤ length w) (loaded : sliceOf w ≡ storedIn (sliceOf work) (spot (stagedIn s) b) viewed) where
     loaded-at : sliceOf w ≡ storedIn (sliceOf work) k viewed
     loaded-at = loaded ∙ ap (λ (j : ℕ). storedIn (sliceOf work) j viewed) (sym e)
 
@@ -145,8 +144,8 @@ module _ (s : Session) (device work : List ℕ) (b : ℕ) where
         ∙ ap (λ (u : Slice). u .block k) loaded-at
         ∙ with-same k viewed (blocksOf work)
 
-    pub image-edited : (q : Session) (g : List ℕ → List ℕ) (y : List ℕ) → y ≡ g (take (512 * k + 512 - 512 * k) (drop (512 * k) w)) → length y ≡ 512
-        → q ≡ withStaged s (blocksWith s b)
+    image-edited : (q : Session) (g : List ℕ → List ℕ) (y : List ℕ) → y ≡ g (take (512 * k + 512 - 512 * k) (drop (512 * k) w)) → length y ≡ 512
+        → q ≡ withStaged s (blocksWith (stagedIn s) b)
         → stateOf q device (take (512 * k) w ++ (y ++ drop (512 * k + 512 - 512 * k) (drop (512 * k) w)))
         ≡ withStaging (stateOf s device work) (stage (stagedOf (stateOf s device work)) (put b (g viewed)))
     image-edited q g y ey l eq =
@@ -157,3 +156,27 @@ module _ (s : Session) (device work : List ℕ) (b : ℕ) where
         (slice-stored k x y w yx m fits ∙ ap (λ (u : Slice). storedIn u k x) loaded-at
         ∙ ap (λ (d : Disk). record { size = length work; block = d }) (with-twice k x viewed (blocksOf work)))
         eq
+
+-- the same of every session with these cells, where those in use are lent
+module _ (cells : List ℕ) (count n : ℕ) (h : length cells ≡ 32) (m : n ≡ min count 32) (b : ℕ) where
+  pub spot-cells : (k : ℕ) → k ≡ spot (take (n - 0) (drop 0 cells)) b → k ≡ spot (take count cells) b
+  spot-cells k e = e ∙ ap (λ (l : List ℕ). spot l b) (cells-lent cells count n h m)
+
+  pub spot-lent : (k : ℕ) → k ≡ spot (take count cells) b → k ≡ spot (take (n - 0) (drop 0 cells)) b
+  spot-lent k e = e ∙ ap (λ (l : List ℕ). spot l b) (sym (cells-lent cells count n h m))
+
+  module _ (device work w : List ℕ) (k : ℕ) (e : k ≡ spot (take count cells) b) (fits : 512 * k + 512 ≤ length w)
+      (loaded : sliceOf w ≡ storedIn (sliceOf work) (spot (take (n - 0) (drop 0 cells)) b) (viewIn (take (n - 0) (drop 0 cells)) device work b)) where
+    loaded-in : (N : ℕ) (p : Phase)
+        → sliceOf w ≡ storedIn (sliceOf work) (spot (stagedIn (sessionOf N p cells count)) b) (view (stateOf (sessionOf N p cells count) device work) b)
+    unfolding stagedIn
+    loaded-in N p =
+        loaded ∙ ap₂ (λ (l : List ℕ) (x : List ℕ). storedIn (sliceOf work) (spot l b) x) (cells-lent cells count n h m) (ap (λ (v : Disk). v b) (cells-view cells count n h m N p device work))
+
+    pub image-cells : (left : List ℕ) (q : ℕ) → ((N : ℕ) (p : Phase) → sessionOf N p left q ≡ withStaged (sessionOf N p cells count) (blocksWith (take count cells) b))
+        → (g : List ℕ → List ℕ) (y : List ℕ) → y ≡ g (take (512 * k + 512 - 512 * k) (drop (512 * k) w)) → length y ≡ 512 → (N : ℕ) (p : Phase)
+        → stateOf (sessionOf N p left q) device (take (512 * k) w ++ (y ++ drop (512 * k + 512 - 512 * k) (drop (512 * k) w)))
+        ≡ withStaging (stateOf (sessionOf N p cells count) device work) (stage (stagedOf (stateOf (sessionOf N p cells count) device work)) (put b (g (view (stateOf (sessionOf N p cells count) device work) b))))
+    unfolding stagedIn
+    image-cells left q eq g y ey l N p =
+        image-edited (sessionOf N p cells count) device work b w k e fits (loaded-in N p) (sessionOf N p left q) g y ey l (eq N p)

@@ -1,5 +1,5 @@
 -- Laws of staging an agenda block by block, each content from the working copy as it then is. Assumes nothing.
-use Prim.Native.Nat.{ℕ, _-_, suc, _+_, _<_, _≤_}
+use Prim.Native.Nat.{ℕ, _-_, suc, _+_, _<_, _≤_, min}
 use mathlib.Core.Path.{_≡_, refl, sym, ap, ap₂, _∙_, subst}
 use mathlib.Core.Bool.{Bool, true, false, _&&_}
 use mathlib.Core.List.{List, [], _∷_, _++_}
@@ -12,19 +12,21 @@ use lib.Seq.{drop-cons, getD-take}
 use native.Mathlib.Numerals.{add-one}
 use Rattle.spec.specs.Bytes.{found, place}
 use Rattle.spec.specs.Disk.{Disk, withBlock}
+use Rattle.spec.specs.declared.Phase.{Phase}
+use Rattle.spec.specs.declared.Phase.the-variants.{Closed}
 use Rattle.spec.specs.declared.Session.{Session}
 use Rattle.spec.specs.Session.{stagedIn, withStaged}
 use Rattle.spec.specs.Answers.{done, refused}
 use Rattle.spec.specs.Transaction.{State, stateOf, view, BlockStore, put, Staged, stage, stageEach, stagedOf, stageAll, withStaging, ascending}
 use Rattle.spec.specs.Calls.{left, outcome, settle, staging}
 use Rattle.lists.specs.Places.{place-lt}
-use Rattle.transaction.specs.Places.{spot, blocksWith}
-use Rattle.transaction.proofs.Laws.{staged-lent, staged-with, staged-is, view-stage, withStaged-twice, stage-longer, stage-is}
+use Rattle.transaction.specs.Places.{spot, blocksWith, sessionOf, viewIn}
+use Rattle.transaction.proofs.Laws.{staged-with, staged-is, cells-lent, cells-view, view-stage, withStaged-twice, stage-longer, stage-is}
 use Rattle.agenda.specs.Agenda.{Agenda, storesBy, Rising, Lists, freshIn}
 use Rattle.agenda.proofs.Laws.{ascending-rising, fits-is}
 use Rattle.lists.specs.Tests.{both-true}
-use Rattle.change.specs.Change.{Change}
-use Rattle.change.specs.Contents.{contentOf, contentIn}
+use Rattle.change.specs.Change.{Change, changeStores}
+use Rattle.change.specs.Contents.{Stages, contentOf, contentIn}
 
 each-longer : (ws : List BlockStore) (u : Staged) → length (u .blocks) ≤ length (stageEach u ws .blocks)
 each-longer [] u = omega arith
@@ -32,7 +34,7 @@ each-longer (w ∷ ws) u = let a = stage-longer u w in let b = each-longer ws (s
 
 -- where all fit, the next one has a place
 spot-fits : (s : Session) (device work : List ℕ) (b : ℕ) (x : List ℕ) (ws : List BlockStore)
-    → length (stageEach (stagedOf (stateOf s device work)) (put b x ∷ ws) .blocks) ≤ 32 → spot s b < 32
+    → length (stageEach (stagedOf (stateOf s device work)) (put b x ∷ ws) .blocks) ≤ 32 → spot (stagedIn s) b < 32
 unfolding spot blocksWith
 spot-fits s device work b x ws h = go (place b (stagedIn s)) refl
   where
@@ -76,7 +78,7 @@ module _ (i : ℕ) (c : Change) (x : ℕ) (bytes : List ℕ) where
       → Going (withStaging t (stageEach (stagedOf t) (storesBy (contentIn (view t) i c x bytes) bs ts))) t bs ts
   going-start t bs ts r l = record { is = refl; rising = r; room = l }
 
-  pub going-room : (goal : State) (s : Session) (device work : List ℕ) (b tag : ℕ) (bs ts : List ℕ) → Going goal (stateOf s device work) (b ∷ bs) (tag ∷ ts) → spot s b < 32
+  pub going-room : (goal : State) (s : Session) (device work : List ℕ) (b tag : ℕ) (bs ts : List ℕ) → Going goal (stateOf s device work) (b ∷ bs) (tag ∷ ts) → spot (stagedIn s) b < 32
   unfolding storesBy
   going-room goal s device work b tag bs ts g =
       spot-fits s device work b (contentIn (view (stateOf s device work)) i c x bytes b tag) (storesBy (contentIn (view (stateOf s device work)) i c x bytes) bs ts) (g .room)
@@ -125,7 +127,7 @@ module _ (i : ℕ) (c : Change) (x : ℕ) (bytes : List ℕ) (goal : State) (s :
     here : Going i c x bytes goal (stateOf s device work) (getD bs k 0 ∷ drop (k + 1) (take n bs)) (getD ts k 0 ∷ drop (k + 1) (take n ts))
     here = rw (← next bs lb, ← next ts lt) g
 
-    pub stage-room : spot s (getD bs k 0) < 32
+    pub stage-room : spot (stagedIn s) (getD bs k 0) < 32
     stage-room = going-room i c x bytes goal s device work (getD bs k 0) (getD ts k 0) (drop (k + 1) (take n bs)) (drop (k + 1) (take n ts)) here
 
     pub stage-step : (t : State)
@@ -164,31 +166,68 @@ module _ (s : State) (ws : List BlockStore) (r : Bool) (e : r ≡ leb (length (s
   unfolding staging stageAll
   fits-not q = let z : leb (length (stageEach (stagedOf s) (ascending ws) .blocks)) 32 ≡ false = sym e ∙ q in rw z
 
--- the numbers staged are lent to `fits`
-pub fits-lent : (s : Session) (k n : ℕ) (blocks : List ℕ) (r : Bool) → length (s .staged) ≡ 32 → k ≡ length (stagedIn s)
-    → r ≡ (leb n 32 && leb (length (take (k - 0) (drop 0 (s .staged))) + freshIn (take (k - 0) (drop 0 (s .staged))) (take n blocks)) 32)
-    → r ≡ (leb n 32 && leb (length (stagedIn s) + freshIn (stagedIn s) (take n blocks)) 32)
-fits-lent s k n blocks r h e q = rw (staged-lent s h k e) at q
-
 -- what the answer of `fits` says of the agenda of some stores
 module _ (f : ℕ → ℕ → List ℕ) (s : Session) (device work : List ℕ) (a : Agenda) (ws : List BlockStore) (l : Lists f a (ascending ws)) (r : Bool)
     (e : r ≡ leb (a .len) 32 && leb (length (stagedIn s) + freshIn (stagedIn s) (take (a .len) (a .block))) 32) (lb : length (a .block) ≡ 32) (lt : length (a .tag) ≡ 32) where
-  pub fits-ends : r ≡ leb (length (stageEach (stagedOf (stateOf s device work)) (ascending ws) .blocks)) 32
+  fits-ends : r ≡ leb (length (stageEach (stagedOf (stateOf s device work)) (ascending ws) .blocks)) 32
   fits-ends = e ∙ fits-is f a (ascending ws) (stagedOf (stateOf s device work)) (stagedIn s) lb lt l (ascending-rising ws) refl
 
   module _ (h : r ≡ true) where
-    pub fits-few : a .len ≤ 32
+    fits-few : a .len ≤ 32
     fits-few = leb-true (a .len) 32 (both-true (leb (a .len) 32) (leb (length (stagedIn s) + freshIn (stagedIn s) (take (a .len) (a .block))) 32) (sym e ∙ h) .0)
 
-    pub fits-columns : storesBy f (take (a .len) (a .block)) (take (a .len) (a .tag)) ≡ ascending ws
+    fits-columns : storesBy f (take (a .len) (a .block)) (take (a .len) (a .tag)) ≡ ascending ws
     fits-columns = l .stores (let m = l .many in let k = fits-few in omega arith)
 
-    pub fits-rising : Rising 0 (storesBy f (take (a .len) (a .block)) (take (a .len) (a .tag)))
+    fits-rising : Rising 0 (storesBy f (take (a .len) (a .block)) (take (a .len) (a .tag)))
     fits-rising = rw fits-columns (ascending-rising ws)
 
-    pub fits-room : length (stageEach (stagedOf (stateOf s device work)) (storesBy f (take (a .len) (a .block)) (take (a .len) (a .tag))) .blocks) ≤ 32
+    fits-room : length (stageEach (stagedOf (stateOf s device work)) (storesBy f (take (a .len) (a .block)) (take (a .len) (a .tag))) .blocks) ≤ 32
     fits-room = rw fits-columns (leb-true (length (stageEach (stagedOf (stateOf s device work)) (ascending ws) .blocks)) 32 (sym fits-ends ∙ h))
 
-    pub fits-staged : (t : State) → t ≡ withStaging (stateOf s device work) (stageEach (stagedOf (stateOf s device work)) (storesBy f (take (a .len) (a .block)) (take (a .len) (a .tag))))
+    fits-staged : (t : State) → t ≡ withStaging (stateOf s device work) (stageEach (stagedOf (stateOf s device work)) (storesBy f (take (a .len) (a .block)) (take (a .len) (a .tag))))
         → t ≡ withStaging (stateOf s device work) (stageEach (stagedOf (stateOf s device work)) (ascending ws))
     fits-staged t q = q ∙ rw fits-columns
+
+-- the same of every session with these cells, where those in use are lent
+module _ (cells : List ℕ) (count n : ℕ) (h : length cells ≡ 32) (m : n ≡ min count 32) (device work : List ℕ) (i : ℕ) (c : Change) (x : ℕ) (bytes : List ℕ) (a : Agenda)
+    (l : Lists (contentIn (viewIn (take (n - 0) (drop 0 cells)) device work) i c x bytes) a (ascending (changeStores (viewIn (take (n - 0) (drop 0 cells)) device work) i c x bytes))) (r : Bool)
+    (e : r ≡ leb (a .len) 32 && leb (length (take (n - 0) (drop 0 cells)) + freshIn (take (n - 0) (drop 0 cells)) (take (a .len) (a .block))) 32)
+    (lb : length (a .block) ≡ 32) (lt : length (a .tag) ≡ 32) where
+  abbrev before : ℕ → Phase → State
+  before N p = stateOf (sessionOf N p cells count) device work
+
+  abbrev stores : ℕ → Phase → List BlockStore
+  stores N p = changeStores (view (before N p)) i c x bytes
+
+  lists-in : (N : ℕ) (p : Phase) → Lists (contentIn (view (before N p)) i c x bytes) a (ascending (stores N p))
+  lists-in N p = subst (λ (v : Disk). Lists (contentIn v i c x bytes) a (ascending (changeStores v i c x bytes))) (cells-view cells count n h m N p device work) l
+
+  told-in : (N : ℕ) (p : Phase)
+      → r ≡ leb (a .len) 32 && leb (length (stagedIn (sessionOf N p cells count)) + freshIn (stagedIn (sessionOf N p cells count)) (take (a .len) (a .block))) 32
+  unfolding stagedIn
+  told-in N p = rw (cells-lent cells count n h m) at e
+
+  ends-in : (N : ℕ) (p : Phase) → r ≡ leb (length (stageEach (stagedOf (before N p)) (ascending (stores N p)) .blocks)) 32
+  ends-in N p = fits-ends _ (sessionOf N p cells count) device work a (stores N p) (lists-in N p) r (told-in N p) lb lt
+
+  module _ (q : r ≡ true) where
+    pub cells-few : a .len ≤ 32
+    cells-few = fits-few _ (sessionOf 0 Closed cells count) device work a (stores 0 Closed) (lists-in 0 Closed) r (told-in 0 Closed) lb lt q
+
+    pub cells-stages : (N : ℕ) (p : Phase) → Stages i c x bytes (before N p) (take (a .len) (a .block)) (take (a .len) (a .tag))
+    cells-stages N p =
+        record {
+          rising = fits-rising _ (sessionOf N p cells count) device work a (stores N p) (lists-in N p) r (told-in N p) lb lt q;
+          room = fits-room _ (sessionOf N p cells count) device work a (stores N p) (lists-in N p) r (told-in N p) lb lt q;
+        }
+
+    pub cells-done : (N : ℕ) (p : Phase) (t : Session) (left-work : List ℕ)
+        → stateOf t device left-work ≡ withStaging (before N p) (stageEach (stagedOf (before N p)) (storesBy (contentIn (view (before N p)) i c x bytes) (take (a .len) (a .block)) (take (a .len) (a .tag))))
+        → left t device left-work done ≡ settle (outcome (before N p)) (staging (before N p) (stores N p))
+    cells-done N p t w z =
+        fits-done (before N p) (stores N p) r (ends-in N p) t device w q
+        (fits-staged _ (sessionOf N p cells count) device work a (stores N p) (lists-in N p) r (told-in N p) lb lt q (stateOf t device w) z)
+
+  pub cells-full : r ≡ false → (N : ℕ) (p : Phase) → left (sessionOf N p cells count) device work (refused 18 []) ≡ settle (outcome (before N p)) (staging (before N p) (stores N p))
+  cells-full q N p = fits-not (before N p) (stores N p) r (ends-in N p) q

@@ -1,5 +1,5 @@
 -- What the code inserts into an agenda, entry by entry, and the content of each, for the contracts of this crate.
-use Prim.Native.Nat.{ℕ, _*_, _-_, _<_}
+use Prim.Native.Nat.{ℕ, _*_, _-_, _<_, _≤_}
 use mathlib.Core.Path.{_≡_}
 use mathlib.Core.Bool.{cond}
 use mathlib.Core.List.{List, _∷_, _++_, map}
@@ -8,11 +8,12 @@ use lib.Dec.{eqb, ltb}
 use Rattle.spec.specs.Bytes.{same, keep, upFrom}
 use Rattle.spec.specs.Disk.{Disk}
 use Rattle.spec.specs.Inode.{blocksIn, counts}
-use Rattle.spec.specs.Transaction.{BlockStore, put}
+use Rattle.spec.specs.Transaction.{State, view, BlockStore, put, stageEach, stagedOf}
 use Rattle.spec.specs.Plan.{edit, ifChanged, storesOf, inodeEdit, nodeEdits, dataEdits, isStaged, newContent}
 use Rattle.runs.specs.Tree.{Runs}
 use Rattle.runs.specs.Runs.{extentsFrom, listed, nodesIn}
 use Rattle.runs.specs.Push.{columns}
+use Rattle.agenda.specs.Agenda.{storesBy, Rising}
 use Rattle.content.specs.Content.{withRecord, nodeContent, dataContent}
 use Rattle.change.specs.Change.{Change}
 use Rattle.change.specs.declared.Outline.{Outline}
@@ -69,3 +70,8 @@ Numbers c held old size = (c .tree .held ≡ held) × (c .old ≡ old) × (c .si
 -- data block p of the file is block b
 abbrev pub IsBlock : Change → ℕ → ℕ → Type 0
 IsBlock c p b = (p < length (blocksIn (listed (c .tree .runs)))) × (b ≡ getD (blocksIn (listed (c .tree .runs))) p 0)
+
+-- the stores of an agenda's columns, staged in turn from a state: they rise, and all have room
+pub record Stages (i : ℕ) (c : Change) (x : ℕ) (bytes : List ℕ) (t : State) (bs ts : List ℕ) : Type 0 where
+  pub rising : Rising 0 (storesBy (contentIn (view t) i c x bytes) bs ts)
+  pub room : length (stageEach (stagedOf t) (storesBy (contentIn (view t) i c x bytes) bs ts) .blocks) ≤ 32

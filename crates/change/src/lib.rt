@@ -6,21 +6,21 @@ use block::block_in;
 use block::copy;
 use block::copy_of;
 use block::store_copy;
+use checks::Changed;
+use checks::done_with;
+use checks::refused_with;
 use content::is_staged;
 use content::lay_data;
 use content::lay_record;
 use content::node_content;
-use inode::inode_block;
+use inode::inode_block_in;
 use inode::table_block;
 use runs::End;
-use spec::Done;
-use spec::Finished;
 use spec::Limits;
 use spec::Refusal;
-use spec::Session;
 use transaction::spot;
-use transaction::staged_count;
-use transaction::view_block;
+use transaction::staged_in;
+use transaction::view_in;
 use transaction::with_block;
 ghost use mathlib.Core.Path.{_≡_};
 ghost use mathlib.Core.List.{List, []};
@@ -30,19 +30,19 @@ ghost use Rattle.spec.specs.Answers.{doneOf};
 ghost use Rattle.spec.specs.Bytes.{exactly, same};
 ghost use Rattle.spec.specs.Disk.{Disk, sliceOf};
 ghost use Rattle.spec.specs.Inode.{counts, blockOfInode};
-ghost use Rattle.spec.specs.Session.{stagedIn, withStaged};
+ghost use Rattle.spec.specs.declared.Phase.{Phase};
 ghost use Rattle.spec.specs.Transaction.{BlockStore, view, stateOf, ascending, put, stage, stageEach, stagedOf, withStaging};
 ghost use Rattle.block.specs.Stores.{storedIn};
-ghost use Rattle.transaction.specs.Places.{spot};
+ghost use Rattle.transaction.specs.Places.{spot, sessionOf, viewIn};
 ghost use Rattle.inode.specs.Records.{bytesIn};
 ghost use Rattle.content.specs.Content.{withRecord};
 ghost use Rattle.spec.specs.Calls.{left, settle, outcome, staging};
 ghost use Rattle.runs.specs.Runs.{Bounded, listed};
 ghost use Rattle.runs.specs.Push.{columns};
-ghost use Rattle.agenda.specs.Agenda.{agenda, Room, Lists, storesBy, Rising};
+ghost use Rattle.agenda.specs.Agenda.{agenda, Room, Lists, storesBy};
 ghost use Rattle.change.specs.Change.{Change, changeStores};
 ghost use Rattle.change.specs.Window.{Outside};
-ghost use Rattle.change.specs.Contents.{contentOf, contentIn, withChanged, dataStores, nodeStores, placeOf, changeOf, Numbers, IsBlock};
+ghost use Rattle.change.specs.Contents.{Stages, contentOf, contentIn, withChanged, dataStores, nodeStores, placeOf, changeOf, Numbers, IsBlock};
 
 // All of a change but the bitmap and the columns of its extents: where these end, its nodes, the bytes of its record, its numbers.
 pub struct Outline {
@@ -136,7 +136,7 @@ pub fn same_at(block: &[u8], at: usize, bytes: &[u8]) -> bool
 fn add_block<'a>(
     device: &'a [u8],
     work: &'a [u8],
-    s: Session,
+    staged: &[u32],
     blocks: &mut [u32; 32],
     tags: &mut [u32; 32],
     len: usize,
@@ -144,12 +144,12 @@ fn add_block<'a>(
     tag: u32,
     new: &[u8; 512],
 ) -> usize
-    requires { ⌜ Room (agenda (now blocks) (now tags) len) ⌝ }
+    requires { ⌜ Room (agenda (now blocks) (now tags) len) × (length (now staged) ≤ 32) ⌝ }
     ensures { λ q. ⌜ ((f : ℕ → ℕ → List ℕ) (ws : List BlockStore) → f b tag ≡ now (new .entry) → Lists f (agenda (now (blocks .entry)) (now (tags .entry)) len) (ascending ws)
-        → Lists f (agenda (now (blocks .exit)) (now (tags .exit)) q) (ascending (withChanged (view (stateOf s (now (device .entry)) (now (work .entry)))) (f b tag) b ws))) × Room (agenda (now (blocks .exit)) (now (tags .exit)) q) ⌝ }
+        → Lists f (agenda (now (blocks .exit)) (now (tags .exit)) q) (ascending (withChanged (viewIn (now (staged .entry)) (now (device .entry)) (now (work .entry))) (f b tag) b ws))) × Room (agenda (now (blocks .exit)) (now (tags .exit)) q) ⌝ }
 {
     let bytes: &[u8] = new;
-    if same_at(view_block(device, work, s, DiskBlock(b)), 0, bytes) {
+    if same_at(view_in(device, work, staged, DiskBlock(b)), 0, bytes) {
         return len;
     }
     insert(blocks, tags, len, b, tag)
@@ -159,20 +159,21 @@ fn add_block<'a>(
 fn add_record<'a>(
     device: &'a [u8],
     work: &'a [u8],
-    s: Session,
+    staged: &[u32],
     blocks: &mut [u32; 32],
     tags: &mut [u32; 32],
     len: usize,
     i: usize,
     new: [u8; 32],
 ) -> usize
-    requires { ⌜ Room (agenda (now blocks) (now tags) len) × (i < 128) ⌝ }
+    requires { ⌜ Room (agenda (now blocks) (now tags) len) × (i < 128) × (length (now staged) ≤ 32) ⌝ }
     ensures { λ q. ⌜ ((f : ℕ → ℕ → List ℕ) (ws : List BlockStore)
-        → f (blockOfInode i) 1 ≡ withRecord i new (view (stateOf s (now (device .entry)) (now (work .entry))) (blockOfInode i)) → Lists f (agenda (now (blocks .entry)) (now (tags .entry)) len) (ascending ws)
-        → Lists f (agenda (now (blocks .exit)) (now (tags .exit)) q) (ascending (withChanged (view (stateOf s (now (device .entry)) (now (work .entry)))) (f (blockOfInode i) 1) (blockOfInode i) ws))) × Room (agenda (now (blocks .exit)) (now (tags .exit)) q) ⌝ }
+        → f (blockOfInode i) 1 ≡ withRecord i new (viewIn (now (staged .entry)) (now (device .entry)) (now (work .entry)) (blockOfInode i)) → Lists f (agenda (now (blocks .entry)) (now (tags .entry)) len) (ascending ws)
+        → Lists f (agenda (now (blocks .exit)) (now (tags .exit)) q) (ascending (withChanged (viewIn (now (staged .entry)) (now (device .entry)) (now (work .entry))) (f (blockOfInode i) 1) (blockOfInode i) ws))) × Room (agenda (now (blocks .exit)) (now (tags .exit)) q) ⌝ }
 {
     let bytes: &[u8] = &new;
-    if same_at(inode_block(device, work, s, i), 32 * (i % 16), bytes) {
+    let table = inode_block_in(device, work, staged, i);
+    if same_at(table, 32 * (i % 16), bytes) {
         return len;
     }
     insert(blocks, tags, len, table_block(i), RECORD)
@@ -403,7 +404,7 @@ fn node_at(node: [u32; 4], j: usize) -> u32
 fn add_node<'a>(
     device: &'a [u8],
     work: &'a [u8],
-    s: Session,
+    staged: &[u32],
     blocks: &mut [u32; 32],
     tags: &mut [u32; 32],
     len: usize,
@@ -417,10 +418,10 @@ fn add_node<'a>(
     j: usize,
 ) -> usize
     requires { ⌜ Room (agenda (now blocks) (now tags) len) × (x + length (now bytes) ≤ 1048576) × Bounded ((changeOf (now table) (now first) (now count) o) .tree) × (j < o .nodes)
-        × Lists (contentIn (view (stateOf s (now device) (now work))) i (changeOf (now table) (now first) (now count) o) x (now bytes)) (agenda (now blocks) (now tags) len)
-        (ascending (nodeStores (view (stateOf s (now device) (now work))) (changeOf (now table) (now first) (now count) o) x (now bytes) (j + 1))) ⌝ }
-    ensures { λ q. ⌜ Lists (contentIn (view (stateOf s (now (device .entry)) (now (work .entry)))) i (changeOf (now (table .entry)) (now (first .entry)) (now (count .entry)) o) x (now (bytes .entry))) (agenda (now (blocks .exit)) (now (tags .exit)) q)
-        (ascending (nodeStores (view (stateOf s (now (device .entry)) (now (work .entry)))) (changeOf (now (table .entry)) (now (first .entry)) (now (count .entry)) o) x (now (bytes .entry)) j))
+        × Lists (contentIn (viewIn (now staged) (now device) (now work)) i (changeOf (now table) (now first) (now count) o) x (now bytes)) (agenda (now blocks) (now tags) len)
+        (ascending (nodeStores (viewIn (now staged) (now device) (now work)) (changeOf (now table) (now first) (now count) o) x (now bytes) (j + 1))) × (length (now staged) ≤ 32) ⌝ }
+    ensures { λ q. ⌜ Lists (contentIn (viewIn (now (staged .entry)) (now (device .entry)) (now (work .entry))) i (changeOf (now (table .entry)) (now (first .entry)) (now (count .entry)) o) x (now (bytes .entry))) (agenda (now (blocks .exit)) (now (tags .exit)) q)
+        (ascending (nodeStores (viewIn (now (staged .entry)) (now (device .entry)) (now (work .entry))) (changeOf (now (table .entry)) (now (first .entry)) (now (count .entry)) o) x (now (bytes .entry)) j))
         × Room (agenda (now (blocks .exit)) (now (tags .exit)) q) ⌝ }
 {
     let node = o.node;
@@ -429,7 +430,7 @@ fn add_node<'a>(
     if j < o.before {
         let end = o.end;
         let new = node_content(first, count, end, j);
-        return add_block(device, work, s, blocks, tags, len, b, tag, &new);
+        return add_block(device, work, staged, blocks, tags, len, b, tag, &new);
     }
     insert(blocks, tags, len, b, tag)
 }
@@ -438,7 +439,7 @@ fn add_node<'a>(
 fn add_nodes<'a>(
     device: &'a [u8],
     work: &'a [u8],
-    s: Session,
+    staged: &[u32],
     blocks: &mut [u32; 32],
     tags: &mut [u32; 32],
     len: usize,
@@ -451,10 +452,10 @@ fn add_nodes<'a>(
     bytes: &[u8],
 ) -> usize
     requires { ⌜ Room (agenda (now blocks) (now tags) len) × (x + length (now bytes) ≤ 1048576) × Bounded ((changeOf (now table) (now first) (now count) o) .tree)
-        × Lists (contentIn (view (stateOf s (now device) (now work))) i (changeOf (now table) (now first) (now count) o) x (now bytes)) (agenda (now blocks) (now tags) len)
-        (ascending (dataStores (view (stateOf s (now device) (now work))) (changeOf (now table) (now first) (now count) o) x (now bytes) 0)) ⌝ }
-    ensures { λ q. ⌜ Lists (contentIn (view (stateOf s (now (device .entry)) (now (work .entry)))) i (changeOf (now (table .entry)) (now (first .entry)) (now (count .entry)) o) x (now (bytes .entry))) (agenda (now (blocks .exit)) (now (tags .exit)) q)
-        (ascending (nodeStores (view (stateOf s (now (device .entry)) (now (work .entry)))) (changeOf (now (table .entry)) (now (first .entry)) (now (count .entry)) o) x (now (bytes .entry)) 0))
+        × Lists (contentIn (viewIn (now staged) (now device) (now work)) i (changeOf (now table) (now first) (now count) o) x (now bytes)) (agenda (now blocks) (now tags) len)
+        (ascending (dataStores (viewIn (now staged) (now device) (now work)) (changeOf (now table) (now first) (now count) o) x (now bytes) 0)) × (length (now staged) ≤ 32) ⌝ }
+    ensures { λ q. ⌜ Lists (contentIn (viewIn (now (staged .entry)) (now (device .entry)) (now (work .entry))) i (changeOf (now (table .entry)) (now (first .entry)) (now (count .entry)) o) x (now (bytes .entry))) (agenda (now (blocks .exit)) (now (tags .exit)) q)
+        (ascending (nodeStores (viewIn (now (staged .entry)) (now (device .entry)) (now (work .entry))) (changeOf (now (table .entry)) (now (first .entry)) (now (count .entry)) o) x (now (bytes .entry)) 0))
         × Room (agenda (now (blocks .exit)) (now (tags .exit)) q) ⌝ }
 {
     let mut m = len;
@@ -464,7 +465,7 @@ fn add_nodes<'a>(
         m = add_node(
             device,
             work,
-            s,
+            staged,
             blocks,
             tags,
             m,
@@ -487,7 +488,7 @@ fn agenda_of<'a>(
     tags: &mut [u32; 32],
     device: &'a [u8],
     work: &'a [u8],
-    s: Session,
+    staged: &[u32],
     i: usize,
     table: &'a [u8; 512],
     first: &'a [u32; 512],
@@ -496,15 +497,15 @@ fn agenda_of<'a>(
     x: usize,
     bytes: &[u8],
 ) -> usize
-    requires { ⌜ Room (agenda (now blocks) (now tags) 0) × (i < 128) × (x + length (now bytes) ≤ 1048576) × Bounded ((changeOf (now table) (now first) (now count) o) .tree) ⌝ }
-    ensures { λ q. ⌜ Lists (contentIn (view (stateOf s (now (device .entry)) (now (work .entry)))) i (changeOf (now (table .entry)) (now (first .entry)) (now (count .entry)) o) x (now (bytes .entry))) (agenda (now (blocks .exit)) (now (tags .exit)) q)
-        (ascending (changeStores (view (stateOf s (now (device .entry)) (now (work .entry)))) i (changeOf (now (table .entry)) (now (first .entry)) (now (count .entry)) o) x (now (bytes .entry)))) × Room (agenda (now (blocks .exit)) (now (tags .exit)) q) ⌝ }
+    requires { ⌜ Room (agenda (now blocks) (now tags) 0) × (i < 128) × (x + length (now bytes) ≤ 1048576) × Bounded ((changeOf (now table) (now first) (now count) o) .tree) × (length (now staged) ≤ 32) ⌝ }
+    ensures { λ q. ⌜ Lists (contentIn (viewIn (now (staged .entry)) (now (device .entry)) (now (work .entry))) i (changeOf (now (table .entry)) (now (first .entry)) (now (count .entry)) o) x (now (bytes .entry))) (agenda (now (blocks .exit)) (now (tags .exit)) q)
+        (ascending (changeStores (viewIn (now (staged .entry)) (now (device .entry)) (now (work .entry))) i (changeOf (now (table .entry)) (now (first .entry)) (now (count .entry)) o) x (now (bytes .entry)))) × Room (agenda (now (blocks .exit)) (now (tags .exit)) q) ⌝ }
 {
     let data = add_data(blocks, tags, table, first, count, o, x, bytes);
     let nodes = add_nodes(
         device,
         work,
-        s,
+        staged,
         blocks,
         tags,
         data,
@@ -517,11 +518,11 @@ fn agenda_of<'a>(
         bytes,
     );
     let new = o.bytes;
-    let record = add_record(device, work, s, blocks, tags, nodes, i, new);
+    let record = add_record(device, work, staged, blocks, tags, nodes, i, new);
     add_block(
         device,
         work,
-        s,
+        staged,
         blocks,
         tags,
         record,
@@ -532,22 +533,23 @@ fn agenda_of<'a>(
 }
 
 // The image of block b, whose place is k, becomes its working copy: it is that already where b is staged.
-fn load_image(device: &[u8], work: &mut [u8], s: Session, b: DiskBlock, k: usize)
-    requires { ⌜ (length (now work) ≡ 16384) × (k ≡ spot s (b .0)) × (k < 32) ⌝ }
+fn load_image(device: &[u8], work: &mut [u8], staged: &[u32], b: DiskBlock, k: usize)
+    requires { ⌜ (length (now work) ≡ 16384) × (k ≡ spot (now staged) (b .0)) × (k < 32) ⌝ }
     ensures { λ _. ⌜ sliceOf (now (work .exit))
-        ≡ storedIn (sliceOf (now (work .entry))) (spot s (b .0)) (view (stateOf s (now (device .entry)) (now (work .entry))) (b .0)) ⌝ }
+        ≡ storedIn (sliceOf (now (work .entry))) (spot (now (staged .entry)) (b .0)) (viewIn (now (staged .entry)) (now (device .entry)) (now (work .entry)) (b .0)) ⌝ }
 {
-    if k < staged_count(s) {
+    if k < staged.len() {
         return;
     }
     store_copy(work, DiskBlock(k as u32), block_in(device, b));
 }
 
-// Block b staged with the content of its tag, which is made in its image.
+// Block b staged with the content of its tag, which is made in its image: how many cells are in use then. Of every session with these cells.
 fn stage_block<'a>(
     device: &'a [u8],
     work: &mut [u8],
-    s: Session,
+    cells: &mut [u32; 32],
+    many: usize,
     i: usize,
     table: &'a [u8; 512],
     first: &'a [u32; 512],
@@ -557,51 +559,56 @@ fn stage_block<'a>(
     bytes: &[u8],
     b: u32,
     tag: u32,
-) -> Session
-    requires { ⌜ (length (now work) ≡ 16384) × (spot s b < 32) × (o .end .len ≤ 512) × (x + length (now bytes) ≤ 1048576) ⌝ }
-    ensures { λ q. ⌜ stateOf q (now (device .entry)) (now (work .exit))
-        ≡ withStaging (stateOf s (now (device .entry)) (now (work .entry))) (stage (stagedOf (stateOf s (now (device .entry)) (now (work .entry))))
+) -> usize
+    requires { ⌜ (length (now work) ≡ 16384) × (length (now cells) ≡ 32) × (spot (take many (now cells)) b < 32) × (o .end .len ≤ 512) × (x + length (now bytes) ≤ 1048576) ⌝ }
+    ensures { λ q. ⌜ ((N : ℕ) (p : Phase) → stateOf (sessionOf N p (now (cells .exit)) q) (now (device .entry)) (now (work .exit))
+        ≡ withStaging (stateOf (sessionOf N p (now (cells .entry)) many) (now (device .entry)) (now (work .entry))) (stage (stagedOf (stateOf (sessionOf N p (now (cells .entry)) many) (now (device .entry)) (now (work .entry))))
         (put b (contentOf i (changeOf (now (table .entry)) (now (first .entry)) (now (count .entry)) o) x (now (bytes .entry)) tag
-        (view (stateOf s (now (device .entry)) (now (work .entry))) b)))) ⌝ }
+        (view (stateOf (sessionOf N p (now (cells .entry)) many) (now (device .entry)) (now (work .entry))) b))))) × (length (now (cells .exit)) ≡ 32) ⌝ }
 {
-    let k = spot(s, DiskBlock(b));
-    load_image(device, work, s, DiskBlock(b), k);
+    let n = staged_in(many);
+    let l: &[u32] = cells;
+    let staged = &l[0..n];
+    let k = spot(staged, DiskBlock(b));
+    load_image(device, work, staged, DiskBlock(b), k);
     let at = Limits::BLOCK_SIZE * k;
     let end = at + Limits::BLOCK_SIZE;
     edit_block(&mut work[at..end], i, table, first, count, o, x, bytes, tag);
-    with_block(s, DiskBlock(b), k)
+    with_block(cells, many, DiskBlock(b), k)
 }
 
-// The block of record i staged with these bytes of the record.
-pub fn stage_record(device: &[u8], work: &mut [u8], s: Session, i: usize, new: [u8; 32]) -> Session
-    requires { ⌜ (length (now work) ≡ 16384) × (i < 128) × (spot s (blockOfInode i) < 32) ⌝ }
-    ensures { λ q. ⌜ stateOf q (now (device .entry)) (now (work .exit))
-        ≡ withStaging (stateOf s (now (device .entry)) (now (work .entry))) (stage (stagedOf (stateOf s (now (device .entry)) (now (work .entry))))
-        (put (blockOfInode i) (withRecord i new (view (stateOf s (now (device .entry)) (now (work .entry))) (blockOfInode i))))) ⌝ }
+// The block of record i staged at its place k with these bytes of the record.
+pub fn stage_record(
+    device: &[u8],
+    work: &mut [u8],
+    cells: &mut [u32; 32],
+    many: usize,
+    i: usize,
+    k: usize,
+    new: [u8; 32],
+) -> usize
+    requires { ⌜ (length (now work) ≡ 16384) × (length (now cells) ≡ 32) × (i < 128) × (k ≡ spot (take many (now cells)) (blockOfInode i)) × (k < 32) ⌝ }
+    ensures { λ q. ⌜ ((N : ℕ) (p : Phase) → stateOf (sessionOf N p (now (cells .exit)) q) (now (device .entry)) (now (work .exit))
+        ≡ withStaging (stateOf (sessionOf N p (now (cells .entry)) many) (now (device .entry)) (now (work .entry))) (stage (stagedOf (stateOf (sessionOf N p (now (cells .entry)) many) (now (device .entry)) (now (work .entry))))
+        (put (blockOfInode i) (withRecord i new (view (stateOf (sessionOf N p (now (cells .entry)) many) (now (device .entry)) (now (work .entry))) (blockOfInode i)))))) ⌝ }
 {
+    let n = staged_in(many);
+    let l: &[u32] = cells;
+    let staged = &l[0..n];
     let b = table_block(i);
-    let k = spot(s, DiskBlock(b));
-    load_image(device, work, s, DiskBlock(b), k);
+    load_image(device, work, staged, DiskBlock(b), k);
     let at = Limits::BLOCK_SIZE * k;
     let end = at + Limits::BLOCK_SIZE;
     lay_record(&mut work[at..end], i, new);
-    with_block(s, DiskBlock(b), k)
-}
-
-// A count past the array is read as the array's length.
-pub fn settled(s: Session) -> Session
-    ensures { λ q. ⌜ q ≡ withStaged s (stagedIn s) ⌝ }
-{
-    let mut q = s;
-    q.count = staged_count(s);
-    q
+    with_block(cells, many, DiskBlock(b), k)
 }
 
 // The agenda staged, block by block.
 fn stage_all<'a>(
     device: &'a [u8],
     work: &mut [u8],
-    s: Session,
+    cells: &mut [u32; 32],
+    many: usize,
     blocks: &'a [u32; 32],
     tags: &'a [u32; 32],
     n: usize,
@@ -612,23 +619,22 @@ fn stage_all<'a>(
     o: Outline,
     x: usize,
     bytes: &[u8],
-) -> Session
-    requires { ⌜ (n ≤ 32) × (length (now work) ≡ 16384) × (o .end .len ≤ 512) × (x + length (now bytes) ≤ 1048576)
-        × Rising 0 (storesBy (contentIn (view (stateOf s (now device) (now work))) i (changeOf (now table) (now first) (now count) o) x (now bytes)) (take n (now blocks)) (take n (now tags)))
-        × (length (stageEach (stagedOf (stateOf s (now device) (now work)))
-        (storesBy (contentIn (view (stateOf s (now device) (now work))) i (changeOf (now table) (now first) (now count) o) x (now bytes)) (take n (now blocks)) (take n (now tags))) .blocks) ≤ 32) × (length (now blocks) ≡ 32) × (length (now tags) ≡ 32) ⌝ }
-    ensures { λ q. ⌜ stateOf q (now (device .entry)) (now (work .exit))
-        ≡ withStaging (stateOf s (now (device .entry)) (now (work .entry))) (stageEach (stagedOf (stateOf s (now (device .entry)) (now (work .entry))))
-        (storesBy (contentIn (view (stateOf s (now (device .entry)) (now (work .entry)))) i (changeOf (now (table .entry)) (now (first .entry)) (now (count .entry)) o) x (now (bytes .entry))) (take n (now (blocks .entry))) (take n (now (tags .entry))))) ⌝ }
+) -> usize
+    requires { ⌜ (n ≤ 32) × (length (now work) ≡ 16384) × (length (now cells) ≡ 32) × (o .end .len ≤ 512) × (x + length (now bytes) ≤ 1048576) × (length (now blocks) ≡ 32) × (length (now tags) ≡ 32)
+        × ((N : ℕ) (p : Phase) → Stages i (changeOf (now table) (now first) (now count) o) x (now bytes) (stateOf (sessionOf N p (now cells) many) (now device) (now work)) (take n (now blocks)) (take n (now tags))) ⌝ }
+    ensures { λ q. ⌜ ((N : ℕ) (p : Phase) → stateOf (sessionOf N p (now (cells .exit)) q) (now (device .entry)) (now (work .exit))
+        ≡ withStaging (stateOf (sessionOf N p (now (cells .entry)) many) (now (device .entry)) (now (work .entry))) (stageEach (stagedOf (stateOf (sessionOf N p (now (cells .entry)) many) (now (device .entry)) (now (work .entry))))
+        (storesBy (contentIn (view (stateOf (sessionOf N p (now (cells .entry)) many) (now (device .entry)) (now (work .entry)))) i (changeOf (now (table .entry)) (now (first .entry)) (now (count .entry)) o) x (now (bytes .entry))) (take n (now (blocks .entry))) (take n (now (tags .entry)))))) ⌝ }
 {
-    let mut t = s;
+    let mut m = many;
     let mut k: usize = 0;
     while k < n {
         let b = blocks[k];
-        let u = stage_block(
+        m = stage_block(
             device,
             work,
-            t,
+            cells,
+            m,
             i,
             table,
             first,
@@ -639,17 +645,17 @@ fn stage_all<'a>(
             b,
             tags[k],
         );
-        t = u;
         k += 1;
     }
-    settled(t)
+    staged_in(m)
 }
 
-// A change of record i staged, with bytes laid over the file at x. 18 is tested before the first byte of the work space changes.
+// A change of record i staged, with bytes laid over the file at x. 18 is tested before the first byte of the work space changes. Of every session with these cells.
 pub fn apply<'a>(
     device: &'a [u8],
     work: &mut [u8],
-    s: Session,
+    cells: &mut [u32; 32],
+    many: usize,
     i: usize,
     table: &'a [u8; 512],
     first: &'a [u32; 512],
@@ -657,14 +663,16 @@ pub fn apply<'a>(
     o: Outline,
     x: usize,
     bytes: &[u8],
-) -> Finished
-    requires { ⌜ (i < 128) × (length (now work) ≡ 16384) × Bounded (changeOf (now table) (now first) (now count) o .tree) × (x + length (now bytes) ≤ 1048576)
+) -> Changed
+    requires { ⌜ (i < 128) × (length (now work) ≡ 16384) × (length (now cells) ≡ 32) × Bounded (changeOf (now table) (now first) (now count) o .tree) × (x + length (now bytes) ≤ 1048576)
         × (o .old < 4294967296) × (o .size < 4294967296) ⌝ }
-    ensures { λ r. ⌜ left (r .session) (now (device .entry)) (now (work .exit)) (doneOf (r .answer))
-        ≡ settle (outcome (stateOf s (now (device .entry)) (now (work .entry))))
-        (staging (stateOf s (now (device .entry)) (now (work .entry)))
-        (changeStores (view (stateOf s (now (device .entry)) (now (work .entry)))) i (changeOf (now (table .entry)) (now (first .entry)) (now (count .entry)) o) x (now (bytes .entry)))) ⌝ }
+    ensures { λ r. ⌜ ((N : ℕ) (p : Phase) → left (sessionOf N p (now (cells .exit)) (r .count)) (now (device .entry)) (now (work .exit)) (doneOf (r .answer))
+        ≡ settle (outcome (stateOf (sessionOf N p (now (cells .entry)) many) (now (device .entry)) (now (work .entry))))
+        (staging (stateOf (sessionOf N p (now (cells .entry)) many) (now (device .entry)) (now (work .entry)))
+        (changeStores (view (stateOf (sessionOf N p (now (cells .entry)) many) (now (device .entry)) (now (work .entry)))) i (changeOf (now (table .entry)) (now (first .entry)) (now (count .entry)) o) x (now (bytes .entry))))) ⌝ }
 {
+    let l: &[u32] = cells;
+    let staged = &l[0..staged_in(many)];
     let mut blocks = [0u32; 32];
     let mut tags = [0u32; 32];
     let n = agenda_of(
@@ -672,7 +680,7 @@ pub fn apply<'a>(
         &mut tags,
         device,
         work,
-        s,
+        staged,
         i,
         table,
         first,
@@ -681,31 +689,24 @@ pub fn apply<'a>(
         x,
         bytes,
     );
-    let l = s.staged;
-    let many = staged_count(s);
-    if fits(&l[0..many], &blocks, n) {
-        let t = stage_all(
-            device,
-            work,
-            s,
-            &blocks,
-            &tags,
-            n,
-            i,
-            table,
-            first,
-            count,
-            o,
-            x,
-            bytes,
-        );
-        return Finished {
-            session: t,
-            answer: Done::Done,
-        };
+    if !fits(staged, &blocks, n) {
+        return refused_with(many, Refusal::TooManyStaged);
     }
-    Finished {
-        session: s,
-        answer: Done::Refused(Refusal::TooManyStaged),
-    }
+    let then = stage_all(
+        device,
+        work,
+        cells,
+        many,
+        &blocks,
+        &tags,
+        n,
+        i,
+        table,
+        first,
+        count,
+        o,
+        x,
+        bytes,
+    );
+    done_with(then)
 }

@@ -195,3 +195,46 @@ pub fn done(session: Session) -> Finished
         answer: Done::Done,
     }
 }
+
+// What a call that is lent a session's cells answers, and how many of them are in use behind it.
+pub struct Changed {
+    pub count: usize,
+    pub answer: Done,
+}
+
+// Such a call refused: as many are in use as were.
+pub fn refused_with(count: usize, why: Refusal) -> Changed
+    ensures { λ r. ⌜ (r .count ≡ count) × (r .answer ≡ answers.Refused why) ⌝ }
+{
+    Changed {
+        count: count,
+        answer: Done::Refused(why),
+    }
+}
+
+// Such a call done.
+pub fn done_with(count: usize) -> Changed
+    ensures { λ r. ⌜ (r .count ≡ count) × (r .answer ≡ answers.Done) ⌝ }
+{
+    Changed {
+        count: count,
+        answer: Done::Done,
+    }
+}
+
+// The same of a session by value: its other numbers are kept.
+pub fn finished(blocks: usize, phase: Phase, cells: [u32; 32], c: Changed) -> Finished
+    ensures { λ r. ⌜ (r .session ≡ record { blocks = blocks; phase = phase; staged = cells; count = c .count }) × (r .answer ≡ c .answer) ⌝ }
+{
+    let answer = c.answer;
+    let session = Session {
+        blocks: blocks,
+        phase: phase,
+        staged: cells,
+        count: c.count,
+    };
+    Finished {
+        session: session,
+        answer: answer,
+    }
+}

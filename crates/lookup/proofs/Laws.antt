@@ -1,19 +1,20 @@
 -- The cases of a look-up. Assumes nothing.
-use Prim.Native.Nat.{ℕ, _-_, _≤_}
+use Prim.Native.Nat.{ℕ, _-_, _≤_, min}
 use mathlib.Core.Path.{_≡_, refl, sym, ap, _∙_}
 use mathlib.Core.Bool.{Bool}
 use mathlib.Core.List.{List}
 use lib.ListN.{length, take, drop}
 use Rattle.spec.specs.Disk.{Disk}
 use Rattle.spec.specs.Inode.{isName, find, findEmpty}
+use Rattle.spec.specs.declared.Phase.{Phase}
 use Rattle.spec.specs.declared.Session.{Session}
 use Rattle.spec.specs.declared.Refusal.{Refusal}
 use Rattle.spec.specs.declared.Refusal.the-variants.{BadName, TooLarge, NotReady, Unknown, Taken, NoInode}
 use Rattle.spec.specs.Answers.{Result, refuse, accept, require, _>>_}
 use Rattle.spec.specs.Session.{stagedIn}
 use Rattle.spec.specs.Transaction.{stateOf, view}
-use Rattle.transaction.specs.Places.{viewIn}
-use Rattle.transaction.proofs.Laws.{staged-lent, view-of}
+use Rattle.transaction.specs.Places.{sessionOf, viewIn}
+use Rattle.transaction.proofs.Laws.{staged-lent, staged-parts, cells-lent, view-of}
 use Rattle.spec.specs.Calls.{lentOk, nameOk, sizeFits, isReady, known, emptyInode, fileOk, sizedOk}
 use Rattle.checks.specs.Checks.{Seen, namesOk, nameSizeOk}
 use Rattle.checks.proofs.Laws.{then-passed, named-says, names-say, sized-says}
@@ -30,6 +31,11 @@ then-assoc (accept a) b x = refl
 -- a session by value is seen by its parts
 pub seen-lent : (s : Session) (n : ℕ) → length (s .staged) ≡ 32 → n ≡ length (stagedIn s) → Seen (s .blocks) (s .phase) (take (n - 0) (drop 0 (s .staged))) s
 seen-lent s n h e = record { head = record { size = refl; at-phase = refl }; numbers = sym (staged-lent s h n e) }
+
+-- a session of its parts, by those of its cells that are in use
+pub seen-cells : (blocks : ℕ) (phase : Phase) (cells : List ℕ) (count n : ℕ) → length cells ≡ 32 → n ≡ min count 32 → Seen blocks phase (take (n - 0) (drop 0 cells)) (sessionOf blocks phase cells count)
+seen-cells blocks phase cells count n h e =
+    record { head = record { size = refl; at-phase = refl }; numbers = staged-parts cells count blocks phase ∙ sym (cells-lent cells count n h e) }
 
 -- what is found in the view of the numbers staged
 pub found-of : (s : Session) (d w l name : List ℕ) (r : Found) → stagedIn s ≡ l → r ≡ foundOf (find (viewIn l d w) name) → r ≡ foundOf (find (view (stateOf s d w)) name)

@@ -208,12 +208,10 @@ fn fault_in(r: Refusal) -> u64
     }
 }
 
-pub fn finished(f: Finished) -> CFinished
-    ensures { λ r. ⌜ r ≡ finishedOf (f .session) (doneOf (f .answer)) ⌝ }
+// Of every session with these numbers.
+pub fn finished_with(head: CHead, answer: Done) -> CFinished
+    ensures { λ r. ⌜ ((s : Session) → head ≡ encode s → r ≡ finishedOf s (doneOf answer)) ⌝ }
 {
-    let s = f.session;
-    let answer = f.answer;
-    let head = encode(s);
     match answer {
         Done::Refused(why) => CFinished {
             head: head,
@@ -226,6 +224,14 @@ pub fn finished(f: Finished) -> CFinished
             fault: 0,
         },
     }
+}
+
+pub fn finished(f: Finished) -> CFinished
+    ensures { λ r. ⌜ r ≡ finishedOf (f .session) (doneOf (f .answer)) ⌝ }
+{
+    let s = f.session;
+    let answer = f.answer;
+    finished_with(encode(s), answer)
 }
 
 pub fn committed(c: Committed) -> CCommitted

@@ -14,13 +14,14 @@ use borrow.Author.Tests.{eqb-true, eqb-false, eq-eqb, ne-eqb}
 use Rattle.spec.specs.Bytes.{found, place, placeFrom, member, distinct, all}
 use Rattle.spec.specs.Disk.{Disk, Slice, blocksOf, sliceOf, isTarget, withBlock}
 use Rattle.spec.specs.declared.Phase.{Phase}
+use Rattle.spec.specs.declared.Phase.the-variants.{Closed}
 use Rattle.spec.specs.declared.Session.{Session}
 use Rattle.spec.specs.Session.{opened, inPhase, stagedIn, withStaged}
 use Rattle.spec.specs.Transaction.{State, stateOf, view, BlockStore, put, Staged, stage, stagedOf, withStaging}
 use Rattle.block.specs.Stores.{storedIn}
 use Rattle.block.proofs.Laws.{block-length}
 use Rattle.lists.specs.Places.{place-lt, place-value, place-new, place-other, no-place, distinct-snoc, all-append}
-use Rattle.transaction.specs.Places.{foundAt, spot, blocksWith, viewIn}
+use Rattle.transaction.specs.Places.{foundAt, spot, blocksWith, sessionOf, viewIn}
 use Rattle.transaction.specs.declared.Place.{Place}
 use Rattle.transaction.specs.declared.Place.the-variants.{At, Nothing}
 
@@ -169,6 +170,29 @@ module _ (s : Session) (h : length (s .staged) ≡ 32) where
   pub staged-lent : (n : ℕ) → n ≡ length (stagedIn s) → take (n - 0) (drop 0 (s .staged)) ≡ stagedIn s
   staged-lent n e = let z : n - 0 ≡ n = omega arith in rw z (sym (staged-is n e))
 
+-- the cells in use, of every session with these
+module _ (cells : List ℕ) (count : ℕ) where
+  pub staged-parts : (N : ℕ) (p : Phase) → stagedIn (sessionOf N p cells count) ≡ take count cells
+  unfolding stagedIn
+  staged-parts N p = refl
+
+  module _ (n : ℕ) (h : length cells ≡ 32) (e : n ≡ min count 32) where
+    -- how many they are
+    pub cells-many : n ≡ length (take count cells)
+    cells-many = simp length-take (omega (arith, e, h))
+
+    -- and lent
+    pub cells-lent : take (n - 0) (drop 0 cells) ≡ take count cells
+    cells-lent = staged-lent (sessionOf 0 Closed cells count) h n (cells-many ∙ sym (ap length (staged-parts 0 Closed))) ∙ staged-parts 0 Closed
+
+    pub cells-few : length (take (n - 0) (drop 0 cells)) ≤ 32
+    cells-few = simp (length-take, length-drop) (omega (arith, e, h))
+
+    -- their working copy, of any session
+    pub cells-view : (N : ℕ) (p : Phase) (device work : List ℕ) → viewIn (take (n - 0) (drop 0 cells)) device work ≡ view (stateOf (sessionOf N p cells count) device work)
+    unfolding view viewIn
+    cells-view N p device work = ap (λ (l : List ℕ). viewIn l device work) (cells-lent ∙ sym (staged-parts N p))
+
 -- the place of b from i on in a list
 unfoldable pub placeIn : List ℕ → ℕ → ℕ → Place
 placeIn l i b = foundAt (placeFrom i b (drop i l))
@@ -237,69 +261,87 @@ view-lent s device work n h e = view-of s device work _ (sym (staged-lent s h n 
 pub lent-few : (s : Session) (n : ℕ) → length (s .staged) ≡ 32 → n ≤ 32 → length (take (n - 0) (drop 0 (s .staged))) ≤ 32
 lent-few s n h k = simp (length-take, length-drop) (omega arith)
 
-module _ (s : Session) (b : ℕ) where
-  pub spot-at : (i : ℕ) → foundAt (place b (stagedIn s)) ≡ At i → i ≡ spot s b
+module _ (l : List ℕ) (b : ℕ) where
+  pub spot-at : (i : ℕ) → foundAt (place b l) ≡ At i → i ≡ spot l b
   unfolding spot
-  spot-at i e = sym (rw (at-place (place b (stagedIn s)) i e))
+  spot-at i e = sym (rw (at-place (place b l) i e))
 
-  pub spot-new : foundAt (place b (stagedIn s)) ≡ Nothing → length (stagedIn s) ≡ spot s b
+  pub spot-new : foundAt (place b l) ≡ Nothing → length l ≡ spot l b
   unfolding spot
-  spot-new e = sym (rw (no-place-at (place b (stagedIn s)) e))
+  spot-new e = sym (rw (no-place-at (place b l) e))
 
-  pub spot-le : spot s b ≤ length (stagedIn s)
+  pub spot-le : spot l b ≤ length l
   unfolding spot
-  spot-le = go (place b (stagedIn s)) refl
+  spot-le = go (place b l) refl
     where
-      go : (o : Option ℕ) → place b (stagedIn s) ≡ o → spot s b ≤ length (stagedIn s)
+      go : (o : Option ℕ) → place b l ≡ o → spot l b ≤ length l
       go none e = rw e (omega arith)
-      go (some i) e = rw e (omega (arith, place-lt b i (stagedIn s) e))
+      go (some i) e = rw e (omega (arith, place-lt b i l e))
 
   -- whether it is among them already is told by its place
-  pub spot-found : spot s b < length (stagedIn s) → foundAt (place b (stagedIn s)) ≡ At (spot s b)
+  pub spot-found : spot l b < length l → foundAt (place b l) ≡ At (spot l b)
   unfolding spot
-  spot-found h = go (place b (stagedIn s)) refl
+  spot-found h = go (place b l) refl
     where
-      go : (o : Option ℕ) → place b (stagedIn s) ≡ o → foundAt (place b (stagedIn s)) ≡ At (spot s b)
-      go none e = let z : length (stagedIn s) < length (stagedIn s) = rw e at h in absurd (omega arith)
+      go : (o : Option ℕ) → place b l ≡ o → foundAt (place b l) ≡ At (spot l b)
+      go none e = let z : length l < length l = rw e at h in absurd (omega arith)
       go (some i) e = rw e
 
-  pub spot-absent : length (stagedIn s) ≤ spot s b → foundAt (place b (stagedIn s)) ≡ Nothing
+  pub spot-absent : length l ≤ spot l b → foundAt (place b l) ≡ Nothing
   unfolding spot
-  spot-absent h = go (place b (stagedIn s)) refl
+  spot-absent h = go (place b l) refl
     where
-      go : (o : Option ℕ) → place b (stagedIn s) ≡ o → foundAt (place b (stagedIn s)) ≡ Nothing
+      go : (o : Option ℕ) → place b l ≡ o → foundAt (place b l) ≡ Nothing
       go none e = rw e
-      go (some i) e = let z : length (stagedIn s) ≤ i = rw e at h in absurd (omega (arith, place-lt b i (stagedIn s) e))
+      go (some i) e = let z : length l ≤ i = rw e at h in absurd (omega (arith, place-lt b i l e))
 
+module _ (s : Session) (b : ℕ) where
   -- the session's cells after staging: all as they were, or one more in use
   pub with-at : (n i : ℕ) → length (s .staged) ≡ 32 → n ≡ length (stagedIn s) → foundAt (place b (stagedIn s)) ≡ At i
-      → record { blocks = s .blocks; phase = s .phase; staged = s .staged; count = n } ≡ withStaged s (blocksWith s b)
+      → record { blocks = s .blocks; phase = s .phase; staged = s .staged; count = n } ≡ withStaged s (blocksWith (stagedIn s) b)
   unfolding withStaged blocksWith
   with-at n i h e q =
       rw (at-place (place b (stagedIn s)) i q, ← e, staged-is s h n e, take-append-drop n (s .staged))
 
   pub with-new : (n : ℕ) → length (s .staged) ≡ 32 → n ≡ length (stagedIn s) → n < 32 → foundAt (place b (stagedIn s)) ≡ Nothing
-      → record { blocks = s .blocks; phase = s .phase; staged = set (s .staged) n b; count = n + 1 } ≡ withStaged s (blocksWith s b)
+      → record { blocks = s .blocks; phase = s .phase; staged = set (s .staged) n b; count = n + 1 } ≡ withStaged s (blocksWith (stagedIn s) b)
   unfolding withStaged blocksWith
   with-new n h e k q =
       let l : length (stagedIn s ++ (b ∷ [])) ≡ suc n = length-append (stagedIn s) (b ∷ []) ∙ omega arith in
       rw (no-place-at (place b (stagedIn s)) q, l, add-one n, set-split (s .staged) n b (omega arith), staged-is s h n e)
       (ap (λ (x : List ℕ). record { blocks = s .blocks; phase = s .phase; staged = x; count = suc n }) (sym (append-snoc (take n (s .staged)) b (drop (suc n) (s .staged)))))
 
+-- the same, of every session with these cells
+module _ (cells : List ℕ) (count b n i : ℕ) (h : length cells ≡ 32) (e : n ≡ min count 32) (q : i ≡ spot (take count cells) b) where
+  many : (N : ℕ) (p : Phase) → n ≡ length (stagedIn (sessionOf N p cells count))
+  many N p = cells-many cells count n h e ∙ sym (ap length (staged-parts cells count N p))
+
+  pub with-cells-at : i < n → (N : ℕ) (p : Phase) → sessionOf N p cells n ≡ withStaged (sessionOf N p cells count) (blocksWith (take count cells) b)
+  unfolding stagedIn
+  with-cells-at l N p =
+      with-at (sessionOf N p cells count) b n (spot (take count cells) b) h (many N p)
+      (spot-found (take count cells) b (omega (arith, q, cells-many cells count n h e)))
+
+  pub with-cells-new : n ≤ i → i < 32 → (N : ℕ) (p : Phase) → sessionOf N p (set cells n b) (n + 1) ≡ withStaged (sessionOf N p cells count) (blocksWith (take count cells) b)
+  unfolding stagedIn
+  with-cells-new l k N p =
+      with-new (sessionOf N p cells count) b n h (many N p) (omega arith)
+      (spot-absent (take count cells) b (omega (arith, q, cells-many cells count n h e)))
+
 -- all of it: the session and the work space that `stage` leaves
 pub stage-is : (s : Session) (device work : List ℕ) (b : ℕ) (x : List ℕ)
     → stage (stagedOf (stateOf s device work)) (put b x)
-    ≡ record { blocks = blocksWith s b; image = withBlock (spot s b) x (blocksOf work) }
+    ≡ record { blocks = blocksWith (stagedIn s) b; image = withBlock (spot (stagedIn s) b) x (blocksOf work) }
 unfolding blocksWith spot
 stage-is s device work b x = go (place b (stagedIn s)) refl
   where
     go : (o : Option ℕ) → place b (stagedIn s) ≡ o
-        → stage (stagedOf (stateOf s device work)) (put b x) ≡ record { blocks = blocksWith s b; image = withBlock (spot s b) x (blocksOf work) }
+        → stage (stagedOf (stateOf s device work)) (put b x) ≡ record { blocks = blocksWith (stagedIn s) b; image = withBlock (spot (stagedIn s) b) x (blocksOf work) }
     go none e = stage-new (stagedOf (stateOf s device work)) (put b x) e ∙ rw e
     go (some i) e = stage-again (stagedOf (stateOf s device work)) (put b x) i e ∙ rw e
 
-pub stage-leaves : (s q : Session) (device work left : List ℕ) (b i : ℕ) (x : List ℕ) → i ≡ spot s b → sliceOf left ≡ storedIn (sliceOf work) i x
-    → q ≡ withStaged s (blocksWith s b) → stateOf q device left ≡ withStaging (stateOf s device work) (stage (stagedOf (stateOf s device work)) (put b x))
+pub stage-leaves : (s q : Session) (device work left : List ℕ) (b i : ℕ) (x : List ℕ) → i ≡ spot (stagedIn s) b → sliceOf left ≡ storedIn (sliceOf work) i x
+    → q ≡ withStaged s (blocksWith (stagedIn s) b) → stateOf q device left ≡ withStaging (stateOf s device work) (stage (stagedOf (stateOf s device work)) (put b x))
 stage-leaves s q device work left b i x e f g =
     ap₂ (λ (n : Session) (w : Slice). record { session = n; device = sliceOf device; work = w }) g
     (f ∙ ap (λ (k : ℕ). storedIn (sliceOf work) k x) e)

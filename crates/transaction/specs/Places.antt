@@ -5,8 +5,8 @@ use mathlib.Core.Option.{Option, none, some}
 use lib.ListN.{length}
 use Rattle.spec.specs.Bytes.{found, place}
 use Rattle.spec.specs.Disk.{Disk, blocksOf}
+use Rattle.spec.specs.declared.Phase.{Phase}
 use Rattle.spec.specs.declared.Session.{Session}
-use Rattle.spec.specs.Session.{stagedIn}
 use Rattle.transaction.specs.declared.Place.{Place}
 use Rattle.transaction.specs.declared.Place.the-variants.{At, Nothing}
 
@@ -19,10 +19,14 @@ foundAt (some i) = At i
 unfoldable pub viewIn : List ℕ → List ℕ → List ℕ → Disk
 viewIn staged device work b = found (place b staged) (blocksOf device b) (blocksOf work)
 
--- the place that block b has among the images, or gets
-unfoldable pub spot : Session → ℕ → ℕ
-spot s b = found (place b (stagedIn s)) (length (stagedIn s)) (λ i. i)
+-- the place that block b has among the images where these are staged, or gets
+unfoldable pub spot : List ℕ → ℕ → ℕ
+spot staged b = found (place b staged) (length staged) (λ i. i)
 
--- the staged blocks with b among them
-unfoldable pub blocksWith : Session → ℕ → List ℕ
-blocksWith s b = found (place b (stagedIn s)) (stagedIn s ++ (b ∷ [])) (λ i. stagedIn s)
+-- these staged blocks with b among them
+unfoldable pub blocksWith : List ℕ → ℕ → List ℕ
+blocksWith staged b = found (place b staged) (staged ++ (b ∷ [])) (λ i. staged)
+
+-- the session of these parts: calls that change its cells are lent them
+abbrev pub sessionOf : ℕ → Phase → List ℕ → ℕ → Session
+sessionOf blocks phase cells count = record { blocks = blocks; phase = phase; staged = cells; count = count }

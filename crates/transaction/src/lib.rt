@@ -6,12 +6,13 @@ use spec::Limits;
 use spec::Session;
 ghost use mathlib.Core.Path.{_≡_};
 ghost use mathlib.Core.List.{List};
-ghost use Prim.Native.Nat.{ℕ, _≤_, _<_};
-ghost use lib.ListN.{length};
+ghost use Prim.Native.Nat.{ℕ, _≤_, _<_, min};
+ghost use lib.ListN.{length, take};
 ghost use Rattle.spec.specs.Bytes.{exactly, place};
+ghost use Rattle.spec.specs.declared.Phase.{Phase};
 ghost use Rattle.spec.specs.Session.{stagedIn, withStaged};
 ghost use Rattle.spec.specs.Transaction.{view, stateOf, put, stage, stagedOf, withStaging};
-ghost use Rattle.transaction.specs.Places.{foundAt, spot, blocksWith, viewIn};
+ghost use Rattle.transaction.specs.Places.{foundAt, spot, blocksWith, sessionOf, viewIn};
 
 // Where a block stands among the staged ones.
 pub enum Place {
@@ -19,15 +20,21 @@ pub enum Place {
     Nothing,
 }
 
+// How many of the 32 cells are in use: a count past them is read as all.
+pub fn staged_in(count: usize) -> usize
+    ensures { λ r. ⌜ (r ≡ min count 32) × (r ≤ 32) ⌝ }
+{
+    if count < Limits::LOG_LENGTH {
+        return count;
+    }
+    Limits::LOG_LENGTH
+}
+
 // How many blocks are staged.
 pub fn staged_count(s: Session) -> usize
     ensures { λ r. ⌜ (r ≡ length (stagedIn s)) × (r ≤ 32) ⌝ }
 {
-    let n = s.count;
-    if n < Limits::LOG_LENGTH {
-        return n;
-    }
-    Limits::LOG_LENGTH
+    staged_in(s.count)
 }
 
 // Where block b stands among these.
@@ -74,40 +81,46 @@ pub fn view_block<'a>(device: &'a [u8], work: &'a [u8], s: Session, b: DiskBlock
     view_in(device, work, &l[0..n], b)
 }
 
-// The place among the images that block b has or gets.
-pub fn spot(s: Session, b: DiskBlock) -> usize
-    ensures { λ i. ⌜ i ≡ spot s (b .0) ⌝ }
+// The place among the images that block b has or gets, where these are staged.
+pub fn spot(staged: &[u32], b: DiskBlock) -> usize
+    ensures { λ i. ⌜ i ≡ spot (now (staged .entry)) (b .0) ⌝ }
 {
-    match staged_at(s, b) {
+    match place_in(staged, b) {
         Place::At(i) => i,
-        Place::Nothing => staged_count(s),
+        Place::Nothing => staged.len(),
     }
 }
 
-// The session with block b staged at its place i.
-pub fn with_block(s: Session, b: DiskBlock, i: usize) -> Session
-    requires { ⌜ (i ≡ spot s (b .0)) × (i < 32) ⌝ }
-    ensures { λ q. ⌜ q ≡ withStaged s (blocksWith s (b .0)) ⌝ }
+// Block b among the staged ones, at its place i: how many cells are in use then. Of every session with these cells.
+pub fn with_block(cells: &mut [u32; 32], count: usize, b: DiskBlock, i: usize) -> usize
+    requires { ⌜ (length (now cells) ≡ 32) × (i ≡ spot (take count (now cells)) (b .0)) × (i < 32) ⌝ }
+    ensures { λ n. ⌜ ((N : ℕ) (p : Phase) → sessionOf N p (now (cells .exit)) n
+        ≡ withStaged (sessionOf N p (now (cells .entry)) count) (blocksWith (take count (now (cells .entry))) (b .0))) × (length (now (cells .exit)) ≡ 32) ⌝ }
 {
-    let n = staged_count(s);
-    let x = b.0;
-    let mut q = s;
+    let n = staged_in(count);
     if i < n {
-        q.count = n;
-        return q;
+        return n;
     }
-    q.staged[n] = x;
-    q.count = n + 1;
-    q
+    cells[n] = b.0;
+    n + 1
 }
 
 // Block b staged with content x: appended, or its image overwritten; the rest of the work space is unchanged.
 pub fn stage(work: &mut [u8], s: Session, b: DiskBlock, x: &[u8; 512]) -> Session
-    requires { ⌜ (length (now work) ≡ 16384) × (spot s (b .0) < 32) ⌝ }
+    requires { ⌜ (length (now work) ≡ 16384) × (spot (stagedIn s) (b .0) < 32) ⌝ }
     ensures { λ q. ⌜ ((device : List ℕ) → stateOf q device (now (work .exit))
         ≡ withStaging (stateOf s device (now (work .entry))) (stage (stagedOf (stateOf s device (now (work .entry)))) (put (b .0) (now (x .entry))))) ⌝ }
 {
-    let i = spot(s, b);
+    let phase = s.phase;
+    let mut cells = s.staged;
+    let n = staged_count(s);
+    let i = spot(&cells[0..n], b);
     store_block(work, DiskBlock(i as u32), x);
-    with_block(s, b, i)
+    let count = with_block(&mut cells, s.count, b, i);
+    Session {
+        blocks: s.blocks,
+        phase: phase,
+        staged: cells,
+        count: count,
+    }
 }

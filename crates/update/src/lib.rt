@@ -1,4 +1,5 @@
 // The public calls that change files: tests in the order of the numbers, the plan, then one call below.
+use alloc::Draft;
 use alloc::draft_of;
 use block::ByteOffset;
 use block::DiskBlock;
@@ -7,13 +8,14 @@ use block::load;
 use change::Outline;
 use change::apply;
 use change::same_at;
-use change::settled;
 use change::stage_record;
+use checks::Changed;
 use checks::Checked;
-use checks::done;
-use checks::refused;
+use checks::done_with;
+use checks::finished;
+use checks::refused_with;
 use content::record_bytes;
-use inode::inode_block;
+use inode::inode_block_in;
 use inode::name_of;
 use inode::size_of;
 use inode::table_block;
@@ -24,42 +26,50 @@ use lookup::look_up_pair;
 use lookup::look_up_sized;
 use spec::Finished;
 use spec::Limits;
+use spec::Phase;
 use spec::Refusal;
 use spec::Session;
 use transaction::spot;
-use transaction::staged_count;
-use transaction::view_block;
+use transaction::staged_in;
+use transaction::view_in;
 ghost use mathlib.Core.Path.{_≡_};
-ghost use Prim.Native.Nat.{_+_, _<_, _≤_, max};
+ghost use Prim.Native.Nat.{ℕ, _+_, _<_, _≤_, max};
 ghost use lib.ListN.{length, getD};
+ghost use Rattle.spec.specs.declared.Phase.{Phase};
 ghost use Rattle.spec.specs.Inode.{blocksFor};
 ghost use Rattle.spec.specs.Answers.{doneOf};
 ghost use Rattle.spec.specs.Transaction.{stateOf, view};
 ghost use Rattle.spec.specs.Calls.{left, outcome, settle, staging, rewrite, create, remove, rename, write, setSize};
-ghost use Rattle.update.specs.Records.{renamedIn, recordStores};
+ghost use Rattle.transaction.specs.Places.{sessionOf};
+ghost use Rattle.update.specs.Records.{renamedIn, recordStores, outlineOf};
 
-// The bytes of record i changed, and nothing else: 18.
+// The bytes of record i changed, and nothing else: 18. Of every session with these cells.
 fn change_record(
     device: &[u8],
     work: &mut [u8],
-    session: Session,
+    cells: &mut [u32; 32],
+    many: usize,
     i: usize,
     bytes: [u8; 32],
-) -> Finished
-    requires { ⌜ (i < 128) × (length (now work) ≡ 16384) ⌝ }
-    ensures { λ r. ⌜ left (r .session) (now (device .entry)) (now (work .exit)) (doneOf (r .answer))
-        ≡ settle (outcome (stateOf session (now (device .entry)) (now (work .entry))))
-        (staging (stateOf session (now (device .entry)) (now (work .entry)))
-        (recordStores (view (stateOf session (now (device .entry)) (now (work .entry)))) i bytes)) ⌝ }
+) -> Changed
+    requires { ⌜ (i < 128) × (length (now work) ≡ 16384) × (length (now cells) ≡ 32) ⌝ }
+    ensures { λ r. ⌜ ((N : ℕ) (p : Phase) → left (sessionOf N p (now (cells .exit)) (r .count)) (now (device .entry)) (now (work .exit)) (doneOf (r .answer))
+        ≡ settle (outcome (stateOf (sessionOf N p (now (cells .entry)) many) (now (device .entry)) (now (work .entry))))
+        (staging (stateOf (sessionOf N p (now (cells .entry)) many) (now (device .entry)) (now (work .entry)))
+        (recordStores (view (stateOf (sessionOf N p (now (cells .entry)) many) (now (device .entry)) (now (work .entry)))) i bytes))) ⌝ }
 {
+    let n = staged_in(many);
+    let l: &[u32] = cells;
+    let staged = &l[0..n];
     let new: &[u8] = &bytes;
-    if same_at(inode_block(device, work, session, i), 32 * (i % 16), new) {
-        return done(settled(session));
+    if same_at(inode_block_in(device, work, staged, i), 32 * (i % 16), new) {
+        return done_with(n);
     }
-    if Limits::LOG_LENGTH <= spot(session, DiskBlock(table_block(i))) {
-        return refused(session, Refusal::TooManyStaged);
+    let k = spot(staged, DiskBlock(table_block(i)));
+    if Limits::LOG_LENGTH <= k {
+        return refused_with(many, Refusal::TooManyStaged);
     }
-    done(stage_record(device, work, session, i, bytes))
+    done_with(stage_record(device, work, cells, many, i, k, bytes))
 }
 
 fn byte_named(name: &[u8], block: &[u8], at: usize, k: usize) -> u8
@@ -86,95 +96,153 @@ fn renamed(name: &[u8], block: &[u8], at: usize) -> [u8; 32]
     q
 }
 
-// "Create takes the lowest empty record."
+// "Create takes the lowest empty record." Of a session in its parts.
+pub fn create_in(
+    device: &[u8],
+    work: &mut [u8],
+    blocks: usize,
+    phase: Phase,
+    cells: &mut [u32; 32],
+    many: usize,
+    name: &[u8],
+) -> Changed
+    ensures { λ r. ⌜ left (sessionOf blocks phase (now (cells .exit)) (r .count)) (now (device .entry)) (now (work .exit)) (doneOf (r .answer))
+        ≡ create (stateOf (sessionOf blocks phase (now (cells .entry)) many) (now (device .entry)) (now (work .entry))) (now (name .entry)) ⌝ }
+{
+    let l: &[u32] = cells;
+    let staged = &l[0..staged_in(many)];
+    match look_up_new(device, work, blocks, phase, staged, name) {
+        Looked::Bad(why) => refused_with(many, why),
+        Looked::At(i) => {
+            let bytes = renamed(name, &name[0..0], 0);
+            change_record(device, work, cells, many, i, bytes)
+        }
+    }
+}
+
 pub fn create(device: &[u8], work: &mut [u8], session: Session, name: &[u8]) -> Finished
     ensures { λ r. ⌜ left (r .session) (now (device .entry)) (now (work .exit)) (doneOf (r .answer))
         ≡ create (stateOf session (now (device .entry)) (now (work .entry))) (now (name .entry)) ⌝ }
 {
     let blocks = session.blocks;
     let phase = session.phase;
-    let l = session.staged;
-    let n = staged_count(session);
-    match look_up_new(device, work, blocks, phase, &l[0..n], name) {
-        Looked::Bad(why) => refused(session, why),
+    let mut cells = session.staged;
+    let c = create_in(device, work, blocks, phase, &mut cells, session.count, name);
+    finished(blocks, phase, cells, c)
+}
+
+// "Rename keeps the record in its place."
+pub fn rename_in(
+    device: &[u8],
+    work: &mut [u8],
+    blocks: usize,
+    phase: Phase,
+    cells: &mut [u32; 32],
+    many: usize,
+    name: &[u8],
+    new: &[u8],
+) -> Changed
+    ensures { λ r. ⌜ left (sessionOf blocks phase (now (cells .exit)) (r .count)) (now (device .entry)) (now (work .exit)) (doneOf (r .answer))
+        ≡ rename (stateOf (sessionOf blocks phase (now (cells .entry)) many) (now (device .entry)) (now (work .entry))) (now (name .entry)) (now (new .entry)) ⌝ }
+{
+    let l: &[u32] = cells;
+    let staged = &l[0..staged_in(many)];
+    match look_up_pair(device, work, blocks, phase, staged, name, new) {
+        Looked::Bad(why) => refused_with(many, why),
         Looked::At(i) => {
-            let bytes = renamed(name, &name[0..0], 0);
-            change_record(device, work, session, i, bytes)
+            let at = 32 * (i % 16);
+            let record = renamed(new, inode_block_in(device, work, staged, i), at);
+            change_record(device, work, cells, many, i, record)
         }
     }
 }
 
-// "Rename keeps the record in its place."
 pub fn rename(device: &[u8], work: &mut [u8], session: Session, name: &[u8], new: &[u8]) -> Finished
     ensures { λ r. ⌜ left (r .session) (now (device .entry)) (now (work .exit)) (doneOf (r .answer))
         ≡ rename (stateOf session (now (device .entry)) (now (work .entry))) (now (name .entry)) (now (new .entry)) ⌝ }
 {
     let blocks = session.blocks;
     let phase = session.phase;
-    let l = session.staged;
-    let n = staged_count(session);
-    match look_up_pair(device, work, blocks, phase, &l[0..n], name, new) {
-        Looked::Bad(why) => refused(session, why),
-        Looked::At(i) => {
-            let at = 32 * (i % 16);
-            let record = renamed(new, inode_block(device, work, session, i), at);
-            change_record(device, work, session, i, record)
-        }
+    let mut cells = session.staged;
+    let c = rename_in(
+        device,
+        work,
+        blocks,
+        phase,
+        &mut cells,
+        session.count,
+        name,
+        new,
+    );
+    finished(blocks, phase, cells, c)
+}
+
+// A draft as the change of a file: with the bytes of its record, and its size before and after.
+fn outline_of(d: Draft, bytes: [u8; 32], old: usize, size: usize) -> Outline
+    ensures { λ o. ⌜ o ≡ outlineOf d bytes old size ⌝ }
+{
+    let end = d.end;
+    let node = d.node;
+    Outline {
+        end: end,
+        node: node,
+        nodes: d.nodes,
+        before: d.before,
+        held: d.held,
+        bytes: bytes,
+        old: old,
+        size: size,
     }
 }
 
 // "Remove .. give back every data and extent block": the record is emptied.
+pub fn remove_in(
+    device: &[u8],
+    work: &mut [u8],
+    blocks: usize,
+    phase: Phase,
+    cells: &mut [u32; 32],
+    many: usize,
+    name: &[u8],
+) -> Changed
+    ensures { λ r. ⌜ left (sessionOf blocks phase (now (cells .exit)) (r .count)) (now (device .entry)) (now (work .exit)) (doneOf (r .answer))
+        ≡ remove (stateOf (sessionOf blocks phase (now (cells .entry)) many) (now (device .entry)) (now (work .entry))) (now (name .entry)) ⌝ }
+{
+    let l: &[u32] = cells;
+    let staged = &l[0..staged_in(many)];
+    match look_up(device, work, blocks, phase, staged, name) {
+        Looked::Bad(why) => refused_with(many, why),
+        Looked::At(i) => {
+            let mut t = copy_of(view_in(device, work, staged, DiskBlock(33)));
+            let mut first = [0u32; 512];
+            let mut count = [0u32; 512];
+            let wanted: usize = 0;
+            let d = draft_of(
+                &mut t,
+                &mut first,
+                &mut count,
+                device,
+                work,
+                staged,
+                i,
+                wanted,
+            );
+            let o = outline_of(d, [0u8; 32], 0, 0);
+            let none = &name[0..0];
+            apply(device, work, cells, many, i, &t, &first, &count, o, 0, none)
+        }
+    }
+}
+
 pub fn remove(device: &[u8], work: &mut [u8], session: Session, name: &[u8]) -> Finished
     ensures { λ r. ⌜ left (r .session) (now (device .entry)) (now (work .exit)) (doneOf (r .answer))
         ≡ remove (stateOf session (now (device .entry)) (now (work .entry))) (now (name .entry)) ⌝ }
 {
     let blocks = session.blocks;
     let phase = session.phase;
-    let l = session.staged;
-    let n = staged_count(session);
-    match look_up(device, work, blocks, phase, &l[0..n], name) {
-        Looked::Bad(why) => refused(session, why),
-        Looked::At(i) => {
-            let mut table = copy_of(view_block(device, work, session, DiskBlock(33)));
-            let mut first = [0u32; 512];
-            let mut count = [0u32; 512];
-            let wanted: usize = 0;
-            let d = draft_of(
-                &mut table,
-                &mut first,
-                &mut count,
-                device,
-                work,
-                session,
-                i,
-                wanted,
-            );
-            let node = d.node;
-            let end = d.end;
-            let gone = Outline {
-                end: end,
-                node: node,
-                nodes: d.nodes,
-                before: d.before,
-                held: d.held,
-                bytes: [0u8; 32],
-                old: 0,
-                size: 0,
-            };
-            apply(
-                device,
-                work,
-                session,
-                i,
-                &table,
-                &first,
-                &count,
-                gone,
-                0,
-                &name[0..0],
-            )
-        }
-    }
+    let mut cells = session.staged;
+    let c = remove_in(device, work, blocks, phase, &mut cells, session.count, name);
+    finished(blocks, phase, cells, c)
 }
 
 // "A file of size s has s/512 blocks, rounded up."
@@ -191,66 +259,54 @@ fn wide(n: u32) -> usize
     n as usize
 }
 
-// 16, 17 and 18: record i becomes a file of this size, with bytes laid over it at x.
+// 16, 17 and 18: record i becomes a file of this size, with bytes laid over it at x. Of every session with these cells.
 fn resize(
     device: &[u8],
     work: &mut [u8],
-    session: Session,
+    cells: &mut [u32; 32],
+    many: usize,
     i: usize,
     size: usize,
     x: usize,
     bytes: &[u8],
-) -> Finished
-    requires { ⌜ (i < 128) × (length (now work) ≡ 16384) × (x + length (now bytes) ≤ 1048576) × (size < 4294967296) ⌝ }
-    ensures { λ r. ⌜ left (r .session) (now (device .entry)) (now (work .exit)) (doneOf (r .answer))
-        ≡ settle (outcome (stateOf session (now (device .entry)) (now (work .entry)))) (rewrite (stateOf session (now (device .entry)) (now (work .entry))) i size x (now (bytes .entry))) ⌝ }
+) -> Changed
+    requires { ⌜ (i < 128) × (length (now work) ≡ 16384) × (length (now cells) ≡ 32) × (x + length (now bytes) ≤ 1048576) × (size < 4294967296) ⌝ }
+    ensures { λ r. ⌜ ((N : ℕ) (p : Phase) → left (sessionOf N p (now (cells .exit)) (r .count)) (now (device .entry)) (now (work .exit)) (doneOf (r .answer))
+        ≡ settle (outcome (stateOf (sessionOf N p (now (cells .entry)) many) (now (device .entry)) (now (work .entry)))) (rewrite (stateOf (sessionOf N p (now (cells .entry)) many) (now (device .entry)) (now (work .entry))) i size x (now (bytes .entry)))) ⌝ }
 {
-    let mut table = copy_of(view_block(device, work, session, DiskBlock(33)));
+    let l: &[u32] = cells;
+    let staged = &l[0..staged_in(many)];
+    let mut t = copy_of(view_in(device, work, staged, DiskBlock(33)));
     let mut first = [0u32; 512];
     let mut count = [0u32; 512];
+    let wanted = blocks_for(size);
     let d = draft_of(
-        &mut table,
+        &mut t,
         &mut first,
         &mut count,
         device,
         work,
-        session,
+        staged,
         i,
-        blocks_for(size),
+        wanted,
     );
     let verdict = d.verdict;
     match verdict {
-        Checked::Bad(why) => refused(session, why),
+        Checked::Bad(why) => refused_with(many, why),
         Checked::Fine => {
-            let records = inode_block(device, work, session, i);
+            let records = inode_block_in(device, work, staged, i);
             let old = wide(size_of(records, i));
+            let name = name_of(records, i);
             let node = d.node;
-            let end = d.end;
-            let record = record_bytes(
-                name_of(records, i),
-                size,
-                &first,
-                &count,
-                end,
-                node,
-                d.nodes,
-            );
-            let o = Outline {
-                end: end,
-                node: node,
-                nodes: d.nodes,
-                before: d.before,
-                held: d.held,
-                bytes: record,
-                old: old,
-                size: size,
-            };
+            let record = record_bytes(name, size, &first, &count, d.end, node, d.nodes);
+            let o = outline_of(d, record, old, size);
             apply(
                 device,
                 work,
-                session,
+                cells,
+                many,
                 i,
-                &table,
+                &t,
                 &first,
                 &count,
                 o,
@@ -274,6 +330,34 @@ fn larger(size: u32, end: usize) -> usize
 }
 
 // "the size becomes the larger of the old size and x plus the data length, a gap is zeros"
+pub fn write_in(
+    device: &[u8],
+    work: &mut [u8],
+    blocks: usize,
+    phase: Phase,
+    cells: &mut [u32; 32],
+    many: usize,
+    name: &[u8],
+    x: ByteOffset,
+    bytes: &[u8],
+) -> Changed
+    ensures { λ r. ⌜ left (sessionOf blocks phase (now (cells .exit)) (r .count)) (now (device .entry)) (now (work .exit)) (doneOf (r .answer))
+        ≡ write (stateOf (sessionOf blocks phase (now (cells .entry)) many) (now (device .entry)) (now (work .entry))) (now (name .entry)) (x .0) (now (bytes .entry)) ⌝ }
+{
+    let from = x.0;
+    let l: &[u32] = cells;
+    let staged = &l[0..staged_in(many)];
+    let n = bytes.len();
+    match look_up_sized(device, work, blocks, phase, staged, name, from, n) {
+        Looked::Bad(why) => refused_with(many, why),
+        Looked::At(i) => {
+            let old = size_of(inode_block_in(device, work, staged, i), i);
+            let size = larger(old, from + n);
+            resize(device, work, cells, many, i, size, from, bytes)
+        }
+    }
+}
+
 pub fn write(
     device: &[u8],
     work: &mut [u8],
@@ -285,38 +369,45 @@ pub fn write(
     ensures { λ r. ⌜ left (r .session) (now (device .entry)) (now (work .exit)) (doneOf (r .answer))
         ≡ write (stateOf session (now (device .entry)) (now (work .entry))) (now (name .entry)) (x .0) (now (bytes .entry)) ⌝ }
 {
-    let from = x.0;
     let blocks = session.blocks;
     let phase = session.phase;
-    let l = session.staged;
-    let n = staged_count(session);
-    match look_up_sized(
+    let mut cells = session.staged;
+    let c = write_in(
         device,
         work,
         blocks,
         phase,
-        &l[0..n],
+        &mut cells,
+        session.count,
         name,
-        from,
-        bytes.len(),
-    ) {
-        Looked::Bad(why) => refused(session, why),
-        Looked::At(i) => {
-            let old = size_of(inode_block(device, work, session, i), i);
-            resize(
-                device,
-                work,
-                session,
-                i,
-                larger(old, from + bytes.len()),
-                from,
-                bytes,
-            )
-        }
-    }
+        x,
+        bytes,
+    );
+    finished(blocks, phase, cells, c)
 }
 
 // Cut, or lengthened by zeros.
+pub fn set_size_in(
+    device: &[u8],
+    work: &mut [u8],
+    blocks: usize,
+    phase: Phase,
+    cells: &mut [u32; 32],
+    many: usize,
+    name: &[u8],
+    size: usize,
+) -> Changed
+    ensures { λ r. ⌜ left (sessionOf blocks phase (now (cells .exit)) (r .count)) (now (device .entry)) (now (work .exit)) (doneOf (r .answer))
+        ≡ setSize (stateOf (sessionOf blocks phase (now (cells .entry)) many) (now (device .entry)) (now (work .entry))) (now (name .entry)) size ⌝ }
+{
+    let l: &[u32] = cells;
+    let staged = &l[0..staged_in(many)];
+    match look_up_sized(device, work, blocks, phase, staged, name, 0, size) {
+        Looked::Bad(why) => refused_with(many, why),
+        Looked::At(i) => resize(device, work, cells, many, i, size, 0, &name[0..0]),
+    }
+}
+
 pub fn set_size(
     device: &[u8],
     work: &mut [u8],
@@ -329,10 +420,16 @@ pub fn set_size(
 {
     let blocks = session.blocks;
     let phase = session.phase;
-    let l = session.staged;
-    let n = staged_count(session);
-    match look_up_sized(device, work, blocks, phase, &l[0..n], name, 0, size) {
-        Looked::Bad(why) => refused(session, why),
-        Looked::At(i) => resize(device, work, session, i, size, 0, &name[0..0]),
-    }
+    let mut cells = session.staged;
+    let c = set_size_in(
+        device,
+        work,
+        blocks,
+        phase,
+        &mut cells,
+        session.count,
+        name,
+        size,
+    );
+    finished(blocks, phase, cells, c)
 }

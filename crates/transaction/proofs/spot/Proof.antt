@@ -4,8 +4,8 @@ use borrow.Author.Needs.{needs}
 use Rattle.transaction.proofs.spot.Statement.{statement}
 use Rattle.transaction.proofs.spot.Tie as tie
 
-staged-at-requires : tie.Need-staged-at-requires
-staged-at-requires c κs = search needs
+place-in-requires : tie.Need-place-in-requires
+place-in-requires c κs = search needs
 
 enum-known-i : tie.Need-enum-known-i
 enum-known-i c = search needs
@@ -13,18 +13,11 @@ enum-known-i c = search needs
 enum-told : tie.Need-enum-told
 enum-told c = search needs
 
-staged-count-requires : tie.Need-staged-count-requires
-staged-count-requires c κs = search needs
-
 returns : tie.Need-returns
-returns c =
-    spot-at (c .before .before .before .before .args .s) _ _ (sym (c .before .before .before .staged-at .ensures) ∙ c .before .i .given .1)
+returns c = spot-at (c .before .before .before .before .before .args .staged .now) _ _ (sym (c .before .before .before .place-in .ensures) ∙ c .before .i .given .1)
 
 returns-2 : tie.Need-returns-2
-returns-2 c =
-    c .staged-count .ensures .0 ∙ spot-new (c .before .before .before .before .args .s) _ (sym (c .before .before .before .staged-at .ensures) ∙ c .before .enum-told .given .1)
+returns-2 c = spot-new (c .before .before .before .before .args .staged .now) _ (sym (c .before .before .place-in .ensures) ∙ c .enum-told .given .1)
 
 pub spot-spec : {M : Type 1} → statement M
-spot-spec =
-    tie.close
-    (tie.spec staged-at-requires enum-known-i enum-told staged-count-requires returns returns-2)
+spot-spec = tie.close (tie.spec place-in-requires enum-known-i enum-told returns returns-2)

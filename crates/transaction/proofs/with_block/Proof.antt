@@ -1,35 +1,28 @@
-use Prim.Native.Nat.{_<_, _≤_}
-use mathlib.Core.Path.{_≡_}
+use mathlib.Core.Path.{_∙_}
 use native.Mathlib.Omega.{arith}
-use lib.ListN.{length}
-use Rattle.spec.specs.Session.{stagedIn}
-use Rattle.transaction.specs.Places.{spot}
-use Rattle.transaction.proofs.Laws.{spot-found, spot-absent, spot-new, with-at, with-new}
+use lib.ListN.{length-set}
+use Rattle.transaction.proofs.Laws.{with-cells-at, with-cells-new}
 use borrow.Author.Needs.{needs}
 use Rattle.transaction.proofs.with_block.Statement.{statement}
 use Rattle.transaction.proofs.with_block.Tie as tie
 
-staged-count-requires : tie.Need-staged-count-requires
-staged-count-requires c κs = search needs
+staged-in-requires : tie.Need-staged-in-requires
+staged-in-requires c κs = search needs
 
 returns : tie.Need-returns
-returns c = let a = c .before .before .args in let l : length (a .s .staged) ≡ 32 = search needs in let n = c .before .staged-count .ensures .0 in
-    let h : spot (a .s) (a .b .0) < length (stagedIn (a .s)) = omega (arith, c .before .before .pre .0, n, c .if1 .taken) in
-    with-at (a .s) (a .b .0) _ _ l n (spot-found (a .s) (a .b .0) h)
+returns c = (λ N p. with-cells-at (c .before .before .args .cells .now) (c .before .before .args .count) (c .before .before .args .b .0) _ _ (c .before .before .pre .0) (c .before .staged-in .ensures .0) (c .before .before .pre .1) (c .if1 .taken) N p, c .before .before .pre .0)
 
-mul-q : tie.Need-mul-q
-mul-q c = search needs
+mul-cells : tie.Need-mul-cells
+mul-cells c = search needs
 
-element-write-q : tie.Need-element-write-q
-element-write-q c = let a = c .before .before .args in omega (arith, c .before .staged-count .ensures .1, c .before .before .pre .0, c .before .before .pre .1, c .if1 .left)
+element-write-cells : tie.Need-element-write-cells
+element-write-cells c = omega (arith, c .before .before .pre .0, c .before .before .pre .2, c .if1 .left)
 
-add-q : tie.Need-add-q
-add-q c = search needs
+add-result : tie.Need-add-result
+add-result c = search needs
 
 returns-2 : tie.Need-returns-2
-returns-2 c = let a = c .before .before .args in let l : length (a .s .staged) ≡ 32 = search needs in let n = c .before .staged-count .ensures .0 in
-    let h : length (stagedIn (a .s)) ≤ spot (a .s) (a .b .0) = omega (arith, c .before .before .pre .0, n, c .if1 .left) in
-    with-new (a .s) (a .b .0) _ l n (omega (arith, c .before .before .pre .1, c .if1 .left)) (spot-absent (a .s) (a .b .0) h)
+returns-2 c = (λ N p. with-cells-new (c .before .before .args .cells .now) (c .before .before .args .count) (c .before .before .args .b .0) _ _ (c .before .before .pre .0) (c .before .staged-in .ensures .0) (c .before .before .pre .1) (c .if1 .left) (c .before .before .pre .2) N p, length-set (c .before .before .args .cells .now) (c .before .staged-in .result) (c .before .before .args .b .0) ∙ c .before .before .pre .0)
 
 pub with-block-spec : {M : Type 1} → statement M
-with-block-spec = tie.close (tie.spec staged-count-requires returns mul-q element-write-q add-q returns-2)
+with-block-spec = tie.close (tie.spec staged-in-requires returns mul-cells element-write-cells add-result returns-2)

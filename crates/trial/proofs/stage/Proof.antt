@@ -1,4 +1,5 @@
 use native.Mathlib.Omega.{arith}
+use Rattle.spec.specs.Session.{stagedIn}
 use Rattle.transaction.proofs.Laws.{spot-le}
 use borrow.Author.Needs.{needs}
 use Rattle.trial.proofs.stage.Statement.{statement}
@@ -16,7 +17,7 @@ returns-2 c = search needs
 stage-requires : tie.Need-stage-requires
 stage-requires c κs =
     let s = c .before .before .before .before .before .before .args .s in
-    (omega arith, omega (arith, spot-le s (c .before .before .before .before .before .before .args .b), c .before .before .before .staged-count .ensures .0))
+    (omega arith, omega (arith, spot-le (stagedIn s) (c .before .before .before .before .before .before .args .b), c .before .before .before .staged-count .ensures .0))
 
 same-length : tie.Need-same-length
 same-length c = search needs

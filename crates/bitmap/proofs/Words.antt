@@ -13,7 +13,7 @@ use lib.ListN.{length, take, drop, getD, set, take-append-drop}
 use lib.Seq.{length-take-le, set-append-left, take-add, take-at, take-all}
 use Rattle.spec.specs.Bytes.{place, placeFrom}
 use Rattle.spec.specs.Bitmap.{bitsOfByte, bitsOf, freeBits}
-use Rattle.bitmap.specs.Words.{Below, Table, wordOf}
+use Rattle.bitmap.specs.Words.{Bytes, wordOf}
 use Rattle.bitmap.proofs.Numbers.{lowBits, byte-low, length-low, low-append, low-free, low-place, or-low, and-low}
 use Rattle.bitmap.proofs.Laws.{length-bits, byte-bits, occurs-append, place-after}
 
@@ -24,22 +24,30 @@ unfoldable number : List ℕ → ℕ → ℕ → ℕ
 number t i zero = 0
 number t i (suc k) = number t (suc i) k * 256 + getD t i 0
 
-number-lt : (t : List ℕ) → Below 256 t → (i k : ℕ) → number t i k < 2 ^ (8 * k)
-unfolding number
-number-lt t h i zero = omega arith
-number-lt t h i (suc k) =
-    let e : 2 ^ (8 * suc k) ≡ 256 * 2 ^ (8 * k) = ap (λ (n : ℕ). 2 ^ n) (omega arith) ∙ pow-add 2 8 (8 * k) in
-    omega (arith, e, h i, number-lt t h (suc i) k)
+-- of k bytes from place i, the first and the others
+module _ (t : List ℕ) (i k : ℕ) (h : (j : ℕ) → j < suc k → getD t (i + j) 0 < 256) where
+  first-byte : getD t i 0 < 256
+  first-byte = let z : i + 0 ≡ i = omega arith in rw (← z) (h 0 (omega arith))
 
-number-bits : (t : List ℕ) → Below 256 t → (i k : ℕ) → i + k ≤ length t → drop (8 * i) (bitsOf t) ≡ lowBits (8 * k) (number t i k) ++ drop (8 * (i + k)) (bitsOf t)
+  other-bytes : (j : ℕ) → j < k → getD t (suc i + j) 0 < 256
+  other-bytes j l = let z : suc i + j ≡ i + suc j = omega arith in rw z (h (suc j) (omega arith))
+
+number-lt : (t : List ℕ) (i k : ℕ) → ((j : ℕ) → j < k → getD t (i + j) 0 < 256) → number t i k < 2 ^ (8 * k)
+unfolding number
+number-lt t i zero h = omega arith
+number-lt t i (suc k) h =
+    let e : 2 ^ (8 * suc k) ≡ 256 * 2 ^ (8 * k) = ap (λ (n : ℕ). 2 ^ n) (omega arith) ∙ pow-add 2 8 (8 * k) in
+    omega (arith, e, first-byte t i k h, number-lt t (suc i) k (other-bytes t i k h))
+
+number-bits : (t : List ℕ) (i k : ℕ) → ((j : ℕ) → j < k → getD t (i + j) 0 < 256) → i + k ≤ length t → drop (8 * i) (bitsOf t) ≡ lowBits (8 * k) (number t i k) ++ drop (8 * (i + k)) (bitsOf t)
 unfolding number lowBits
-number-bits t h i zero l = ap (λ (n : ℕ). drop (8 * n) (bitsOf t)) (sym (add-zero i))
-number-bits t h i (suc k) l =
+number-bits t i zero h l = ap (λ (n : ℕ). drop (8 * n) (bitsOf t)) (sym (add-zero i))
+number-bits t i (suc k) h l =
     let e : 8 * suc k ≡ 8 + 8 * k = omega arith in
     let f : suc i + k ≡ i + suc k = omega arith in
-    byte-bits t i (omega arith) ∙ ap₂ (λ (a b : List ℕ). a ++ b) (byte-low (getD t i 0)) (number-bits t h (suc i) k (omega arith))
+    byte-bits t i (omega arith) ∙ ap₂ (λ (a b : List ℕ). a ++ b) (byte-low (getD t i 0)) (number-bits t (suc i) k (other-bytes t i k h) (omega arith))
     ∙ sym (append-assoc (lowBits 8 (getD t i 0)) (lowBits (8 * k) (number t (suc i) k)) (drop (8 * (suc i + k)) (bitsOf t)))
-    ∙ ap₂ (λ (a b : List ℕ). a ++ b) (sym (low-append 8 (8 * k) (number t (suc i) k) (getD t i 0) (h i)) ∙ ap (λ (n : ℕ). lowBits n (number t i (suc k))) (sym e))
+    ∙ ap₂ (λ (a b : List ℕ). a ++ b) (sym (low-append 8 (8 * k) (number t (suc i) k) (getD t i 0) (first-byte t i k h)) ∙ ap (λ (n : ℕ). lowBits n (number t i (suc k))) (sym e))
     (ap (λ (n : ℕ). drop (8 * n) (bitsOf t)) f)
 
 word-number : (t : List ℕ) (w : ℕ) → wordOf t w ≡ number t (8 * w) 8
@@ -55,18 +63,18 @@ pub record Word (t : List ℕ) (w x : ℕ) : Type 0 where
   pub found : freeBits (take (64 * w) (bitsOf t)) ≡ 0 → (2 ^ 64 - 1 - x ≡ 0 → ⊥)
       → place 0 (bitsOf t) ≡ some (64 * w + trailingZeros 64 (2 ^ 64 - 1 - x))
 
-module _ (t : List ℕ) (table : Table t) (w x : ℕ) (inside : w < 64) (is : x ≡ wordOf t w) where
+module _ (t : List ℕ) (full : length t ≡ 512) (w x : ℕ) (inside : w < 64) (is : x ≡ wordOf t w) (bytes : Bytes t w) where
   is-number : x ≡ number t (8 * w) 8
   is-number = is ∙ word-number t w
 
   word-lt : x < 2 ^ 64
-  word-lt = rw is-number (number-lt t (table .bytes) (8 * w) 8)
+  word-lt = rw is-number (number-lt t (8 * w) 8 bytes)
 
   word-bits : drop (64 * w) (bitsOf t) ≡ lowBits 64 x ++ drop (64 * (w + 1)) (bitsOf t)
   word-bits =
       let e : 64 * w ≡ 8 * (8 * w) = omega arith in
       let f : 64 * (w + 1) ≡ 8 * (8 * w + 8) = omega arith in
-      rw (f, e, is-number) (number-bits t (table .bytes) (8 * w) 8 (omega arith))
+      rw (f, e, is-number) (number-bits t (8 * w) 8 bytes (omega arith))
 
   words-to : take (64 * (w + 1)) (bitsOf t) ≡ take (64 * w) (bitsOf t) ++ lowBits 64 x
   words-to =
@@ -85,6 +93,19 @@ module _ (t : List ℕ) (table : Table t) (w x : ℕ) (inside : w < 64) (is : x 
             ∙ place-after 0 (take (64 * w) (bitsOf t)) (drop (64 * w) (bitsOf t)) none
             ∙ ap₂ (λ (n : ℕ) (bits : List ℕ). placeFrom n 0 bits) (zero-add _ ∙ l) word-bits ∙ low-place 64 x (64 * w) _ word-lt ne;
       }
+
+-- eight bytes, one by one
+pub eight-bytes : (t : List ℕ) (w : ℕ) → getD t (8 * w) 0 < 256 → getD t (8 * w + 1) 0 < 256 → getD t (8 * w + 2) 0 < 256 → getD t (8 * w + 3) 0 < 256
+    → getD t (8 * w + 4) 0 < 256 → getD t (8 * w + 5) 0 < 256 → getD t (8 * w + 6) 0 < 256 → getD t (8 * w + 7) 0 < 256 → Bytes t w
+eight-bytes t w b0 b1 b2 b3 b4 b5 b6 b7 zero l = let z : 8 * w + 0 ≡ 8 * w = omega arith in rw z b0
+eight-bytes t w b0 b1 b2 b3 b4 b5 b6 b7 (suc zero) l = b1
+eight-bytes t w b0 b1 b2 b3 b4 b5 b6 b7 (suc (suc zero)) l = b2
+eight-bytes t w b0 b1 b2 b3 b4 b5 b6 b7 (suc (suc (suc zero))) l = b3
+eight-bytes t w b0 b1 b2 b3 b4 b5 b6 b7 (suc (suc (suc (suc zero)))) l = b4
+eight-bytes t w b0 b1 b2 b3 b4 b5 b6 b7 (suc (suc (suc (suc (suc zero))))) l = b5
+eight-bytes t w b0 b1 b2 b3 b4 b5 b6 b7 (suc (suc (suc (suc (suc (suc zero)))))) l = b6
+eight-bytes t w b0 b1 b2 b3 b4 b5 b6 b7 (suc (suc (suc (suc (suc (suc (suc zero))))))) l = b7
+eight-bytes t w b0 b1 b2 b3 b4 b5 b6 b7 (suc (suc (suc (suc (suc (suc (suc (suc j)))))))) l = absurd (omega arith)
 
 -- a word of which no bit is 0
 pub full-word : (t : List ℕ) (w x : ℕ) → Word t w x → 2 ^ 64 - 1 - x ≡ 0 → freeBits (take (64 * (w + 1)) (bitsOf t)) ≡ freeBits (take (64 * w) (bitsOf t))

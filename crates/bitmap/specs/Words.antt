@@ -22,6 +22,10 @@ wordOf t w =
     ((((((getD t (8 * w + 7) 0 * 256 + getD t (8 * w + 6) 0) * 256 + getD t (8 * w + 5) 0) * 256 + getD t (8 * w + 4) 0) * 256
     + getD t (8 * w + 3) 0) * 256 + getD t (8 * w + 2) 0) * 256 + getD t (8 * w + 1) 0) * 256 + getD t (8 * w) 0
 
+-- each of these bytes is one
+abbrev pub Bytes : List ℕ → ℕ → Type 0
+Bytes t w = (j : ℕ) → j < 8 → getD t (8 * w + j) 0 < 256
+
 -- a place as the code tells it
 abbrev pub foundOf : Option ℕ → Found
 foundOf none = Nothing

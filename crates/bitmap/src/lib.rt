@@ -1,10 +1,10 @@
 // The bitmap (document 01: bit table): 512 bytes, one bit to a block, read by whole words.
 ghost use mathlib.Core.Path.{_≡_};
 ghost use Prim.Native.Nat.{_*_, _<_, _≤_};
-ghost use lib.ListN.{take, set};
+ghost use lib.ListN.{length, take, set};
 ghost use Rattle.spec.specs.Bytes.{place};
 ghost use Rattle.spec.specs.Bitmap.{bitsOf, freeBits};
-ghost use Rattle.bitmap.specs.Words.{Table, wordOf, foundOf};
+ghost use Rattle.bitmap.specs.Words.{Table, Bytes, wordOf, foundOf};
 
 pub enum Found {
     At(u32),
@@ -22,10 +22,10 @@ fn wide(x: u8) -> u64
     x as u64
 }
 
-// Word w of the table: the bytes 8w to 8w+7, little-endian.
-fn word_at(t: &[u8; 512], w: usize) -> u64
-    requires { ⌜ w < 64 ⌝ }
-    ensures { λ r. ⌜ r ≡ wordOf (now (t .entry)) w ⌝ }
+// Word w of a table: the bytes 8w to 8w+7, little-endian.
+fn word_in(t: &[u8], w: usize) -> u64
+    requires { ⌜ (w < 64) × (length (now t) ≡ 512) ⌝ }
+    ensures { λ r. ⌜ (r ≡ wordOf (now (t .entry)) w) × Bytes (now (t .entry)) w ⌝ }
 {
     let i = 8 * w;
     let a7 = wide(t[i + 7]);
@@ -38,19 +38,36 @@ fn word_at(t: &[u8; 512], w: usize) -> u64
     a1 * 256 + wide(t[i])
 }
 
-// How many bits are 0: "Count of ones gives free blocks".
-pub fn free_count(t: &[u8; 512]) -> usize
+// The same of an array.
+fn word_at(t: &[u8; 512], w: usize) -> u64
+    requires { ⌜ w < 64 ⌝ }
+    ensures { λ r. ⌜ (r ≡ wordOf (now (t .entry)) w) × Bytes (now (t .entry)) w ⌝ }
+{
+    let bytes: &[u8] = t;
+    word_in(bytes, w)
+}
+
+// How many bits of a table are 0: "Count of ones gives free blocks".
+pub fn free_in(t: &[u8]) -> usize
+    requires { ⌜ length (now t) ≡ 512 ⌝ }
     ensures { λ r. ⌜ (r ≡ freeBits (bitsOf (now (t .entry)))) × (r ≤ 4096) ⌝ }
 {
-    known(*t);
     let mut n: usize = 0;
     let mut w: usize = 0;
     while w < 64 {
-        let x = word_at(t, w);
+        let x = word_in(t, w);
         n += (64 - u64::count_ones(x)) as usize;
         w += 1;
     }
     n
+}
+
+// The same of an array.
+pub fn free_count(t: &[u8; 512]) -> usize
+    ensures { λ r. ⌜ (r ≡ freeBits (bitsOf (now (t .entry)))) × (r ≤ 4096) ⌝ }
+{
+    let bytes: &[u8] = t;
+    free_in(bytes)
 }
 
 // The lowest bit that is 0, where no bit below word `from` is: "trailing zeros of the complemented word".

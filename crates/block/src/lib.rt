@@ -7,6 +7,7 @@ ghost use lib.ListN.{length, take, drop, getD};
 ghost use Rattle.spec.specs.Bytes.{zeros, exactly, patch, number2, number4, bytes2, bytes4, same};
 ghost use Rattle.spec.specs.Disk.{areaOf, inData, isTarget, sliceOf};
 ghost use Rattle.block.specs.Stores.{storedIn};
+ghost use Rattle.block.specs.Keys.{keyOf, Name};
 
 // "Byte places in a file, block places in a file and block numbers on the device are three separate counts"
 pub struct ByteOffset(pub usize);
@@ -67,6 +68,13 @@ pub fn load(bytes: &[u8], at: usize) -> u32
     0
 }
 
+// A byte as a number.
+pub fn low(x: u8) -> u32
+    ensures { λ r. ⌜ (r ≡ x) × (r < 256) ⌝ }
+{
+    x as u32
+}
+
 // Little-endian numbers, of zeros past the end; their last byte's place fits a usize.
 pub fn load2(bytes: &[u8], at: usize) -> u32
     requires { ⌜ at + 1 < 18446744073709551616 ⌝ }
@@ -79,6 +87,11 @@ pub fn load4(bytes: &[u8], at: usize) -> u32
     requires { ⌜ at + 3 < 18446744073709551616 ⌝ }
     ensures { λ r. ⌜ r ≡ number4 at (now (bytes .entry)) ⌝ }
 {
+    // With all four bytes there they are read at once.
+    if at + 3 < bytes.len() {
+        return low(bytes[at])
+            + 256 * (low(bytes[at + 1]) + 256 * (low(bytes[at + 2]) + 256 * low(bytes[at + 3])));
+    }
     load2(bytes, at) + 65536 * load2(bytes, at + 2)
 }
 
@@ -197,4 +210,20 @@ pub fn same_block(x: &[u8; 512], y: &[u8; 512]) -> bool
         k += 1;
     }
     equal
+}
+
+fn wide(x: u8) -> u64
+    ensures { λ r. ⌜ (r ≡ x) × (r < 256) ⌝ }
+{
+    x as u64
+}
+
+// Eight bytes as one number, so that two names are compared at once.
+pub fn key_of(name: &[u8]) -> u64
+    requires { ⌜ length (now name) ≡ 8 ⌝ }
+    ensures { λ r. ⌜ (r ≡ keyOf (now (name .entry))) × Name (now (name .entry)) ⌝ }
+{
+    let high = wide(name[4]) + 256 * (wide(name[5]) + 256 * (wide(name[6]) + 256 * wide(name[7])));
+    let low = wide(name[0]) + 256 * (wide(name[1]) + 256 * (wide(name[2]) + 256 * wide(name[3])));
+    low + 4294967296 * high
 }

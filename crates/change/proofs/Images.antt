@@ -71,7 +71,7 @@ module _ (at : ℕ) (new old : List ℕ) (fits : at + length new ≤ length old)
       (ap₂ (λ (x y : List ℕ). x ++ y) (sym e) (sym (drop-drop (length new) at old)) ∙ take-append-drop (length new) (drop at old))
       ∙ take-append-drop at old
 
-  laid-back : part at (length new) (patch at new old) ≡ new
+  pub laid-back : part at (length new) (patch at new old) ≡ new
   laid-back =
       let l : length (take at old) ≡ at = simp length-take (omega arith) in
       ap (take (length new)) (ap (λ (k : ℕ). drop k (patch at new old)) (sym l) ∙ drop-append-seam (take at old) (new ++ drop (at + length new) old))

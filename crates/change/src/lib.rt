@@ -90,7 +90,7 @@ fn edit_block<'a>(
     }
     if tag == RECORD {
         let new = o.bytes;
-        lay_record(block, i, new);
+        lay_record(block, i, &new);
         return;
     }
     if tag < FIRST_DATA {
@@ -119,7 +119,7 @@ fn same_bytes(a: &[u8], b: &[u8]) -> bool
 }
 
 // Whether these bytes stand at a place of a block, which may be cut short.
-pub fn same_at(block: &[u8], at: usize, bytes: &[u8]) -> bool
+fn same_at(block: &[u8], at: usize, bytes: &[u8]) -> bool
     requires { ⌜ at + length (now bytes) ≤ 512 ⌝ }
     ensures { λ r. ⌜ r ≡ same (bytesIn (now (block .entry)) at (length (now (bytes .entry)))) (now (bytes .entry)) ⌝ }
 {
@@ -577,7 +577,7 @@ fn stage_block<'a>(
     with_block(cells, many, DiskBlock(b), k)
 }
 
-// The block of record i staged at its place k with these bytes of the record.
+// The block of record i staged at its place k with these as the first bytes of the record.
 pub fn stage_record(
     device: &[u8],
     work: &mut [u8],
@@ -585,12 +585,12 @@ pub fn stage_record(
     many: usize,
     i: usize,
     k: usize,
-    new: [u8; 32],
+    new: &[u8],
 ) -> usize
-    requires { ⌜ (length (now work) ≡ 16384) × (length (now cells) ≡ 32) × (i < 128) × (k ≡ spot (take many (now cells)) (blockOfInode i)) × (k < 32) ⌝ }
+    requires { ⌜ (length (now work) ≡ 16384) × (length (now cells) ≡ 32) × (i < 128) × (length (now new) ≤ 32) × (k ≡ spot (take many (now cells)) (blockOfInode i)) × (k < 32) ⌝ }
     ensures { λ q. ⌜ ((N : ℕ) (p : Phase) → stateOf (sessionOf N p (now (cells .exit)) q) (now (device .entry)) (now (work .exit))
         ≡ withStaging (stateOf (sessionOf N p (now (cells .entry)) many) (now (device .entry)) (now (work .entry))) (stage (stagedOf (stateOf (sessionOf N p (now (cells .entry)) many) (now (device .entry)) (now (work .entry))))
-        (put (blockOfInode i) (withRecord i new (view (stateOf (sessionOf N p (now (cells .entry)) many) (now (device .entry)) (now (work .entry))) (blockOfInode i)))))) ⌝ }
+        (put (blockOfInode i) (withRecord i (now (new .entry)) (view (stateOf (sessionOf N p (now (cells .entry)) many) (now (device .entry)) (now (work .entry))) (blockOfInode i)))))) ⌝ }
 {
     let n = staged_in(many);
     let l: &[u32] = cells;

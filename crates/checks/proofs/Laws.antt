@@ -2,13 +2,11 @@
 use Prim.Native.Nat.{ℕ, _+_, _*_, _-_, _/_, _%_, _<_, _≤_}
 use mathlib.Core.Path.{_≡_, refl, sym}
 use mathlib.Core.Bool.{Bool, true, false, not, _&&_}
-use mathlib.Core.List.{List, _∷_}
-use native.Mathlib.Numerals.{add-one}
+use mathlib.Core.List.{List}
 use native.Mathlib.Omega.{arith}
 use borrow.Author.Tests.{eqb-true, eqb-false, eq-eqb, ne-eqb, lt-leb, le-leb, leb-true, leb-false}
 use lib.Dec.{eqb, leb}
-use lib.ListN.{length, drop, getD, drop-of-length-le}
-use lib.Seq.{drop-cons}
+use lib.ListN.{length}
 use Rattle.spec.specs.Bytes.{allZero}
 use Rattle.spec.specs.Disk.{isAllowed}
 use Rattle.spec.specs.Inode.{isName}
@@ -59,19 +57,6 @@ module _ (name : List ℕ) where
   unfolding isName
   eight-long h = rw (eq-eqb (length name) 8 h)
 
-  -- byte k of what is left from k on
-  byte-left : (k : ℕ) → k < length name → drop k name ≡ getD name k 0 ∷ drop (k + 1) name
-  byte-left k h = rw (add-one k) (drop-cons name k 0 h)
-
-  pub byte-some : (k : ℕ) → k < length name → (getD name k 0 ≡ 0 → ⊥) → allZero (drop k name) ≡ false
-  byte-some k h n = rw (byte-left k h, ne-eqb (getD name k 0) 0 n)
-
-  pub byte-none : (k : ℕ) → k < length name → getD name k 0 ≡ 0 → allZero (drop k name) ≡ allZero (drop (k + 1) name)
-  byte-none k h n = rw (byte-left k h, eq-eqb (getD name k 0) 0 n)
-
-  pub byte-end : (k : ℕ) → length name ≤ k → allZero (drop k name) ≡ true
-  byte-end k h = rw (drop-of-length-le name h)
-
 -- ---- 4
 
 module _ (x n : ℕ) where
@@ -87,7 +72,7 @@ module _ (x n : ℕ) where
 
 -- ---- 1 and 2, and 12
 
-accept≢refuse : {A : Type 0} (a : A) (r : Refusal) → accept a ≡ refuse r → ⊥
+pub accept≢refuse : {A : Type 0} (a : A) (r : Refusal) → accept a ≡ refuse r → ⊥
 accept≢refuse a r e = let z : _≡_ {A = ℕ} 0 1 = cc in omega arith
 
 false≢true : false ≡ true → ⊥

@@ -1,4 +1,5 @@
 // The tests at the head of a call, in the order of the refusals' numbers.
+use block::key_of;
 use spec::Done;
 use spec::Finished;
 use spec::Limits;
@@ -90,14 +91,7 @@ pub fn is_name(name: &[u8]) -> bool
     if name.len() != 8 {
         return false;
     }
-    let mut k: usize = 0;
-    while k < 8 {
-        if name[k] != 0 {
-            return true;
-        }
-        k += 1;
-    }
-    false
+    key_of(name) != 0
 }
 
 // 1, 2, 3 and 12

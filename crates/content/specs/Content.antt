@@ -17,7 +17,7 @@ use Rattle.runs.specs.Runs.{listed, levelsIn}
 abbrev pub treeOf : List ℕ → List ℕ → End → List ℕ → ℕ → Tree
 treeOf first count end node nodes = record { table = []; runs = columns first count end; node = node; nodes = nodes; before = 0; held = 0 }
 
--- the block of record i with the record's bytes replaced
+-- the block of record i with the first bytes of the record replaced
 unfoldable pub withRecord : ℕ → List ℕ → List ℕ → List ℕ
 withRecord i new old = patch (placeOfInode i) new old
 

@@ -14,14 +14,14 @@ ghost use Rattle.runs.specs.Runs.{Bounded, listed, levelsIn};
 ghost use Rattle.runs.specs.Push.{columns};
 ghost use Rattle.content.specs.Content.{treeOf, withRecord, nodeContent, countsBelow, slotsAbove, laidOver, cutTo, keptContent, dataContent};
 
-// The bytes of file record i replaced in its block.
-pub fn lay_record(block: &mut [u8], i: usize, new: [u8; 32])
-    requires { ⌜ length (now block) ≡ 512 ⌝ }
-    ensures { λ _. ⌜ now (block .exit) ≡ withRecord i new (now (block .entry)) ⌝ }
+// The first bytes of file record i replaced in its block.
+pub fn lay_record(block: &mut [u8], i: usize, new: &[u8])
+    requires { ⌜ (length (now block) ≡ 512) × (length (now new) ≤ 32) ⌝ }
+    ensures { λ _. ⌜ now (block .exit) ≡ withRecord i (now (new .entry)) (now (block .entry)) ⌝ }
 {
     let at = 32 * (i % 16);
     let mut k: usize = 0;
-    while k < 32 {
+    while k < new.len() {
         block[at + k] = new[k];
         k += 1;
     }

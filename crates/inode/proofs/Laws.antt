@@ -18,7 +18,9 @@ use Rattle.spec.specs.Session.{stagedIn}
 use Rattle.spec.specs.Transaction.{view, stateOf}
 use Rattle.spec.specs.Inode.{slotsIn, inodeOf, inodeBytes, inodeAt, nameAt, isEmpty, blockOfInode, placeOfInode, find, findEmpty}
 use Rattle.block.proofs.Laws.{length-exactly, getD-exactly, exactly-all, block-length}
-use Rattle.inode.specs.Records.{bytesIn, recordIn, keyOf, Name, named, foundOf, lowestTo}
+use Rattle.block.specs.Keys.{keyOf, Name}
+use Rattle.block.proofs.Keys.{eight, same-key}
+use Rattle.inode.specs.Records.{bytesIn, recordIn, named, foundOf, lowestTo}
 use Rattle.inode.specs.declared.Found.{Found}
 use Rattle.inode.specs.declared.Found.the-variants.{At, Nothing}
 
@@ -93,20 +95,6 @@ module _ (t : List ℕ) (i p r : ℕ) (e : p ≡ placeOfInode i) where
   unfolding inodeOf
   depth-in q = q ∙ rw e (sym (field-byte t (placeOfInode i) 32 (place-fits i) 12 (omega arith)))
 
--- eight bytes, one by one
-eight : (xs : List ℕ) → length xs ≡ 8
-    → xs ≡ getD xs 0 0 ∷ getD xs 1 0 ∷ getD xs 2 0 ∷ getD xs 3 0 ∷ getD xs 4 0 ∷ getD xs 5 0 ∷ getD xs 6 0 ∷ getD xs 7 0 ∷ []
-eight [] h = absurd (omega arith)
-eight (a ∷ []) h = absurd (omega arith)
-eight (a ∷ b ∷ []) h = absurd (omega arith)
-eight (a ∷ b ∷ c ∷ []) h = absurd (omega arith)
-eight (a ∷ b ∷ c ∷ d ∷ []) h = absurd (omega arith)
-eight (a ∷ b ∷ c ∷ d ∷ e ∷ []) h = absurd (omega arith)
-eight (a ∷ b ∷ c ∷ d ∷ e ∷ f ∷ []) h = absurd (omega arith)
-eight (a ∷ b ∷ c ∷ d ∷ e ∷ f ∷ g ∷ []) h = absurd (omega arith)
-eight (a ∷ b ∷ c ∷ d ∷ e ∷ f ∷ g ∷ x ∷ []) h = refl
-eight (a ∷ b ∷ c ∷ d ∷ e ∷ f ∷ g ∷ x ∷ y ∷ xs) h = absurd (omega arith)
-
 -- the name as the code reads it, with the record's place p
 pub name-bytes : (t : List ℕ) (i p : ℕ) → p ≡ placeOfInode i
     → (getD t p 0 ∷ getD t (p + 1) 0 ∷ getD t (p + 2) 0 ∷ getD t (p + 3) 0 ∷ getD t (p + 4) 0 ∷ getD t (p + 5) 0 ∷ getD t (p + 6) 0 ∷ getD t (p + 7) 0 ∷ [])
@@ -159,41 +147,6 @@ name-part t i at e h =
     let f = place-fits i in
     bytes-part t at 8 (omega arith) h ∙ ap (λ (k : ℕ). bytesIn t k 8) e ∙ sym (field-take t (placeOfInode i) 32 f 8 (omega arith))
 
--- the number of eight bytes, as the code computes it
-pub key-is : (xs : List ℕ) (low high : ℕ) → length xs ≡ 8
-    → low ≡ getD xs 0 0 + 256 * (getD xs 1 0 + 256 * (getD xs 2 0 + 256 * getD xs 3 0))
-    → high ≡ getD xs 4 0 + 256 * (getD xs 5 0 + 256 * (getD xs 6 0 + 256 * getD xs 7 0))
-    → low + 4294967296 * high ≡ keyOf xs
-unfolding keyOf
-key-is xs low high l e f = sym (ap keyOf (eight xs l) ∙ omega (arith, e, f))
-
--- bytes are equal where their numbers are
-pub same-key : (xs ys : List ℕ) → length xs ≡ length ys → ((i : ℕ) → getD xs i 0 < 256) → ((i : ℕ) → getD ys i 0 < 256) → same xs ys ≡ eqb (keyOf xs) (keyOf ys)
-unfolding keyOf
-same-key [] [] l f g = refl
-same-key [] (y ∷ ys) l f g = absurd (omega arith)
-same-key (x ∷ xs) [] l f g = absurd (omega arith)
-same-key (x ∷ xs) (y ∷ ys) l f g = go (eqb x y) refl (eqb (keyOf xs) (keyOf ys)) refl (same-key xs ys (omega arith) (λ i. f (suc i)) (λ i. g (suc i)))
-  where
-    p : x < 256
-    p = f 0
-
-    q : y < 256
-    q = g 0
-
-    go : (a : Bool) → eqb x y ≡ a → (b : Bool) → eqb (keyOf xs) (keyOf ys) ≡ b → same xs ys ≡ eqb (keyOf xs) (keyOf ys)
-        → eqb x y && same xs ys ≡ eqb (x + 256 * keyOf xs) (y + 256 * keyOf ys)
-    go true h true k e =
-        rw (h, e, k, eq-eqb (x + 256 * keyOf xs) (y + 256 * keyOf ys) (omega (arith, eqb-true x y h, eqb-true (keyOf xs) (keyOf ys) k)))
-    go true h false k e =
-        rw (h, e, k, ne-eqb (x + 256 * keyOf xs) (y + 256 * keyOf ys) (λ z. eqb-false (keyOf xs) (keyOf ys) k (omega (arith, eqb-true x y h))))
-    go false h b k e =
-        rw (h, ne-eqb (x + 256 * keyOf xs) (y + 256 * keyOf ys) (λ z. eqb-false x y h (omega (arith, z, p, q))))
-
--- the same bytes otherwise spelt
-pub key-as : (xs ys : List ℕ) (r : ℕ) → xs ≡ ys → (r ≡ keyOf xs) × Name xs → (r ≡ keyOf ys) × Name ys
-key-as xs ys r e h = rw e at h
-
 module _ (t name : List ℕ) (i k key : ℕ) (n : Name name) (m : Name (take 8 (recordIn t i))) (e : key ≡ keyOf name) (f : k ≡ keyOf (take 8 (recordIn t i))) where
   named-key : named t name i ≡ eqb k key
   unfolding named
@@ -204,21 +157,6 @@ module _ (t name : List ℕ) (i k key : ℕ) (n : Name name) (m : Name (take 8 (
 
   pub key-miss : (k ≡ key → ⊥) → named t name i ≡ false
   key-miss h = named-key ∙ ne-eqb k key h
-
--- a name of zeros
-pub zero-key : (xs : List ℕ) (k : ℕ) → k ≡ keyOf xs → eqb k 0 ≡ allZero xs
-unfolding keyOf
-zero-key xs k e = rw e (go xs)
-  where
-    go : (xs : List ℕ) → eqb (keyOf xs) 0 ≡ allZero xs
-    go [] = refl
-    go (x ∷ xs) = step x xs (eqb x 0) refl (eqb (keyOf xs) 0) refl (go xs)
-      where
-        step : (x : ℕ) (xs : List ℕ) (a : Bool) → eqb x 0 ≡ a → (b : Bool) → eqb (keyOf xs) 0 ≡ b → eqb (keyOf xs) 0 ≡ allZero xs
-            → eqb (x + 256 * keyOf xs) 0 ≡ eqb x 0 && allZero xs
-        step x xs true h true k e = rw (h, ← e, k, eq-eqb (x + 256 * keyOf xs) 0 (omega (arith, eqb-true x 0 h, eqb-true (keyOf xs) 0 k)))
-        step x xs true h false k e = rw (h, ← e, k, ne-eqb (x + 256 * keyOf xs) 0 (λ z. eqb-false (keyOf xs) 0 k (omega arith)))
-        step x xs false h b k e = rw (h, ne-eqb (x + 256 * keyOf xs) 0 (λ z. eqb-false x 0 h (omega arith)))
 
 pub same-zeros : (xs : List ℕ) → same xs (replicate (length xs) 0) ≡ allZero xs
 same-zeros [] = refl

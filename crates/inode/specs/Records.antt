@@ -18,16 +18,6 @@ bytesIn block at n = part at n (exactly 512 block)
 abbrev pub recordIn : List ℕ → ℕ → List ℕ
 recordIn table i = bytesIn table (placeOfInode i) 32
 
--- bytes as one number, the first the lowest
-unfoldable pub keyOf : List ℕ → ℕ
-keyOf [] = 0
-keyOf (x ∷ xs) = x + 256 * keyOf xs
-
--- eight bytes
-pub record Name (xs : List ℕ) : Type 0 where
-  pub long : length xs ≡ 8
-  pub small : (i : ℕ) → getD xs i 0 < 256
-
 -- whether record i has this name
 unfoldable pub named : List ℕ → List ℕ → ℕ → Bool
 named table name i = same (take 8 (recordIn table i)) name

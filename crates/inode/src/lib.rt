@@ -1,8 +1,10 @@
 // File records and the walk over a file's tree of extents, in the working copy.
 use block::DiskBlock;
 use block::copy_of;
+use block::key_of;
 use block::load;
 use block::load4;
+use block::low;
 use spec::Extent;
 use spec::Limits;
 use spec::Session;
@@ -18,7 +20,8 @@ ghost use Rattle.spec.specs.Disk.{Disk};
 ghost use Rattle.spec.specs.Inode.{inodeOf, blockOfInode, find, findEmpty};
 ghost use Rattle.spec.specs.Transaction.{view, stateOf};
 ghost use Rattle.transaction.specs.Places.{viewIn};
-ghost use Rattle.inode.specs.Records.{recordIn, keyOf, Name, named, foundOf, lowestTo};
+ghost use Rattle.block.specs.Keys.{keyOf, Name};
+ghost use Rattle.inode.specs.Records.{recordIn, named, foundOf, lowestTo};
 ghost use Rattle.inode.specs.Walk.{slotIn, Slot, live, Steps, startOf};
 
 // "file records of 32 bytes, 16 to a block"
@@ -90,6 +93,18 @@ pub fn name_of(table: &[u8], i: usize) -> [u8; 8]
     ensures { λ q. ⌜ q ≡ take 8 (recordIn (now (table .entry)) i) ⌝ }
 {
     let p = place_in_block(i);
+    if p + NAME_SIZE <= table.len() {
+        return [
+            table[p],
+            table[p + 1],
+            table[p + 2],
+            table[p + 3],
+            table[p + 4],
+            table[p + 5],
+            table[p + 6],
+            table[p + 7],
+        ];
+    }
     [
         byte_in(table, p),
         byte_in(table, p + 1),
@@ -100,22 +115,6 @@ pub fn name_of(table: &[u8], i: usize) -> [u8; 8]
         byte_in(table, p + 6),
         byte_in(table, p + 7),
     ]
-}
-
-fn wide(x: u8) -> u64
-    ensures { λ r. ⌜ (r ≡ x) × (r < 256) ⌝ }
-{
-    x as u64
-}
-
-// Eight bytes as one number, so that two names are compared at once.
-fn key_of(name: &[u8]) -> u64
-    requires { ⌜ length (now name) ≡ 8 ⌝ }
-    ensures { λ r. ⌜ (r ≡ keyOf (now (name .entry))) × Name (now (name .entry)) ⌝ }
-{
-    let high = wide(name[4]) + 256 * (wide(name[5]) + 256 * (wide(name[6]) + 256 * wide(name[7])));
-    let low = wide(name[0]) + 256 * (wide(name[1]) + 256 * (wide(name[2]) + 256 * wide(name[3])));
-    low + 4294967296 * high
 }
 
 // The name of record i as one number.
@@ -215,12 +214,6 @@ pub enum Step {
     Leaf(Extent, Cursor),
     Node(u32, Cursor),
     End,
-}
-
-fn low(x: u8) -> u32
-    ensures { λ r. ⌜ (r ≡ x) × (r < 256) ⌝ }
-{
-    x as u32
 }
 
 // A slot's four bytes.

@@ -1,23 +1,26 @@
 -- The cases of a look-up. Assumes nothing.
-use Prim.Native.Nat.{ℕ, _-_, _≤_, min}
+use Prim.Native.Nat.{ℕ, _*_, _-_, _≤_, min}
+use native.Mathlib.Omega.{arith}
 use mathlib.Core.Path.{_≡_, refl, sym, ap, _∙_}
-use mathlib.Core.Bool.{Bool}
-use mathlib.Core.List.{List}
+use mathlib.Core.Bool.{Bool, true, false, not, true≢false}
+use mathlib.Core.Option.{Option, none, some}
+use mathlib.Core.List.{List, []}
 use lib.ListN.{length, take, drop}
+use lib.Seq.{take-all}
 use Rattle.spec.specs.Disk.{Disk}
 use Rattle.spec.specs.Inode.{isName, find, findEmpty}
 use Rattle.spec.specs.declared.Phase.{Phase}
 use Rattle.spec.specs.declared.Session.{Session}
 use Rattle.spec.specs.declared.Refusal.{Refusal}
 use Rattle.spec.specs.declared.Refusal.the-variants.{BadName, TooLarge, NotReady, Unknown, Taken, NoInode}
-use Rattle.spec.specs.Answers.{Result, refuse, accept, require, _>>_}
+use Rattle.spec.specs.Answers.{Result, refuse, accept, require, _>>=_, _>>_}
 use Rattle.spec.specs.Session.{stagedIn}
 use Rattle.spec.specs.Transaction.{stateOf, view}
 use Rattle.transaction.specs.Places.{sessionOf, viewIn}
 use Rattle.transaction.proofs.Laws.{staged-lent, staged-parts, cells-lent, view-of}
-use Rattle.spec.specs.Calls.{lentOk, nameOk, sizeFits, isReady, known, emptyInode, fileOk, sizedOk}
-use Rattle.checks.specs.Checks.{Seen, namesOk, nameSizeOk}
-use Rattle.checks.proofs.Laws.{then-passed, named-says, names-say, sized-says}
+use Rattle.spec.specs.Calls.{lentOk, nameOk, sizeFits, isReady, isTaken, known, emptyInode, fileOk, sizedOk}
+use Rattle.checks.specs.Checks.{Of, Seen, namesOk, nameSizeOk}
+use Rattle.checks.proofs.Laws.{accept≢refuse, lent-says, then-passed, require-passed, named-says, names-say, sized-says}
 use Rattle.inode.specs.Records.{foundOf}
 use Rattle.inode.proofs.Laws.{found-at, found-nothing}
 use Rattle.inode.specs.declared.Found.{Found}
@@ -142,7 +145,52 @@ module _ (s : Session) (d w name : List ℕ) (i : ℕ) where
       let p = then-passed (namesOk (stateOf s d w) name new) _ i h in
       names-say s d w name new (p .value) (p .first)
 
+  -- a name that no file has
+  not-taken : (new : List ℕ) (y : Bool) → accept y ≡ require (not (isTaken (stateOf s d w) new)) Taken → find (view (stateOf s d w)) new ≡ none
+  not-taken new y h = go (find (view (stateOf s d w)) new) refl
+    where
+      go : (o : Option ℕ) → find (view (stateOf s d w)) new ≡ o → o ≡ none
+      go none e = refl
+      go (some k) e = let z = require-passed (not (isTaken (stateOf s d w) new)) y Taken h in let q : false ≡ true = rw e at z in absurd (true≢false (sym q))
+
+  pub new-free : accept i ≡ newOk (stateOf s d w) name → find (view (stateOf s d w)) name ≡ none
+  unfolding newOk
+  new-free h =
+      let p = then-passed (nameOk (stateOf s d w) name) _ i h in
+      let q = then-passed (require (not (isTaken (stateOf s d w) name)) Taken) _ i (p .rest) in
+      not-taken name (q .value) (q .first)
+
+  pub rename-free : (new : List ℕ) → accept i ≡ renameOk (stateOf s d w) name new → find (view (stateOf s d w)) new ≡ none
+  unfolding renameOk unlessTaken
+  rename-free new h = go (known (stateOf s d w) name) (then-passed (namesOk (stateOf s d w) name new) _ i h .rest)
+    where
+      go : (k : Result ℕ) → accept i ≡ (k >>= λ j. require (not (isTaken (stateOf s d w) new)) Taken >> accept j) → find (view (stateOf s d w)) new ≡ none
+      go (refuse r) e = absurd (accept≢refuse i r e)
+      go (accept j) e = let q = then-passed (require (not (isTaken (stateOf s d w) new)) Taken) _ i e in not-taken new (q .value) (q .first)
+
   pub size-says : (size : ℕ) → accept i ≡ sizedOk (stateOf s d w) name size → (length w ≡ 16384) × (size ≤ 1048576)
   size-says size h =
       let p = then-passed (nameSizeOk (stateOf s d w) name size) (known (stateOf s d w) name) i (h ∙ sym (sized-parts s d w name size)) in
       sized-says s d w name size (p .value) (p .first)
+
+-- ---- slices made anew
+
+-- a part that is the whole
+pub whole : (xs : List ℕ) (n : ℕ) → n ≡ length xs → take (n - 0) (drop 0 xs) ≡ xs
+whole xs n e = let z : n - 0 ≡ n = omega arith in rw z (take-all n xs (omega arith))
+
+-- what tests that passed have shown of the device
+module _ (blocks : ℕ) (phase : Phase) (d w name : List ℕ) (t : Bool) where
+  abbrev any : Session
+  any = sessionOf blocks phase [] 0
+
+  parts : Of blocks phase any
+  parts = record { size = refl; at-phase = refl }
+
+  pub named-device : ((s : Session) → Of blocks phase s → accept t ≡ nameOk (stateOf s d w) name) → 512 * blocks ≡ length d
+  unfolding nameOk
+  named-device h = let p = then-passed (lentOk (stateOf any d w)) _ t (h any parts) in lent-says any d w (p .value) (p .first) .device
+
+  pub sized-device : (size : ℕ) → ((s : Session) → Of blocks phase s → accept t ≡ nameSizeOk (stateOf s d w) name size) → 512 * blocks ≡ length d
+  unfolding nameSizeOk
+  sized-device size h = let p = then-passed (lentOk (stateOf any d w)) _ t (h any parts) in lent-says any d w (p .value) (p .first) .device

@@ -6,10 +6,12 @@ use checks::sized;
 use inode::Found;
 use inode::find;
 use inode::find_empty;
+use spec::Limits;
 use spec::Phase;
 use spec::Refusal;
+use transaction::staged_in;
 ghost use mathlib.Core.Path.{_≡_};
-ghost use Prim.Native.Nat.{_+_, _≤_};
+ghost use Prim.Native.Nat.{_+_, _*_, _≤_};
 ghost use lib.ListN.{length};
 ghost use Rattle.spec.specs.declared.Session.{Session};
 ghost use Rattle.spec.specs.Session.{stagedIn};
@@ -24,12 +26,14 @@ pub enum Looked {
     Bad(Refusal),
 }
 
-// 13, of every session that has these blocks staged
-fn known<'a>(device: &'a [u8], work: &'a [u8], staged: &[u32], name: &[u8]) -> Looked
-    requires { ⌜ length (now staged) ≤ 32 ⌝ }
+// 13, of every session that has these blocks staged. Slices handed on as they came would wait for the stores of their address and length.
+fn known<'a>(device: &'a [u8], work: &'a [u8], blocks: usize, staged: &[u32], name: &[u8]) -> Looked
+    requires { ⌜ (512 * blocks ≡ length (now device)) × (length (now staged) ≤ 32) ⌝ }
     ensures { λ r. ⌜ ((s : Session) → stagedIn s ≡ now (staged .entry) → lookedOf r ≡ known (stateOf s (now (device .entry)) (now (work .entry))) (now (name .entry))) × InTable r ⌝ }
 {
-    match find(device, work, staged, name) {
+    let size = Limits::BLOCK_SIZE * blocks;
+    let n = staged_in(staged.len());
+    match find(&device[0..size], work, &staged[0..n], name) {
         Found::At(i) => Looked::At(i),
         Found::Nothing => Looked::Bad(Refusal::Unknown),
     }
@@ -61,7 +65,7 @@ pub fn look_up<'a>(
 {
     match named(device, work, blocks, phase, name) {
         Checked::Bad(why) => Looked::Bad(why),
-        Checked::Fine => known(device, work, staged, name),
+        Checked::Fine => known(device, work, blocks, staged, name),
     }
 }
 
@@ -82,7 +86,7 @@ pub fn look_up_sized<'a>(
 {
     match sized(device, work, blocks, phase, name, x, n) {
         Checked::Bad(why) => Looked::Bad(why),
-        Checked::Fine => known(device, work, staged, name),
+        Checked::Fine => known(device, work, blocks, staged, name),
     }
 }
 

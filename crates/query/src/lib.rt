@@ -1,4 +1,5 @@
 // The public calls that only read: session, device and work space stay as they were.
+use bitmap::free_in;
 use block::ByteOffset;
 use block::DiskBlock;
 use block::FileBlock;
@@ -120,8 +121,12 @@ pub fn free_count_in<'a>(
     match ready(device, work, blocks, phase) {
         Checked::Bad(why) => Counted::Refused(why),
         Checked::Fine => {
-            let table = copy_of(view_in(device, work, staged, DiskBlock(33)));
-            Counted::Count(bitmap::free_count(&table))
+            let table = view_in(device, work, staged, DiskBlock(33));
+            if table.len() == Limits::BLOCK_SIZE {
+                return Counted::Count(free_in(table));
+            }
+            let whole = copy_of(table);
+            Counted::Count(free_in(&whole))
         }
     }
 }

@@ -1,23 +1,21 @@
 -- What each call stages is what its change stages. Assumes nothing.
-use Prim.Native.Nat.{ℕ, _+_, _-_, _≤_}
+use Prim.Native.Nat.{ℕ, _+_, _-_}
 use mathlib.Core.Path.{_≡_, refl, sym, ap, ap₂, _∙_}
 use mathlib.Core.Bool.{Bool, true, false, cond}
-use mathlib.Core.List.{List, [], _∷_, _++_, append-assoc, append-nil}
+use mathlib.Core.List.{List, [], _∷_, _++_, append-nil}
 use lib.Dec.{eqb}
-use lib.ListN.{length, take, drop, replicate, length-append, length-drop, length-take, take-append-drop}
-use lib.Seq.{drop-drop}
+use lib.ListN.{length, take, replicate}
 use native.Mathlib.Omega.{arith}
 use Rattle.spec.specs.declared.Extent.{Extent}
 use borrow.Author.Tests.{eqb-true, le-leb}
-use Rattle.spec.specs.Bytes.{part, patch, same, zeros, concat}
+use Rattle.spec.specs.Bytes.{same, zeros, concat}
 use Rattle.spec.specs.Disk.{Disk}
 use Rattle.spec.specs.Bitmap.{bitsOf, bytesOf, freeBits, mark, picks}
-use Rattle.spec.specs.Inode.{inodeAt, dataOf, levelsOf, nodesOf, inodeWith, bytesOfInode, blockOfInode, placeOfInode, inodeBytes, levelsFor, blocksIn, runs}
+use Rattle.spec.specs.Inode.{inodeAt, dataOf, levelsOf, nodesOf, inodeWith, bytesOfInode, blockOfInode, levelsFor, blocksIn, runs}
 use Rattle.spec.specs.Transaction.{BlockStore, put}
 use Rattle.spec.specs.Plan as plan
 use Rattle.spec.specs.Plan.{Edit, edit, ifChanged, storesOf, inodeEdit, bitmapEdit, nodeEdits, levelEdits, dataEdits, lowestLevel, surplus, resized, fits, creates, removes, renames, rewrites}
 use Rattle.lists.specs.Extents.{runs-blocks}
-use Rattle.inode.proofs.Laws.{drop-take}
 use Rattle.runs.specs.Tree.{Tree}
 use Rattle.runs.specs.Runs.{listed, nodesIn, levelsIn}
 use Rattle.spec.specs.Answers.{accept}
@@ -31,21 +29,6 @@ use Rattle.change.specs.Change.{changeStores}
 use Rattle.update.specs.Records.{recordStores}
 
 -- ---- records
-
--- bytes 8 to 31 of a record laid over themselves change nothing
-renamed-patch : (at : ℕ) (name old : List ℕ) → length name ≡ 8 → at + 32 ≤ 512 → length old ≡ 512
-    → patch at (name ++ drop 8 (part at 32 old)) old ≡ patch at name old
-renamed-patch at name old l h k =
-    let n : length (name ++ drop 8 (part at 32 old)) ≡ 32 = simp (length-append, length-drop, length-take) (omega arith) in
-    let q : drop 8 (part at 32 old) ++ drop (at + 32) old ≡ drop (at + 8) old =
-    ap₂ (λ (xs ys : List ℕ). xs ++ ys) (drop-take 32 8 (drop at old)) (sym (drop-drop 32 at old)) ∙ rest-of (drop at old) ∙ drop-drop 8 at old in
-    rw (n, l) (ap (λ (z : List ℕ). take at old ++ z) (append-assoc name (drop 8 (part at 32 old)) (drop (at + 32) old) ∙ ap (λ (z : List ℕ). name ++ z) q))
-  where
-    rest-of : (xs : List ℕ) → take 24 (drop 8 xs) ++ drop 32 xs ≡ drop 8 xs
-    rest-of xs = ap (λ (z : List ℕ). take 24 (drop 8 xs) ++ z) (sym (drop-drop 24 8 xs)) ∙ take-append-drop 24 (drop 8 xs)
-
-inside-table : (i : ℕ) → placeOfInode i + 32 ≤ 512
-inside-table i = omega arith
 
 -- ---- trees
 
@@ -134,10 +117,6 @@ module _ (v : Disk) where
 
   -- the record's block, or nothing
   module _ (i : ℕ) (bytes : List ℕ) where
-    pub record-same : same (withRecord i bytes (v (blockOfInode i))) (v (blockOfInode i)) ≡ true → recordStores v i bytes ≡ []
-    unfolding recordStores withRecord
-    record-same h = rw h
-
     pub record-other : same (withRecord i bytes (v (blockOfInode i))) (v (blockOfInode i)) ≡ false
         → recordStores v i bytes ≡ put (blockOfInode i) (withRecord i bytes (v (blockOfInode i))) ∷ []
     unfolding recordStores withRecord
@@ -153,16 +132,9 @@ module _ (v : Disk) where
   create-stores i name bytes r = rw r
 
   -- the record with another name and nothing else changed
-  pub rename-stores : (i : ℕ) (name bytes : List ℕ) → length name ≡ 8 → length (v (blockOfInode i)) ≡ 512
-      → bytes ≡ name ++ drop 8 (inodeBytes v i) → renames v i name ≡ recordStores v i bytes
-  unfolding renames inodeBytes recordStores
-  rename-stores i name bytes l k r =
-      let b = v (blockOfInode i) in
-      let at = placeOfInode i in
-      let e : patch at name b ≡ patch at bytes b = sym (ap (λ (z : List ℕ). patch at z b) r ∙ renamed-patch at name b l (inside-table i) k) in
-      sym (ap (storesOf v) (append-nil (ifChanged v (inodeEdit i name))))
-      ∙ stores-if (blockOfInode i) (patch at name) (patch at bytes) [] [] e refl
-      ∙ ap (storesOf v) (append-nil (ifChanged v (inodeEdit i bytes)))
+  pub rename-stores : (i : ℕ) (name : List ℕ) → renames v i name ≡ recordStores v i name
+  unfolding renames recordStores
+  rename-stores i name = refl
 
   -- a tree without blocks
   module _ (i : ℕ) (c : Change) (x : ℕ) (bytes : List ℕ) (b : Built v i 0 (c .tree)) where

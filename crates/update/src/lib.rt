@@ -4,10 +4,8 @@ use alloc::draft_of;
 use block::ByteOffset;
 use block::DiskBlock;
 use block::copy_of;
-use block::load;
 use change::Outline;
 use change::apply;
-use change::same_at;
 use change::stage_record;
 use checks::Changed;
 use checks::Checked;
@@ -34,37 +32,33 @@ use transaction::staged_in;
 use transaction::view_in;
 ghost use mathlib.Core.Path.{_≡_};
 ghost use Prim.Native.Nat.{ℕ, _+_, _<_, _≤_, max};
-ghost use lib.ListN.{length, getD};
+ghost use lib.ListN.{length, take};
 ghost use Rattle.spec.specs.declared.Phase.{Phase};
 ghost use Rattle.spec.specs.Inode.{blocksFor};
 ghost use Rattle.spec.specs.Answers.{doneOf};
 ghost use Rattle.spec.specs.Transaction.{stateOf, view};
 ghost use Rattle.spec.specs.Calls.{left, outcome, settle, staging, rewrite, create, remove, rename, write, setSize};
-ghost use Rattle.transaction.specs.Places.{sessionOf};
-ghost use Rattle.update.specs.Records.{renamedIn, recordStores, outlineOf};
+ghost use Rattle.transaction.specs.Places.{sessionOf, viewIn};
+ghost use Rattle.update.specs.Records.{Differs, newRecord, recordStores, outlineOf};
 
-// The bytes of record i changed, and nothing else: 18. Of every session with these cells.
+// The first bytes of record i changed to others than they were, and nothing else: 18. Of every session with these cells.
 fn change_record(
     device: &[u8],
     work: &mut [u8],
     cells: &mut [u32; 32],
     many: usize,
     i: usize,
-    bytes: [u8; 32],
+    bytes: &[u8],
 ) -> Changed
-    requires { ⌜ (i < 128) × (length (now work) ≡ 16384) × (length (now cells) ≡ 32) ⌝ }
+    requires { ⌜ (i < 128) × (length (now work) ≡ 16384) × (length (now cells) ≡ 32) × (length (now bytes) ≤ 32)
+        × Differs (viewIn (take many (now cells)) (now device) (now work)) i (now bytes) ⌝ }
     ensures { λ r. ⌜ ((N : ℕ) (p : Phase) → left (sessionOf N p (now (cells .exit)) (r .count)) (now (device .entry)) (now (work .exit)) (doneOf (r .answer))
         ≡ settle (outcome (stateOf (sessionOf N p (now (cells .entry)) many) (now (device .entry)) (now (work .entry))))
         (staging (stateOf (sessionOf N p (now (cells .entry)) many) (now (device .entry)) (now (work .entry)))
-        (recordStores (view (stateOf (sessionOf N p (now (cells .entry)) many) (now (device .entry)) (now (work .entry)))) i bytes))) ⌝ }
+        (recordStores (view (stateOf (sessionOf N p (now (cells .entry)) many) (now (device .entry)) (now (work .entry)))) i (now (bytes .entry))))) ⌝ }
 {
-    let n = staged_in(many);
     let l: &[u32] = cells;
-    let staged = &l[0..n];
-    let new: &[u8] = &bytes;
-    if same_at(inode_block_in(device, work, staged, i), 32 * (i % 16), new) {
-        return done_with(n);
-    }
+    let staged = &l[0..staged_in(many)];
     let k = spot(staged, DiskBlock(table_block(i)));
     if Limits::LOG_LENGTH <= k {
         return refused_with(many, Refusal::TooManyStaged);
@@ -72,25 +66,15 @@ fn change_record(
     done_with(stage_record(device, work, cells, many, i, k, bytes))
 }
 
-fn byte_named(name: &[u8], block: &[u8], at: usize, k: usize) -> u8
-    requires { ⌜ (length (now name) ≡ 8) × (at + 32 ≤ 512) × (k < 32) ⌝ }
-    ensures { λ r. ⌜ r ≡ getD (renamedIn (now (name .entry)) (now (block .entry)) at) k 0 ⌝ }
-{
-    if k < 8 {
-        return name[k];
-    }
-    load(block, at + k) as u8
-}
-
-// The record at a place of a block, under another name.
-fn renamed(name: &[u8], block: &[u8], at: usize) -> [u8; 32]
-    requires { ⌜ (length (now name) ≡ 8) × (at + 32 ≤ 512) ⌝ }
-    ensures { λ q. ⌜ q ≡ renamedIn (now (name .entry)) (now (block .entry)) at ⌝ }
+// The record of a new file: its name, then zeros.
+fn new_record(name: &[u8]) -> [u8; 32]
+    requires { ⌜ length (now name) ≡ 8 ⌝ }
+    ensures { λ q. ⌜ q ≡ newRecord (now (name .entry)) ⌝ }
 {
     let mut q = [0u8; 32];
     let mut k: usize = 0;
-    while k < 32 {
-        q[k] = byte_named(name, block, at, k);
+    while k < 8 {
+        q[k] = name[k];
         k += 1;
     }
     q
@@ -114,8 +98,8 @@ pub fn create_in(
     match look_up_new(device, work, blocks, phase, staged, name) {
         Looked::Bad(why) => refused_with(many, why),
         Looked::At(i) => {
-            let bytes = renamed(name, &name[0..0], 0);
-            change_record(device, work, cells, many, i, bytes)
+            let record = new_record(name);
+            change_record(device, work, cells, many, i, &record)
         }
     }
 }
@@ -149,11 +133,7 @@ pub fn rename_in(
     let staged = &l[0..staged_in(many)];
     match look_up_pair(device, work, blocks, phase, staged, name, new) {
         Looked::Bad(why) => refused_with(many, why),
-        Looked::At(i) => {
-            let at = 32 * (i % 16);
-            let record = renamed(new, inode_block_in(device, work, staged, i), at);
-            change_record(device, work, cells, many, i, record)
-        }
+        Looked::At(i) => change_record(device, work, cells, many, i, new),
     }
 }
 

@@ -36,7 +36,7 @@ add-b : tie.Need-add-b Inv-loop μ-loop
 add-b c = record { fits = place-lt _ _ (omega arith) }
 
 word : (c : tie.After-word-at Inv-loop μ-loop) → Word (c .before .before .before .before .before .args .t .now) (c .before .before .loop .at) (c .word-at .result)
-word c = word-says _ (c .before .before .before .known .ensures) _ _ (omega arith) (c .word-at .ensures)
+word c = word-says _ (c .before .before .before .known .ensures .full) _ _ (omega arith) (c .word-at .ensures .0) (c .word-at .ensures .1)
 
 returns : tie.Need-returns Inv-loop μ-loop
 returns c = (

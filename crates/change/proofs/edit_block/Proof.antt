@@ -1,3 +1,5 @@
+use lib.ListN.{length}
+use mathlib.Core.Path.{_≡_}
 use Rattle.change.proofs.Contents.{tag-bitmap, tag-record, tag-node, tag-data}
 use Rattle.change.specs.Contents.{changeOf}
 use mathlib.Core.Path.{_∙_}
@@ -13,20 +15,21 @@ same-length : tie.Need-same-length
 same-length c = search needs
 
 returns : tie.Need-returns
-returns c =
-    let a = c .before .before .before .before .before .before .before .before .args in
+returns c = let a = c .before .before .before .before .before .before .before .before .args in
     c .before .before .copy .ensures ∙ tag-bitmap _ (changeOf (a .table .now) (a .first .now) (a .count .now) (a .o)) _ _ (a .tag) _ (a .block .now) (c .before .before .before .before .before .if1 .taken)
 
+slice-aggregate-lay-record : tie.Need-slice-aggregate-lay-record
+slice-aggregate-lay-record c = search needs
+
 lay-record-requires : tie.Need-lay-record-requires
-lay-record-requires c κs = search needs
+lay-record-requires c κs = let z : length (c .before .before .before .before .before .before .before .args .o .bytes) ≡ 32 = search needs in (search needs, omega (arith, z))
 
 same-length-2 : tie.Need-same-length-2
 same-length-2 c = search needs
 
 returns-2 : tie.Need-returns-2
-returns-2 c =
-    let a = c .before .before .before .before .before .before .before .before .before .args in
-    tag-record _ (changeOf (a .table .now) (a .first .now) (a .count .now) (a .o)) _ _ (a .tag) _ _ (c .before .before .before .before .before .before .if1 .left) (c .before .before .before .before .before .if2 .taken) (c .before .before .lay-record .ensures)
+returns-2 c = let a = c .before .before .before .before .before .before .before .before .before .before .args in
+    tag-record _ (changeOf (a .table .now) (a .first .now) (a .count .now) (a .o)) _ _ (a .tag) _ _ (c .before .before .before .before .before .before .before .if1 .left) (c .before .before .before .before .before .before .if2 .taken) (c .before .before .lay-record .ensures)
 
 sub-node-content : tie.Need-sub-node-content
 sub-node-content c = search needs
@@ -47,8 +50,7 @@ same-length-3 : tie.Need-same-length-3
 same-length-3 c = search needs
 
 returns-3 : tie.Need-returns-3
-returns-3 c =
-    let a = c .before .before .before .before .before .before .before .before .before .before .before .before .args in
+returns-3 c = let a = c .before .before .before .before .before .before .before .before .before .before .before .before .args in
     tag-node _ (changeOf (a .table .now) (a .first .now) (a .count .now) (a .o)) _ _ (a .tag) _ _ (c .before .before .before .before .before .before .before .before .before .if1 .left) (c .before .before .before .before .before .before .before .before .if2 .left) (c .before .before .before .before .before .before .before .if3 .taken) (c .before .before .copy2 .ensures ∙ c .before .before .before .before .before .node-content .ensures)
 
 cast-p : tie.Need-cast-p
@@ -61,28 +63,8 @@ same-length-4 : tie.Need-same-length-4
 same-length-4 c = search needs
 
 returns-4 : tie.Need-returns-4
-returns-4 c =
-    let a = c .before .before .before .before .before .before .before .before .before .args in
+returns-4 c = let a = c .before .before .before .before .before .before .before .before .before .args in
     tag-data _ (changeOf (a .table .now) (a .first .now) (a .count .now) (a .o)) _ _ (a .tag) _ _ (c .before .before .before .before .before .before .if1 .left) (c .before .before .before .before .before .if2 .left) (c .before .before .before .before .if3 .left) (c .before .before .lay-data .ensures)
 
 pub edit-block-spec : {M : Type 1} → statement M
-edit-block-spec =
-    tie.close
-    (tie.spec
-    copy-requires
-    same-length
-    returns
-    lay-record-requires
-    same-length-2
-    returns-2
-    sub-node-content
-    cast-node-content
-    node-content-requires
-    slice-aggregate-slots
-    copy-requires-2
-    same-length-3
-    returns-3
-    cast-p
-    lay-data-requires
-    same-length-4
-    returns-4)
+edit-block-spec = tie.close (tie.spec copy-requires same-length returns slice-aggregate-lay-record lay-record-requires same-length-2 returns-2 sub-node-content cast-node-content node-content-requires slice-aggregate-slots copy-requires-2 same-length-3 returns-3 cast-p lay-data-requires same-length-4 returns-4)

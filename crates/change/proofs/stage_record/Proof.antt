@@ -12,8 +12,8 @@ use Rattle.change.proofs.stage_record.Statement.{statement}
 use Rattle.change.proofs.stage_record.Tie as tie
 
 -- its place, of the block by its number
-at : (c : tie.After-table-block) → c .before .before .before .before .before .before .before .args .k ≡ spot (take (c .before .before .before .before .before .before .before .args .many) (c .before .before .before .before .before .before .before .args .cells .now)) (c .table-block .result)
-at c = c .before .before .before .before .before .before .before .pre .3 ∙ ap (spot (take (c .before .before .before .before .before .before .before .args .many) (c .before .before .before .before .before .before .before .args .cells .now))) (sym (c .table-block .ensures))
+at : (c : tie.After-table-block) → c .before .before .before .before .before .before .before .before .args .k ≡ spot (take (c .before .before .before .before .before .before .before .before .args .many) (c .before .before .before .before .before .before .before .before .args .cells .now)) (c .table-block .result)
+at c = c .before .before .before .before .before .before .before .before .pre .4 ∙ ap (spot (take (c .before .before .before .before .before .before .before .before .args .many) (c .before .before .before .before .before .before .before .before .args .cells .now))) (sym (c .table-block .ensures))
 
 staged-in-requires : tie.Need-staged-in-requires
 staged-in-requires c κs = search needs
@@ -31,13 +31,13 @@ table-block-requires : tie.Need-table-block-requires
 table-block-requires c κs = search needs
 
 load-image-requires : tie.Need-load-image-requires
-load-image-requires c κs = (c .before .before .before .before .before .before .before .before .pre .0, spot-lent _ _ _ (c .before .before .before .before .before .before .before .before .pre .1) (c .before .before .before .before .before .staged-in .ensures .0) _ _ (at (c .before)), c .before .before .before .before .before .before .before .before .pre .4)
+load-image-requires c κs = (c .before .before .before .before .before .before .before .before .before .pre .0, spot-lent _ _ _ (c .before .before .before .before .before .before .before .before .before .pre .1) (c .before .before .before .before .before .staged-in .ensures .0) _ _ (at (c .before)), c .before .before .before .before .before .before .before .before .before .pre .5)
 
 mul-at : tie.Need-mul-at
-mul-at c = omega (arith, c .before .before .before .before .before .before .before .before .before .before .before .pre .4)
+mul-at c = omega (arith, c .before .before .before .before .before .before .before .before .before .before .before .before .pre .5)
 
 add-end : tie.Need-add-end
-add-end c = omega (arith, c .before .before .before .before .before .before .before .before .before .before .before .pre .4)
+add-end c = omega (arith, c .before .before .before .before .before .before .before .before .before .before .before .before .pre .5)
 
 sub-lay-record : tie.Need-sub-lay-record
 sub-lay-record c = search needs
@@ -46,21 +46,21 @@ part-lay-record-start : tie.Need-part-lay-record-start
 part-lay-record-start c = search needs
 
 part-lay-record-end : tie.Need-part-lay-record-end
-part-lay-record-end c = omega (arith, c .before .before .before .before .before .before .before .before .before .before .before .pre .4, c .before .before .before .before .before .before .before .before .before .before .before .pre .0, c .before .before .load-image .kept .1 .0)
+part-lay-record-end c = omega (arith, c .before .before .before .before .before .before .before .before .before .before .before .before .pre .5, c .before .before .before .before .before .before .before .before .before .before .before .before .pre .0, c .before .before .load-image .kept .1 .0)
 
 lay-record-requires : tie.Need-lay-record-requires
-lay-record-requires c κs = search needs
+lay-record-requires c κs = (search needs, c .before .before .before .before .before .before .before .before .before .before .before .before .before .pre .3)
 
 with-block-requires : tie.Need-with-block-requires
-with-block-requires c κs = (search needs, at (c .before .before .before .before .before .before .before .before .before), c .before .before .before .before .before .before .before .before .before .before .before .before .before .before .before .before .pre .4)
+with-block-requires c κs = (search needs, at (c .before .before .before .before .before .before .before .before .before), c .before .before .before .before .before .before .before .before .before .before .before .before .before .before .before .before .before .pre .5)
 
 same-length : tie.Need-same-length
 same-length c = search needs
 
 returns : tie.Need-returns
-returns c = λ N p. let a = c .before .before .before .before .before .before .before .before .before .before .before .before .before .before .before .before .before .args in let st = stateOf (sessionOf N p (a .cells .now) (a .many)) (a .device .now) (a .work .now) in
-    image-cells (a .cells .now) (a .many) _ (c .before .before .before .before .before .before .before .before .before .before .before .before .before .before .before .before .before .pre .1) (c .before .before .before .before .before .before .before .before .before .before .before .before .before .before .staged-in .ensures .0) _ (a .device .now) (a .work .now) _ _ (at (c .before .before .before .before .before .before .before .before .before .before)) (omega (arith, c .before .before .before .before .before .before .before .before .before .before .before .before .before .before .before .before .before .pre .4, c .before .before .before .before .before .before .before .before .before .before .before .before .before .before .before .before .before .pre .0, c .before .before .before .before .before .before .before .before .load-image .kept .1 .0)) (c .before .before .before .before .before .before .before .before .load-image .ensures) _ _ (c .with-block .ensures .0) (withRecord (a .i) (a .new)) _ (c .before .before .before .before .lay-record .ensures) (search needs) N p
-    ∙ ap (λ (b : ℕ). withStaging st (stage (stagedOf st) (put b (withRecord (a .i) (a .new) (view st b))))) (c .before .before .before .before .before .before .before .before .before .before .table-block .ensures)
+returns c = λ N p. let a = c .before .before .before .before .before .before .before .before .before .before .before .before .before .before .before .before .before .before .args in let st = stateOf (sessionOf N p (a .cells .now) (a .many)) (a .device .now) (a .work .now) in
+    image-cells (a .cells .now) (a .many) _ (c .before .before .before .before .before .before .before .before .before .before .before .before .before .before .before .before .before .before .pre .1) (c .before .before .before .before .before .before .before .before .before .before .before .before .before .before .staged-in .ensures .0) _ (a .device .now) (a .work .now) _ _ (at (c .before .before .before .before .before .before .before .before .before .before)) (omega (arith, c .before .before .before .before .before .before .before .before .before .before .before .before .before .before .before .before .before .before .pre .5, c .before .before .before .before .before .before .before .before .before .before .before .before .before .before .before .before .before .before .pre .0, c .before .before .before .before .before .before .before .before .load-image .kept .1 .0)) (c .before .before .before .before .before .before .before .before .load-image .ensures) _ _ (c .with-block .ensures .0) (withRecord (a .i) (a .new .now)) _ (c .before .before .before .before .lay-record .ensures) (search needs) N p
+    ∙ ap (λ (b : ℕ). withStaging st (stage (stagedOf st) (put b (withRecord (a .i) (a .new .now) (view st b))))) (c .before .before .before .before .before .before .before .before .before .before .table-block .ensures)
 
 pub stage-record-spec : {M : Type 1} → statement M
 stage-record-spec = tie.close (tie.spec staged-in-requires sub-staged part-staged-start part-staged-end table-block-requires load-image-requires mul-at add-end sub-lay-record part-lay-record-start part-lay-record-end lay-record-requires with-block-requires same-length returns)

@@ -8,19 +8,19 @@ use Rattle.content.proofs.lay_record.Statement.{statement}
 use Rattle.content.proofs.lay_record.Tie as tie
 
 abbrev Inv-loop : tie.InvT-loop
-Inv-loop q₀ i new at k₀ q k = (k ≤ 32) × (at ≡ 32 * (i % 16)) × (length new ≡ 32) × (length q ≡ 512) × (length q₀ ≡ 512) × (q ≡ laidTo at new k q₀)
+Inv-loop q₀ i new at k₀ q k = (k ≤ length new) × (at ≡ 32 * (i % 16)) × (length new ≤ 32) × (length q ≡ 512) × (length q₀ ≡ 512) × (q ≡ laidTo at new k q₀)
 
 abbrev μ-loop : tie.MeasureT-loop
-μ-loop q₀ i new at k₀ q k = 32 - k
+μ-loop q₀ i new at k₀ q k = length new - k
 
 mul-at : tie.Need-mul-at Inv-loop μ-loop
 mul-at c = omega arith
 
 loop-holds : tie.Need-loop-holds Inv-loop μ-loop
-loop-holds c = (omega arith, refl, search needs, c .pre, c .pre, laid-none _ _ _)
+loop-holds c = (omega arith, refl, c .pre .1, c .pre .0, c .pre .0, laid-none _ _ _)
 
-array-read-block : tie.Need-array-read-block Inv-loop μ-loop
-array-read-block c = omega arith
+shared-slice-read-block : tie.Need-shared-slice-read-block Inv-loop μ-loop
+shared-slice-read-block c = omega arith
 
 add-block : tie.Need-add-block Inv-loop μ-loop
 add-block c = omega arith
@@ -35,38 +35,13 @@ loop-less : tie.Need-loop-less Inv-loop μ-loop
 loop-less c = omega arith
 
 loop-again : tie.Need-loop-again Inv-loop μ-loop
-loop-again c =
-    let lp = c .before .loop in (
-      omega arith,
-      refl,
-      lp .inv .2,
-      simp length-set (lp .inv .3),
-      lp .inv .4,
-      laid-more _ _ _ _ _ (lp .inv .5) (omega arith) (omega arith),
-    )
+loop-again c = let lp = c .before .before .loop in (omega arith, lp .inv .1, lp .inv .2, simp length-set (lp .inv .3), lp .inv .4, laid-more _ _ _ _ _ (lp .inv .5) (omega arith) (omega arith))
 
 same-length : tie.Need-same-length Inv-loop μ-loop
 same-length c = c .before .loop .inv .3 ∙ sym (c .before .loop .inv .4)
 
 returns : tie.Need-returns Inv-loop μ-loop
-returns c =
-    let lp = c .before .loop in
-    let a = c .before .before .args in
-    laid-all (a .i) _ (lp .k) _ _ _ refl (omega (arith, lp .inv .2)) (lp .inv .5)
+returns c = let lp = c .before .loop in let a = c .before .before .args in laid-all (a .i) _ (lp .k) _ _ _ refl (omega arith) (lp .inv .5)
 
 pub lay-record-spec : {M : Type 1} → statement M
-lay-record-spec =
-    tie.close
-    (tie.spec
-    Inv-loop
-    μ-loop
-    mul-at
-    loop-holds
-    array-read-block
-    add-block
-    slice-write-block
-    add-k
-    loop-less
-    loop-again
-    same-length
-    returns)
+lay-record-spec = tie.close (tie.spec Inv-loop μ-loop mul-at loop-holds shared-slice-read-block add-block slice-write-block add-k loop-less loop-again same-length returns)

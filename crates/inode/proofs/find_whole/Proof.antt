@@ -1,11 +1,13 @@
+use Rattle.block.proofs.Keys.{key-as}
 use Prim.Native.Nat.{ℕ, _+_, _-_, _≤_}
 use mathlib.Core.List.{List}
 use mathlib.Core.Path.{_≡_, refl, sym, _∙_}
 use native.Mathlib.Omega.{arith}
 use borrow.Author.Needs.{needs}
 use lib.ListN.{length}
-use Rattle.inode.specs.Records.{keyOf, Name, named, lowestTo}
-use Rattle.inode.proofs.Laws.{lowest-hit, lowest-miss, lowest-none, key-as, name-part, key-hit, key-miss}
+use Rattle.inode.specs.Records.{named, lowestTo}
+use Rattle.block.specs.Keys.{keyOf, Name}
+use Rattle.inode.proofs.Laws.{lowest-hit, lowest-miss, lowest-none, name-part, key-hit, key-miss}
 use Rattle.inode.proofs.find_whole.Statement.{statement}
 use Rattle.inode.proofs.find_whole.Tie as tie
 

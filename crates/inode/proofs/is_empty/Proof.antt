@@ -1,4 +1,4 @@
-use Rattle.inode.proofs.Laws.{zero-key}
+use Rattle.block.proofs.Keys.{zero-key}
 use borrow.Author.Needs.{needs}
 use Rattle.inode.proofs.is_empty.Statement.{statement}
 use Rattle.inode.proofs.is_empty.Tie as tie

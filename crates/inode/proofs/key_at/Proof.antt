@@ -1,5 +1,6 @@
 use native.Mathlib.Omega.{arith}
-use Rattle.inode.proofs.Laws.{name-part, key-as}
+use Rattle.block.proofs.Keys.{key-as}
+use Rattle.inode.proofs.Laws.{name-part}
 use borrow.Author.Needs.{needs}
 use Rattle.inode.proofs.key_at.Statement.{statement}
 use Rattle.inode.proofs.key_at.Tie as tie

@@ -1,3 +1,4 @@
+use Rattle.lookup.proofs.Laws.{named-device}
 use mathlib.Core.Path.{sym, ap, _∙_}
 use mathlib.Core.Bool.{true}
 use Rattle.checks.specs.Checks.{resultOf}
@@ -16,7 +17,7 @@ enum-told : tie.Need-enum-told
 enum-told c = search needs
 
 known-requires : tie.Need-known-requires
-known-requires c κs = search needs
+known-requires c κs = (named-device (c .before .before .before .before .before .before .before .args .blocks) (c .before .before .before .before .before .before .before .args .phase) (c .before .before .before .before .before .before .before .args .device .now) (c .before .before .before .before .before .before .before .args .work .now) (c .before .before .before .before .before .before .before .args .name .now) true (λ s q. sym (ap resultOf (c .enum-told .given .1)) ∙ c .before .before .named .ensures s q), c .before .before .before .before .before .before .before .pre)
 
 returns : tie.Need-returns
 returns c = (λ s q. look-bad s (c .before .before .before .before .before .before .before .before .args .device .now) (c .before .before .before .before .before .before .before .before .args .work .now) (c .before .before .before .before .before .before .before .before .args .name .now) _ (sym (ap resultOf (c .before .why .given .1)) ∙ c .before .before .before .named .ensures s (q .head)), tt)

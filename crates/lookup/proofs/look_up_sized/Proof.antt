@@ -1,3 +1,4 @@
+use Rattle.lookup.proofs.Laws.{sized-device}
 use mathlib.Core.Path.{sym, ap, _∙_}
 use mathlib.Core.Bool.{true}
 use Rattle.checks.specs.Checks.{resultOf}
@@ -17,7 +18,7 @@ enum-told : tie.Need-enum-told
 enum-told c = search needs
 
 known-requires : tie.Need-known-requires
-known-requires c κs = search needs
+known-requires c κs = (sized-device (c .before .before .before .before .before .before .before .args .blocks) (c .before .before .before .before .before .before .before .args .phase) (c .before .before .before .before .before .before .before .args .device .now) (c .before .before .before .before .before .before .before .args .work .now) (c .before .before .before .before .before .before .before .args .name .now) true _ (λ s q. sym (ap resultOf (c .enum-told .given .1)) ∙ c .before .before .sized .ensures s q), c .before .before .before .before .before .before .before .pre)
 
 returns : tie.Need-returns
 returns c = (λ s q. sized-bad s (c .before .before .before .before .before .before .before .before .args .device .now) (c .before .before .before .before .before .before .before .before .args .work .now) (c .before .before .before .before .before .before .before .before .args .name .now) (c .before .before .before .before .before .before .before .before .args .x + c .before .before .before .before .before .before .before .before .args .n) _ (sym (ap resultOf (c .before .why .given .1)) ∙ c .before .before .before .sized .ensures s (q .head)), tt)

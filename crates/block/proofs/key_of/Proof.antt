@@ -1,8 +1,8 @@
 use native.Mathlib.Omega.{arith}
-use Rattle.inode.proofs.Laws.{key-is}
+use Rattle.block.proofs.Keys.{key-is}
 use borrow.Author.Needs.{needs}
-use Rattle.inode.proofs.key_of.Statement.{statement}
-use Rattle.inode.proofs.key_of.Tie as tie
+use Rattle.block.proofs.key_of.Statement.{statement}
+use Rattle.block.proofs.key_of.Tie as tie
 
 shared-slice-read-wide : tie.Need-shared-slice-read-wide
 shared-slice-read-wide c = search needs

@@ -1,14 +1,14 @@
 -- Laws of file records. Assumes nothing.
 use Prim.Native.Nat.{ℕ, zero, suc, _+_, _*_, _-_, _/_, _%_, _<_, _≤_}
-use mathlib.Core.Path.{_≡_, refl, sym, ap, _∙_}
-use mathlib.Core.Bool.{Bool, true, false, cond, _&&_}
+use mathlib.Core.Path.{_≡_, refl, sym, ap, ap₂, _∙_}
+use mathlib.Core.Bool.{Bool, true, false, cond, _&&_, true≢false}
 use mathlib.Core.List.{List, [], _∷_}
 use mathlib.Core.Option.{Option, none, some, Option·some-ne-none, Option·some-injective}
 use native.Mathlib.Nat.{add-zero}
 use native.Mathlib.Numerals.{add-one}
 use native.Mathlib.Omega.{arith}
-use lib.Dec.{eqb}
-use borrow.Author.Tests.{eqb-true, eqb-false, eq-eqb, ne-eqb}
+use lib.Dec.{eqb, ltb}
+use borrow.Author.Tests.{eqb-true, eqb-false, eq-eqb, ne-eqb, lt-ltb}
 use lib.ListN.{length, take, drop, getD, replicate, length-take, length-drop}
 use lib.Seq.{ext-getD, getD-take, getD-drop, take-take, take-nil, drop-drop}
 use Rattle.spec.specs.Bytes.{exactly, part, number2, number4, same, allZero, found, place, lowest}
@@ -17,10 +17,13 @@ use Rattle.spec.specs.declared.Session.{Session}
 use Rattle.spec.specs.Session.{stagedIn}
 use Rattle.spec.specs.Transaction.{view, stateOf}
 use Rattle.spec.specs.Inode.{slotsIn, inodeOf, inodeBytes, inodeAt, nameAt, isEmpty, blockOfInode, placeOfInode, find, findEmpty}
-use Rattle.block.proofs.Laws.{length-exactly, getD-exactly, exactly-all, block-length}
+use Rattle.block.proofs.Laws.{length-exactly, getD-exactly, exactly-all, block-length, block-is}
+use Rattle.lists.specs.Lowest as lows
+use Rattle.transaction.specs.Places.{viewIn}
+use Rattle.transaction.proofs.Laws.{view-new}
 use Rattle.block.specs.Keys.{keyOf, Name}
 use Rattle.block.proofs.Keys.{eight, same-key}
-use Rattle.inode.specs.Records.{bytesIn, recordIn, named, foundOf, lowestTo}
+use Rattle.inode.specs.Records.{bytesIn, recordIn, named, foundOf, lowestTo, Committed}
 use Rattle.inode.specs.declared.Found.{Found}
 use Rattle.inode.specs.declared.Found.the-variants.{At, Nothing}
 
@@ -320,3 +323,28 @@ find-low v name i h = lowest-low (λ k. same (nameAt v k) name) 0 128 i (found-a
 pub find-empty-low : (v : Disk) (i : ℕ) → foundOf (findEmpty v) ≡ At i → i < 128
 unfolding findEmpty
 find-empty-low v i h = lowest-low (isEmpty v) 0 128 i (found-at (findEmpty v) i h)
+
+-- ---- the table as it lies on the device
+
+-- a name is looked for in the blocks of the table alone
+pub find-agree : (v u : Disk) (name : List ℕ) → ((b : ℕ) → 34 ≤ b → b < 42 → v b ≡ u b) → find v name ≡ find u name
+unfolding find inodeBytes
+find-agree v u name h =
+    lows.lowest-agree 0 128 (λ (i : ℕ). same (nameAt v i) name) (λ (i : ℕ). same (nameAt u i) name)
+    (λ k p l. ap (λ (block : List ℕ). same (take 8 (part (placeOfInode k) 32 block)) name) (h (blockOfInode k) (omega arith) (omega arith)))
+
+-- where none of them is staged
+pub find-committed : (staged device work name : List ℕ) → Committed staged → find (blocksOf device) name ≡ find (viewIn staged device work) name
+find-committed staged device work name h = find-agree (blocksOf device) (viewIn staged device work) name (λ b p l. sym (view-new staged device work b (h b p l)))
+
+-- a block of it, lent
+pub table-part : (device : List ℕ) (first at end : ℕ) → first % 16 ≡ 0 → at ≡ 17408 + 32 * first → end ≡ at + 512
+    → exactly 512 (take (end - at) (drop at device)) ≡ blocksOf device (blockOfInode first)
+table-part device first at end w e f =
+    let z : end - at ≡ 512 = omega arith in
+    let q : at ≡ 512 * blockOfInode first = omega arith in
+    ap₂ (λ (n k : ℕ). exactly 512 (take n (drop k device))) z q ∙ sym (block-is device (blockOfInode first))
+
+-- a number that is none of the table's
+pub other-block : (x b : ℕ) → (ltb 33 x && ltb x 42) ≡ false → 34 ≤ b → b < 42 → x ≡ b → ⊥
+other-block x b h p l e = true≢false (sym (rw (lt-ltb 33 x (omega arith), lt-ltb x 42 (omega arith))) ∙ h)

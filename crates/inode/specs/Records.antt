@@ -1,11 +1,13 @@
 -- Records in a block of the table as code holds it: a lent slice, zeros past its end.
-use Prim.Native.Nat.{ℕ, _+_, _*_, _-_, _<_}
+use Prim.Native.Nat.{ℕ, _-_, _<_, _≤_}
 use mathlib.Core.Path.{_≡_}
 use mathlib.Core.Bool.{Bool}
 use mathlib.Core.List.{List, [], _∷_}
 use mathlib.Core.Option.{Option, none, some}
-use lib.ListN.{length, take, getD}
-use Rattle.spec.specs.Bytes.{exactly, part, same, lowest}
+use lib.ListN.{take}
+use Rattle.spec.specs.Bytes.{exactly, part, same, lowest, place}
+use Rattle.transaction.specs.Places.{foundAt}
+use Rattle.transaction.specs.declared.Place.the-variants as at
 use Rattle.spec.specs.Inode.{placeOfInode}
 use Rattle.inode.specs.declared.Found.{Found}
 use Rattle.inode.specs.declared.Found.the-variants.{At, Nothing}
@@ -30,3 +32,7 @@ foundOf (some i) = At i
 -- the lowest number from i up to n that passes
 unfoldable pub lowestTo : ℕ → (ℕ → Bool) → ℕ → Found
 lowestTo n f i = foundOf (lowest i (n - i) f)
+
+-- no block of the table is one of these
+abbrev pub Committed : List ℕ → Type 0
+Committed staged = (b : ℕ) → 34 ≤ b → b < 42 → foundAt (place b staged) ≡ at.Nothing

@@ -1,6 +1,5 @@
 // File records and the walk over a file's tree of extents, in the working copy.
 use block::DiskBlock;
-use block::copy_of;
 use block::key_of;
 use block::load;
 use block::load4;
@@ -12,16 +11,17 @@ use transaction::staged_count;
 use transaction::view_block;
 use transaction::view_in;
 ghost use mathlib.Core.Path.{_≡_};
+ghost use mathlib.Core.Bool.{true};
 ghost use mathlib.Core.List.{List};
 ghost use Prim.Native.Nat.{ℕ, _+_, _*_, _%_, _<_, _≤_};
 ghost use lib.ListN.{length, take, getD};
 ghost use Rattle.spec.specs.Bytes.{exactly, allZero};
-ghost use Rattle.spec.specs.Disk.{Disk};
+ghost use Rattle.spec.specs.Disk.{Disk, blocksOf};
 ghost use Rattle.spec.specs.Inode.{inodeOf, blockOfInode, find, findEmpty};
 ghost use Rattle.spec.specs.Transaction.{view, stateOf};
 ghost use Rattle.transaction.specs.Places.{viewIn};
 ghost use Rattle.block.specs.Keys.{keyOf, Name};
-ghost use Rattle.inode.specs.Records.{recordIn, named, foundOf, lowestTo};
+ghost use Rattle.inode.specs.Records.{recordIn, named, foundOf, lowestTo, Committed};
 ghost use Rattle.inode.specs.Walk.{slotIn, Slot, live, Steps, startOf};
 
 // "file records of 32 bytes, 16 to a block"
@@ -30,6 +30,11 @@ const RECORD_SIZE: usize = 32;
 const RECORDS_PER_BLOCK: usize = 16;
 
 const NAME_SIZE: usize = 8;
+
+// The bytes of the device that hold the table: blocks 34 to 41.
+const TABLE_START: usize = 17408;
+
+const TABLE_END: usize = 21504;
 
 // A record that was looked for.
 pub enum Found {
@@ -155,6 +160,22 @@ fn find_whole(table: &[u8], first: usize, key: u64) -> Found
     Found::Nothing
 }
 
+// The same of a block that ends early.
+fn find_short(table: &[u8], first: usize, key: u64) -> Found
+    requires { ⌜ first < 128 ⌝ }
+    ensures { λ r. ⌜ ((name : List ℕ) → Name name → key ≡ keyOf name → r ≡ lowestTo (first + 16) (named (now (table .entry)) name) first) ⌝ }
+{
+    let end = first + RECORDS_PER_BLOCK;
+    let mut i = first;
+    while i < end {
+        if key_at(table, i) == key {
+            return Found::At(i);
+        }
+        i += 1;
+    }
+    Found::Nothing
+}
+
 // The same of a block that may end early.
 fn find_block(table: &[u8], first: usize, key: u64) -> Found
     requires { ⌜ first < 128 ⌝ }
@@ -163,19 +184,14 @@ fn find_block(table: &[u8], first: usize, key: u64) -> Found
     if Limits::BLOCK_SIZE <= table.len() {
         return find_whole(table, first, key);
     }
-    let whole = copy_of(table);
-    find_whole(&whole, first, key)
+    find_short(table, first, key)
 }
 
-// The record with this name, where these blocks are staged.
-pub fn find<'a>(device: &'a [u8], work: &'a [u8], staged: &[u32], name: &[u8]) -> Found
+// The record with this name, block by block where these are staged.
+fn find_blocks<'a>(device: &'a [u8], work: &'a [u8], staged: &[u32], key: u64) -> Found
     requires { ⌜ length (now staged) ≤ 32 ⌝ }
-    ensures { λ r. ⌜ r ≡ foundOf (find (viewIn (now (staged .entry)) (now (device .entry)) (now (work .entry))) (now (name .entry))) ⌝ }
+    ensures { λ r. ⌜ ((name : List ℕ) → Name name → key ≡ keyOf name → r ≡ foundOf (find (viewIn (now (staged .entry)) (now (device .entry)) (now (work .entry))) name)) ⌝ }
 {
-    if name.len() != NAME_SIZE {
-        return Found::Nothing;
-    }
-    let key = key_of(name);
     let mut first: usize = 0;
     while first < Limits::INODE_COUNT {
         let table = inode_block_in(device, work, staged, first);
@@ -189,6 +205,58 @@ pub fn find<'a>(device: &'a [u8], work: &'a [u8], staged: &[u32], name: &[u8]) -
         }
     }
     Found::Nothing
+}
+
+// The same in the table as it lies on the device.
+fn find_committed(device: &[u8], key: u64) -> Found
+    requires { ⌜ 21504 ≤ length (now device) ⌝ }
+    ensures { λ r. ⌜ ((name : List ℕ) → Name name → key ≡ keyOf name → r ≡ foundOf (find (blocksOf (now (device .entry))) name)) ⌝ }
+{
+    let mut first: usize = 0;
+    while first < Limits::INODE_COUNT {
+        let at = TABLE_START + RECORD_SIZE * first;
+        let end = at + Limits::BLOCK_SIZE;
+        match find_whole(&device[at..end], first, key) {
+            Found::At(i) => {
+                return Found::At(i);
+            }
+            Found::Nothing => {
+                first += RECORDS_PER_BLOCK;
+            }
+        }
+    }
+    Found::Nothing
+}
+
+// Whether no block of the table is among these.
+fn is_table_committed(staged: &[u32]) -> bool
+    ensures { λ r. ⌜ (r ≡ true → Committed (now (staged .entry))) ⌝ }
+{
+    let mut i: usize = 0;
+    while i < staged.len() {
+        if (33 < staged[i]) & (staged[i] < 42) {
+            return false;
+        }
+        i += 1;
+    }
+    true
+}
+
+// The record with this name, where these blocks are staged.
+pub fn find<'a>(device: &'a [u8], work: &'a [u8], staged: &[u32], name: &[u8]) -> Found
+    requires { ⌜ length (now staged) ≤ 32 ⌝ }
+    ensures { λ r. ⌜ r ≡ foundOf (find (viewIn (now (staged .entry)) (now (device .entry)) (now (work .entry))) (now (name .entry))) ⌝ }
+{
+    if name.len() != NAME_SIZE {
+        return Found::Nothing;
+    }
+    let key = key_of(name);
+    if TABLE_END <= device.len() {
+        if is_table_committed(staged) {
+            return find_committed(device, key);
+        }
+    }
+    find_blocks(device, work, staged, key)
 }
 
 // The lowest empty record: the one whose name is all zero.

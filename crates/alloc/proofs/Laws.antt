@@ -79,8 +79,9 @@ up-append : (b k n : ℕ) → upFrom b (k + n) ≡ upFrom b k ++ upFrom (b + k) 
 up-append b zero n = let e : 0 + n ≡ n = omega arith in rw (e, add-zero b)
 up-append b (suc k) n = let e : suc b + k ≡ b + suc k = omega arith in let f : suc k + n ≡ suc (k + n) = omega arith in rw f (ap (λ (l : List ℕ). b ∷ l) (up-append (suc b) k n ∙ rw e))
 
-pub run-byte : (bits x y : List ℕ) (b k i : ℕ) → x ≡ mark 0 (upFrom b k) bits → 8 * i ≡ b + k → y ≡ mark 0 (upFrom (8 * i) 8) x → y ≡ mark 0 (upFrom b (k + 8)) bits
-run-byte bits x y b k i e q h = h ∙ rw (q, e, up-append b k 8) (sym (mark-append 0 (upFrom b k) (upFrom (b + k) 8) bits))
+-- the next m blocks
+pub run-part : (bits x y : List ℕ) (b k c m : ℕ) → x ≡ mark 0 (upFrom b k) bits → c ≡ b + k → y ≡ mark 0 (upFrom c m) x → y ≡ mark 0 (upFrom b (k + m)) bits
+run-part bits x y b k c m e q h = h ∙ rw (q, e, up-append b k m) (sym (mark-append 0 (upFrom b k) (upFrom (b + k) m) bits))
 
 -- a byte of the table cleared
 set-behind : (xs ys : List ℕ) (n k v : ℕ) → n ≡ length xs + k → set (xs ++ ys) n v ≡ xs ++ set ys k v

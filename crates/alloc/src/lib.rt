@@ -94,14 +94,31 @@ fn release_byte(t: &mut [u8; 512], i: usize)
     t[i] = 0;
 }
 
-// Whether a byte of the table begins at block b, and at least its eight blocks are left.
-fn is_byte(b: u32, left: u32) -> bool
-    ensures { λ r. ⌜ (r ≡ true → (b % 8 ≡ 0) × (8 ≤ left) × (b < 4096)) ⌝ }
+// The 64 blocks of eight bytes of the table given back.
+fn release_word(t: &mut [u8; 512], w: usize)
+    requires { ⌜ w < 64 ⌝ }
+    ensures { λ _. ⌜ bitsOf (now (t .exit)) ≡ mark 0 (upFrom (64 * w) 64) (bitsOf (now (t .entry))) ⌝ }
 {
-    if b % 8 != 0 {
+    let i = 8 * w;
+    release_byte(t, i);
+    release_byte(t, i + 1);
+    release_byte(t, i + 2);
+    release_byte(t, i + 3);
+    release_byte(t, i + 4);
+    release_byte(t, i + 5);
+    release_byte(t, i + 6);
+    release_byte(t, i + 7);
+}
+
+// Whether m blocks that the table holds together begin at block b, and at least as many are left.
+fn is_span(b: u32, left: u32, m: u32) -> bool
+    requires { ⌜ 0 < m ⌝ }
+    ensures { λ r. ⌜ (r ≡ true → (b % m ≡ 0) × (m ≤ left) × (b < 4096)) ⌝ }
+{
+    if b % m != 0 {
         return false;
     }
-    if left < 8 {
+    if left < m {
         return false;
     }
     b < 4096
@@ -115,7 +132,11 @@ fn release_run(t: &mut [u8; 512], b: u32, n: u32)
     let mut k: u32 = 0;
     while k < n {
         let at = b + k;
-        if is_byte(at, n - k) {
+        let left = n - k;
+        if is_span(at, left, 64) {
+            release_word(t, (at / 64) as usize);
+            k += 64;
+        } else if is_span(at, left, 8) {
             release_byte(t, (at / 8) as usize);
             k += 8;
         } else {

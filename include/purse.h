@@ -97,8 +97,9 @@ typedef struct {
     uint32_t count;
 } purse_extent;
 
-/* ---- What the library exports: the numbers of the session go in by value and come back in the result; `staged` is its 32 cells, lent. The
- * functions further below are easier to use. */
+/* ---- What the library exports: the numbers of the session go in by value and come back in the result; `staged` is its 32 cells, lent. A call
+ * that only reads is lent the numbers too: `numbers` points to blocks, phase, place and count, in this order. The functions further below are
+ * easier to use. */
 
 typedef struct {
     uint64_t blocks, phase, place, count;
@@ -153,17 +154,17 @@ purse_finished purse_write_v(const uint8_t *device, size_t len, uint8_t *work, s
     const uint8_t *name, size_t name_len, uint64_t x, const uint8_t *bytes, size_t n);
 purse_finished purse_set_size_v(const uint8_t *device, size_t len, uint8_t *work, size_t work_len, purse_head head, uint32_t *staged,
     const uint8_t *name, size_t name_len, uint64_t size);
-purse_counted purse_read_v(const uint8_t *device, size_t len, const uint8_t *work, size_t work_len, purse_head head, const uint32_t *staged,
-    const uint8_t *name, size_t name_len, uint64_t x, uint8_t *buffer, size_t n);
-purse_counted purse_size_v(const uint8_t *device, size_t len, const uint8_t *work, size_t work_len, purse_head head, const uint32_t *staged,
-    const uint8_t *name, size_t name_len);
-purse_counted purse_free_count_v(const uint8_t *device, size_t len, const uint8_t *work, size_t work_len, purse_head head, const uint32_t *staged);
-purse_recorded purse_record_v(const uint8_t *device, size_t len, const uint8_t *work, size_t work_len, purse_head head, const uint32_t *staged,
+purse_counted purse_read_v(const uint8_t *device, size_t len, const uint8_t *work, size_t work_len, const uint64_t *numbers,
+    const uint8_t *name, size_t name_len, const uint32_t *staged, uint64_t x, uint8_t *buffer, size_t n);
+purse_counted purse_size_v(const uint8_t *device, size_t len, const uint8_t *work, size_t work_len, const uint64_t *numbers,
+    const uint8_t *name, size_t name_len, const uint32_t *staged);
+purse_counted purse_free_count_v(const uint8_t *device, size_t len, const uint8_t *work, size_t work_len, const uint64_t *numbers, const uint32_t *staged);
+purse_recorded purse_record_v(const uint8_t *device, size_t len, const uint8_t *work, size_t work_len, const uint64_t *numbers, const uint32_t *staged,
     uint64_t i);
-purse_run purse_nth_extent_v(const uint8_t *device, size_t len, const uint8_t *work, size_t work_len, purse_head head, const uint32_t *staged,
-    const uint8_t *name, size_t name_len, uint64_t from, uint64_t n, uint64_t k);
-purse_counted purse_run_list_v(const uint8_t *device, size_t len, const uint8_t *work, size_t work_len, purse_head head, const uint32_t *staged,
-    const uint8_t *name, size_t name_len, uint64_t from, uint64_t n, uint32_t *list, size_t cells);
+purse_run purse_nth_extent_v(const uint8_t *device, size_t len, const uint8_t *work, size_t work_len, const uint64_t *numbers,
+    const uint8_t *name, size_t name_len, const uint32_t *staged, uint64_t from, uint64_t n, uint64_t k);
+purse_counted purse_run_list_v(const uint8_t *device, size_t len, const uint8_t *work, size_t work_len, const uint64_t *numbers,
+    const uint8_t *name, size_t name_len, const uint32_t *staged, uint64_t from, uint64_t n, uint32_t *list, size_t cells);
 
 /* ---- The calls */
 
@@ -171,6 +172,12 @@ static inline purse_head purse_head_of(const purse_session *s)
 {
     purse_head h = { s->blocks, s->phase, s->place, s->count };
     return h;
+}
+
+/* The four numbers stand first in the session. */
+static inline const uint64_t *purse_numbers_of(const purse_session *s)
+{
+    return (const uint64_t *)s;
 }
 
 static inline void purse_keep(purse_session *s, purse_head h)
@@ -268,7 +275,7 @@ static inline uint32_t purse_set_size(const uint8_t *device, size_t len, uint8_t
 static inline uint32_t purse_read(const uint8_t *device, size_t len, const uint8_t *work, size_t work_len, const purse_session *s,
     const uint8_t *name, size_t name_len, uint64_t x, uint8_t *buffer, size_t n, uint64_t *count)
 {
-    purse_counted r = purse_read_v(device, len, work, work_len, purse_head_of(s), s->staged, name, name_len, x, buffer, n);
+    purse_counted r = purse_read_v(device, len, work, work_len, purse_numbers_of(s), name, name_len, s->staged, x, buffer, n);
     *count = r.count;
     return r.refusal;
 }
@@ -277,7 +284,7 @@ static inline uint32_t purse_read(const uint8_t *device, size_t len, const uint8
 static inline uint32_t purse_size(const uint8_t *device, size_t len, const uint8_t *work, size_t work_len, const purse_session *s,
     const uint8_t *name, size_t name_len, uint64_t *size)
 {
-    purse_counted r = purse_size_v(device, len, work, work_len, purse_head_of(s), s->staged, name, name_len);
+    purse_counted r = purse_size_v(device, len, work, work_len, purse_numbers_of(s), name, name_len, s->staged);
     *size = r.count;
     return r.refusal;
 }
@@ -286,7 +293,7 @@ static inline uint32_t purse_size(const uint8_t *device, size_t len, const uint8
 static inline uint32_t purse_free_count(const uint8_t *device, size_t len, const uint8_t *work, size_t work_len, const purse_session *s,
     uint64_t *count)
 {
-    purse_counted r = purse_free_count_v(device, len, work, work_len, purse_head_of(s), s->staged);
+    purse_counted r = purse_free_count_v(device, len, work, work_len, purse_numbers_of(s), s->staged);
     *count = r.count;
     return r.refusal;
 }
@@ -295,7 +302,7 @@ static inline uint32_t purse_free_count(const uint8_t *device, size_t len, const
 static inline uint32_t purse_record(const uint8_t *device, size_t len, const uint8_t *work, size_t work_len, const purse_session *s, uint64_t i,
     purse_file *out)
 {
-    purse_recorded r = purse_record_v(device, len, work, work_len, purse_head_of(s), s->staged, i);
+    purse_recorded r = purse_record_v(device, len, work, work_len, purse_numbers_of(s), s->staged, i);
     out->used = r.used;
     out->size = r.size;
     for (size_t k = 0; k < sizeof out->name; k++)
@@ -307,7 +314,7 @@ static inline uint32_t purse_record(const uint8_t *device, size_t len, const uin
 static inline uint32_t purse_nth_extent(const uint8_t *device, size_t len, const uint8_t *work, size_t work_len, const purse_session *s,
     const uint8_t *name, size_t name_len, uint64_t from, uint64_t n, uint64_t k, purse_extent *out)
 {
-    purse_run r = purse_nth_extent_v(device, len, work, work_len, purse_head_of(s), s->staged, name, name_len, from, n, k);
+    purse_run r = purse_nth_extent_v(device, len, work, work_len, purse_numbers_of(s), name, name_len, s->staged, from, n, k);
     out->first = r.first;
     out->count = r.count;
     return r.refusal;
@@ -318,7 +325,7 @@ static inline uint32_t purse_nth_extent(const uint8_t *device, size_t len, const
 static inline uint32_t purse_run_list(const uint8_t *device, size_t len, const uint8_t *work, size_t work_len, const purse_session *s,
     const uint8_t *name, size_t name_len, uint64_t from, uint64_t n, uint32_t *list, size_t cells, uint64_t *count)
 {
-    purse_counted r = purse_run_list_v(device, len, work, work_len, purse_head_of(s), s->staged, name, name_len, from, n, list, cells);
+    purse_counted r = purse_run_list_v(device, len, work, work_len, purse_numbers_of(s), name, name_len, s->staged, from, n, list, cells);
     *count = r.count;
     return r.refusal;
 }

@@ -44,7 +44,7 @@ impl Bench {
                     proved(black_box(&mut store));
                 } else {
                     let mut s = session.clone();
-                    rust(black_box(device), black_box(work), &mut s);
+                    rust(black_box(device), black_box(work), black_box(&mut s));
                 }
             }
         })

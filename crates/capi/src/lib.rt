@@ -1,5 +1,5 @@
 // The calls of the store for C: structs of numbers by value, and lent slices, each a pointer and a length. include/purse.h declares them.
-// A session is its numbers by value and its 32 cells lent. Each promise: all that is returned and left is the call's outcome, in numbers, at
+// A session is its numbers by value, or lent where a call only reads, and its 32 cells lent. Each promise: all that is returned and left is the call's outcome, in numbers, at
 // the session that the numbers and the cells given stand for.
 // A refusal hands back that session in its own numbers: phase 0 where the number given was none, place 0 where the phase has none.
 use block::ByteOffset;
@@ -30,6 +30,7 @@ use mirror::counted;
 use mirror::decode;
 use mirror::finished;
 use mirror::finished_with;
+use mirror::head_in;
 use mirror::head_of;
 use mirror::phase_in;
 use mirror::recorded;
@@ -70,7 +71,7 @@ ghost use Rattle.checks.specs.Checks.{Seen};
 ghost use Rattle.transaction.specs.Places.{viewIn};
 ghost use Rattle.extents.specs.Stretches.{runsIn};
 ghost use Rattle.capi.specs.Cells.{Put, Last, Listed};
-ghost use Rattle.mirror.specs.Mirror.{phaseOf, decode, encode, countedOf, recordedOf, runOf, Finishes, Commits, Advances, Reads, Lists, extentsOf};
+ghost use Rattle.mirror.specs.Mirror.{phaseOf, headIn, decode, encode, countedOf, recordedOf, runOf, Finishes, Commits, Advances, Reads, Lists, extentsOf};
 
 // Makes an empty store. The work space is not lent: whatever it holds stays.
 #[no_mangle]
@@ -328,15 +329,16 @@ pub extern "C" fn purse_set_size_v(
 pub extern "C" fn purse_read_v<'a>(
     device: &'a [u8],
     work: &'a [u8],
-    head: CHead,
-    staged: &[u32; 32],
+    numbers: &[u64; 4],
     name: &[u8],
+    staged: &[u32; 32],
     x: u64,
     buffer: &mut [u8],
 ) -> CCounted
     ensures { λ r. ⌜ Reads r (now (buffer .exit))
-        (read (stateOf (decode head (now (staged .entry))) (now (device .entry)) (now (work .entry))) (now (name .entry)) x (now (buffer .entry))) ⌝ }
+        (read (stateOf (decode (headIn (now (numbers .entry))) (now (staged .entry))) (now (device .entry)) (now (work .entry))) (now (name .entry)) x (now (buffer .entry))) ⌝ }
 {
+    let head = head_in(numbers);
     let blocks = head.blocks as usize;
     let phase = phase_in(head);
     let cells: &[u32] = staged;
@@ -359,12 +361,13 @@ pub extern "C" fn purse_read_v<'a>(
 pub extern "C" fn purse_size_v<'a>(
     device: &'a [u8],
     work: &'a [u8],
-    head: CHead,
-    staged: &[u32; 32],
+    numbers: &[u64; 4],
     name: &[u8],
+    staged: &[u32; 32],
 ) -> CCounted
-    ensures { λ r. ⌜ r ≡ countedOf (sizeOf (stateOf (decode head (now (staged .entry))) (now (device .entry)) (now (work .entry))) (now (name .entry)) .answer) ⌝ }
+    ensures { λ r. ⌜ r ≡ countedOf (sizeOf (stateOf (decode (headIn (now (numbers .entry))) (now (staged .entry))) (now (device .entry)) (now (work .entry))) (now (name .entry)) .answer) ⌝ }
 {
+    let head = head_in(numbers);
     let blocks = head.blocks as usize;
     let phase = phase_in(head);
     let cells: &[u32] = staged;
@@ -378,11 +381,12 @@ pub extern "C" fn purse_size_v<'a>(
 pub extern "C" fn purse_free_count_v<'a>(
     device: &'a [u8],
     work: &'a [u8],
-    head: CHead,
+    numbers: &[u64; 4],
     staged: &[u32; 32],
 ) -> CCounted
-    ensures { λ r. ⌜ r ≡ countedOf (freeCount (stateOf (decode head (now (staged .entry))) (now (device .entry)) (now (work .entry))) .answer) ⌝ }
+    ensures { λ r. ⌜ r ≡ countedOf (freeCount (stateOf (decode (headIn (now (numbers .entry))) (now (staged .entry))) (now (device .entry)) (now (work .entry))) .answer) ⌝ }
 {
+    let head = head_in(numbers);
     let blocks = head.blocks as usize;
     let phase = phase_in(head);
     let cells: &[u32] = staged;
@@ -396,12 +400,13 @@ pub extern "C" fn purse_free_count_v<'a>(
 pub extern "C" fn purse_record_v<'a>(
     device: &'a [u8],
     work: &'a [u8],
-    head: CHead,
+    numbers: &[u64; 4],
     staged: &[u32; 32],
     i: u64,
 ) -> CRecord
-    ensures { λ r. ⌜ r ≡ recordedOf (recordAt (stateOf (decode head (now (staged .entry))) (now (device .entry)) (now (work .entry))) i .answer) ⌝ }
+    ensures { λ r. ⌜ r ≡ recordedOf (recordAt (stateOf (decode (headIn (now (numbers .entry))) (now (staged .entry))) (now (device .entry)) (now (work .entry))) i .answer) ⌝ }
 {
+    let head = head_in(numbers);
     let blocks = head.blocks as usize;
     let phase = phase_in(head);
     let cells: &[u32] = staged;
@@ -415,15 +420,16 @@ pub extern "C" fn purse_record_v<'a>(
 pub extern "C" fn purse_nth_extent_v<'a>(
     device: &'a [u8],
     work: &'a [u8],
-    head: CHead,
-    staged: &[u32; 32],
+    numbers: &[u64; 4],
     name: &[u8],
+    staged: &[u32; 32],
     from: u64,
     n: u64,
     k: u64,
 ) -> CRun
-    ensures { λ r. ⌜ r ≡ runOf (nthExtent (stateOf (decode head (now (staged .entry))) (now (device .entry)) (now (work .entry))) (now (name .entry)) from n k .answer) ⌝ }
+    ensures { λ r. ⌜ r ≡ runOf (nthExtent (stateOf (decode (headIn (now (numbers .entry))) (now (staged .entry))) (now (device .entry)) (now (work .entry))) (now (name .entry)) from n k .answer) ⌝ }
 {
+    let head = head_in(numbers);
     let blocks = head.blocks as usize;
     let phase = phase_in(head);
     let cells: &[u32] = staged;
@@ -565,16 +571,17 @@ fn list_runs<'a>(
 pub extern "C" fn purse_run_list_v<'a>(
     device: &'a [u8],
     work: &'a [u8],
-    head: CHead,
-    staged: &[u32; 32],
+    numbers: &[u64; 4],
     name: &[u8],
+    staged: &[u32; 32],
     from: u64,
     n: u64,
     list: &mut [u32],
 ) -> CCounted
     ensures { λ r. ⌜ Lists r (now (list .entry)) (now (list .exit))
-        (runList (stateOf (decode head (now (staged .entry))) (now (device .entry)) (now (work .entry))) (now (name .entry)) from n (extentsOf (now (list .entry)))) ⌝ }
+        (runList (stateOf (decode (headIn (now (numbers .entry))) (now (staged .entry))) (now (device .entry)) (now (work .entry))) (now (name .entry)) from n (extentsOf (now (list .entry)))) ⌝ }
 {
+    let head = head_in(numbers);
     let blocks = head.blocks as usize;
     let phase = phase_in(head);
     let cells: &[u32] = staged;

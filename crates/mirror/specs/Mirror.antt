@@ -39,6 +39,10 @@ placeIn Ready = 0
 placeIn (Committing d) = d
 placeIn (Recovering d) = d
 
+-- the four numbers where they are lent as well
+abbrev pub headIn : List ℕ → CHead
+headIn ns = record { blocks = getD ns 0 0; phase = getD ns 1 0; place = getD ns 2 0; count = getD ns 3 0 }
+
 -- the session that numbers and cells stand for: any stand for one
 abbrev pub decode : CHead → List ℕ → Session
 decode h staged = record { blocks = h .blocks; phase = phaseOf (h .phase) (h .place); staged = staged; count = h .count }

@@ -18,7 +18,7 @@ ghost use Prim.Native.Nat.{min};
 ghost use lib.ListN.{replicate};
 ghost use Rattle.spec.specs.declared.Session.{Session};
 ghost use Rattle.spec.specs.Answers.{refusalOf, doneOf, startedOf, storedOf, countedOf as answerOf, recordedOf as fileOf, runOf as extentOf};
-ghost use Rattle.mirror.specs.Mirror.{phaseOf, phaseNumber, placeIn, headOf, decode, encode, refusalNumber, faultIn, finishedOf, committedOf, advancedOf, countedOf, recordedOf, runOf};
+ghost use Rattle.mirror.specs.Mirror.{phaseOf, phaseNumber, placeIn, headOf, headIn, decode, encode, refusalNumber, faultIn, finishedOf, committedOf, advancedOf, countedOf, recordedOf, runOf};
 
 // A session but for the cells of its staged blocks, which are lent beside it.
 // phase: 0 closed, 1 ready, 2 committing, 3 recovering; place: the stores made so far of a commit or a recovery, else 0.
@@ -110,6 +110,19 @@ fn place_in(p: Phase) -> u64
         Phase::Ready => 0,
         Phase::Committing(d) => d as u64,
         Phase::Recovering(d) => d as u64,
+    }
+}
+
+// The numbers of a session, lent: a call that only reads does not wait for a copy of them.
+pub fn head_in(numbers: &[u64; 4]) -> CHead
+    ensures { λ h. ⌜ h ≡ headIn (now (numbers .entry)) ⌝ }
+{
+    let n: &[u64] = numbers;
+    CHead {
+        blocks: n[0],
+        phase: n[1],
+        place: n[2],
+        count: n[3],
     }
 }
 

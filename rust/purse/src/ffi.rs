@@ -30,6 +30,11 @@ impl RawSession {
         Head { blocks: self.blocks, phase: self.phase, place: self.place, count: self.count }
     }
 
+    /// The same where they stand: the first four numbers of the session.
+    pub(crate) fn numbers(&self) -> *const [u64; 4] {
+        std::ptr::from_ref(self).cast()
+    }
+
     pub(crate) fn keep(&mut self, h: Head) {
         self.blocks = h.blocks;
         self.phase = h.phase;
@@ -100,6 +105,7 @@ type Bytes = *const u8;
 type BytesMut = *mut u8;
 type Cells = *const [u32; 32];
 type CellsMut = *mut [u32; 32];
+type Numbers = *const [u64; 4];
 
 #[rustfmt::skip]
 extern "C" {
@@ -118,14 +124,14 @@ extern "C" {
         name: Bytes, name_len: usize, x: u64, bytes: Bytes, n: usize) -> Finished;
     pub fn purse_set_size_v(device: Bytes, len: usize, work: BytesMut, work_len: usize, head: Head, staged: CellsMut,
         name: Bytes, name_len: usize, size: u64) -> Finished;
-    pub fn purse_read_v(device: Bytes, len: usize, work: Bytes, work_len: usize, head: Head, staged: Cells,
-        name: Bytes, name_len: usize, x: u64, buffer: BytesMut, n: usize) -> Counted;
-    pub fn purse_size_v(device: Bytes, len: usize, work: Bytes, work_len: usize, head: Head, staged: Cells,
-        name: Bytes, name_len: usize) -> Counted;
-    pub fn purse_free_count_v(device: Bytes, len: usize, work: Bytes, work_len: usize, head: Head, staged: Cells) -> Counted;
-    pub fn purse_record_v(device: Bytes, len: usize, work: Bytes, work_len: usize, head: Head, staged: Cells, i: u64) -> Recorded;
-    pub fn purse_nth_extent_v(device: Bytes, len: usize, work: Bytes, work_len: usize, head: Head, staged: Cells,
-        name: Bytes, name_len: usize, from: u64, n: u64, k: u64) -> Run;
-    pub fn purse_run_list_v(device: Bytes, len: usize, work: Bytes, work_len: usize, head: Head, staged: Cells,
-        name: Bytes, name_len: usize, from: u64, n: u64, list: *mut u32, cells: usize) -> Counted;
+    pub fn purse_read_v(device: Bytes, len: usize, work: Bytes, work_len: usize, numbers: Numbers,
+        name: Bytes, name_len: usize, staged: Cells, x: u64, buffer: BytesMut, n: usize) -> Counted;
+    pub fn purse_size_v(device: Bytes, len: usize, work: Bytes, work_len: usize, numbers: Numbers,
+        name: Bytes, name_len: usize, staged: Cells) -> Counted;
+    pub fn purse_free_count_v(device: Bytes, len: usize, work: Bytes, work_len: usize, numbers: Numbers, staged: Cells) -> Counted;
+    pub fn purse_record_v(device: Bytes, len: usize, work: Bytes, work_len: usize, numbers: Numbers, staged: Cells, i: u64) -> Recorded;
+    pub fn purse_nth_extent_v(device: Bytes, len: usize, work: Bytes, work_len: usize, numbers: Numbers,
+        name: Bytes, name_len: usize, staged: Cells, from: u64, n: u64, k: u64) -> Run;
+    pub fn purse_run_list_v(device: Bytes, len: usize, work: Bytes, work_len: usize, numbers: Numbers,
+        name: Bytes, name_len: usize, staged: Cells, from: u64, n: u64, list: *mut u32, cells: usize) -> Counted;
 }

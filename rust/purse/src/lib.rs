@@ -267,28 +267,28 @@ impl Store<'_> {
         let mut own = 0;
         let ((d, n), (w, m)) = (lend(self.device), lend(self.work));
         let ((a, l), (b, k)) = (lend(name), lend_mut(buffer, &mut own));
-        let answer = unsafe { ffi::purse_read_v(d, n, w, m, self.session.head(), &self.session.staged, a, l, x, b, k) };
+        let answer = unsafe { ffi::purse_read_v(d, n, w, m, self.session.numbers(), a, l, &self.session.staged, x, b, k) };
         settle(answer.refusal, 0, answer.count as usize)
     }
 
     /// The size of a file in bytes.
     pub fn size(&self, name: &[u8]) -> Result<u64, Refusal> {
         let ((d, n), (w, m), (a, l)) = (lend(self.device), lend(self.work), lend(name));
-        let answer = unsafe { ffi::purse_size_v(d, n, w, m, self.session.head(), &self.session.staged, a, l) };
+        let answer = unsafe { ffi::purse_size_v(d, n, w, m, self.session.numbers(), a, l, &self.session.staged) };
         settle(answer.refusal, 0, answer.count)
     }
 
     /// The number of free blocks.
     pub fn free_count(&self) -> Result<u64, Refusal> {
         let ((d, n), (w, m)) = (lend(self.device), lend(self.work));
-        let answer = unsafe { ffi::purse_free_count_v(d, n, w, m, self.session.head(), &self.session.staged) };
+        let answer = unsafe { ffi::purse_free_count_v(d, n, w, m, self.session.numbers(), &self.session.staged) };
         settle(answer.refusal, 0, answer.count)
     }
 
     /// Name and size of record `i`, none if it is empty or past 127.
     pub fn record(&self, i: u64) -> Result<Option<File>, Refusal> {
         let ((d, n), (w, m)) = (lend(self.device), lend(self.work));
-        let answer = unsafe { ffi::purse_record_v(d, n, w, m, self.session.head(), &self.session.staged, i) };
+        let answer = unsafe { ffi::purse_record_v(d, n, w, m, self.session.numbers(), &self.session.staged, i) };
         let file = File { name: answer.name, size: answer.size };
         settle(answer.refusal, 0, (answer.used != 0).then_some(file))
     }
@@ -297,7 +297,7 @@ impl Store<'_> {
     /// counted from 0; none past the last.
     pub fn nth_extent(&self, name: &[u8], from: u64, count: u64, k: u64) -> Result<Option<Extent>, Refusal> {
         let ((d, n), (w, m), (a, l)) = (lend(self.device), lend(self.work), lend(name));
-        let answer = unsafe { ffi::purse_nth_extent_v(d, n, w, m, self.session.head(), &self.session.staged, a, l, from, count, k) };
+        let answer = unsafe { ffi::purse_nth_extent_v(d, n, w, m, self.session.numbers(), a, l, &self.session.staged, from, count, k) };
         let extent = Extent { first: answer.first, count: answer.count };
         settle(answer.refusal, 0, (answer.count != 0).then_some(extent))
     }
@@ -309,7 +309,7 @@ impl Store<'_> {
         let ((a, l), (e, k)) = (lend(name), lend_mut(list, &mut own));
         // An extent is two cells of 32 bits, first and count.
         let answer =
-            unsafe { ffi::purse_run_list_v(d, n, w, m, self.session.head(), &self.session.staged, a, l, from, count, e.cast(), 2 * k) };
+            unsafe { ffi::purse_run_list_v(d, n, w, m, self.session.numbers(), a, l, &self.session.staged, from, count, e.cast(), 2 * k) };
         settle(answer.refusal, 0, answer.count as usize)
     }
 }

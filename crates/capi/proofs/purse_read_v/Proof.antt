@@ -1,3 +1,6 @@
+use mathlib.Core.Path.{ap}
+use Rattle.mirror.specs.declared.CHead.{CHead}
+use Rattle.mirror.specs.Mirror.{headIn}
 use native.Mathlib.Omega.{arith}
 use mathlib.Core.Path.{_≡_, refl}
 use lib.ListN.{length}
@@ -10,6 +13,9 @@ use Rattle.capi.proofs.Laws.{seen, few}
 use borrow.Author.Needs.{needs}
 use Rattle.capi.proofs.purse_read_v.Statement.{statement}
 use Rattle.capi.proofs.purse_read_v.Tie as tie
+
+head-in-requires : tie.Need-head-in-requires
+head-in-requires c κs = search needs
 
 phase-in-requires : tie.Need-phase-in-requires
 phase-in-requires c κs = search needs
@@ -24,10 +30,10 @@ part-used-start : tie.Need-part-used-start
 part-used-start c = search needs
 
 part-used-end : tie.Need-part-used-end
-part-used-end c = let l : length (c .before .before .before .before .before .before .before .args .staged .now) ≡ 32 = search needs in omega (arith, l, c .staged-in .ensures)
+part-used-end c = let l : length (c .before .before .before .before .before .before .before .before .args .staged .now) ≡ 32 = search needs in omega (arith, l, c .staged-in .ensures)
 
 read-in-requires : tie.Need-read-in-requires
-read-in-requires c κs = let l : length (c .before .before .before .before .before .before .before .before .before .args .staged .now) ≡ 32 = search needs in few (c .before .before .before .before .before .before .before .before .before .args .head) (c .before .before .before .before .before .before .before .before .before .args .staged .now) _ l (c .before .before .staged-in .ensures)
+read-in-requires c κs = let l : length (c .before .before .before .before .before .before .before .before .before .before .args .staged .now) ≡ 32 = search needs in few (c .before .before .before .before .before .head-in .result) (c .before .before .before .before .before .before .before .before .before .before .args .staged .now) _ l (c .before .before .staged-in .ensures)
 
 counted-requires : tie.Need-counted-requires
 counted-requires c κs = search needs
@@ -36,19 +42,8 @@ same-length : tie.Need-same-length
 same-length c = search needs
 
 returns : tie.Need-returns
-returns c = let a = c .before .before .before .before .before .before .before .before .before .before .before .before .before .args in let l : length (a .staged .now) ≡ 32 = search (needs, c .before .before .before .before .before .before .before .before .before .before .before .before .before .good) in let s = decode (a .head) (a .staged .now) in
-    reads (λ (x : Session). read (stateOf x (a .device .now) (a .work .now)) (a .name .now) (a .x) (a .buffer .now)) s s refl _ _ _ _ _ (c .before .before .before .read-in .ensures s (seen (a .head) (a .staged .now) _ l (c .before .before .before .before .before .before .staged-in .ensures) _ (c .before .before .before .before .before .before .before .before .phase-in .ensures))) _ (c .counted .ensures)
+returns c = let a = c .before .before .before .before .before .before .before .before .before .before .before .before .before .before .args in let l : length (a .staged .now) ≡ 32 = search (needs, c .before .before .before .before .before .before .before .before .before .before .before .before .before .before .good) in let s = decode (c .before .before .before .before .before .before .before .before .before .head-in .result) (a .staged .now) in
+    reads (λ (x : Session). read (stateOf x (a .device .now) (a .work .now)) (a .name .now) (a .x) (a .buffer .now)) s (decode (headIn (a .numbers .now)) (a .staged .now)) (ap (λ (h : CHead). decode h (a .staged .now)) (c .before .before .before .before .before .before .before .before .before .head-in .ensures)) _ _ _ _ _ (c .before .before .before .read-in .ensures s (seen (c .before .before .before .before .before .before .before .before .before .head-in .result) (a .staged .now) _ l (c .before .before .before .before .before .before .staged-in .ensures) _ (c .before .before .before .before .before .before .before .before .phase-in .ensures))) _ (c .counted .ensures)
 
 pub purse-read-v-spec : {M : Type 1} → statement M
-purse-read-v-spec =
-    tie.close
-    (tie.spec
-    phase-in-requires
-    staged-in-requires
-    sub-used
-    part-used-start
-    part-used-end
-    read-in-requires
-    counted-requires
-    same-length
-    returns)
+purse-read-v-spec = tie.close (tie.spec head-in-requires phase-in-requires staged-in-requires sub-used part-used-start part-used-end read-in-requires counted-requires same-length returns)

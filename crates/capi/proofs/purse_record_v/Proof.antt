@@ -1,3 +1,6 @@
+use mathlib.Core.Path.{ap}
+use Rattle.mirror.specs.declared.CHead.{CHead}
+use Rattle.mirror.specs.Mirror.{headIn}
 use native.Mathlib.Omega.{arith}
 use mathlib.Core.Path.{_≡_, refl}
 use lib.ListN.{length}
@@ -10,6 +13,9 @@ use Rattle.capi.proofs.Laws.{seen, few}
 use borrow.Author.Needs.{needs}
 use Rattle.capi.proofs.purse_record_v.Statement.{statement}
 use Rattle.capi.proofs.purse_record_v.Tie as tie
+
+head-in-requires : tie.Need-head-in-requires
+head-in-requires c κs = search needs
 
 phase-in-requires : tie.Need-phase-in-requires
 phase-in-requires c κs = search needs
@@ -24,27 +30,17 @@ part-used-start : tie.Need-part-used-start
 part-used-start c = search needs
 
 part-used-end : tie.Need-part-used-end
-part-used-end c = let l : length (c .before .before .before .before .before .args .staged .now) ≡ 32 = search needs in omega (arith, l, c .staged-in .ensures)
+part-used-end c = let l : length (c .before .before .before .before .before .before .args .staged .now) ≡ 32 = search needs in omega (arith, l, c .staged-in .ensures)
 
 record-in-requires : tie.Need-record-in-requires
-record-in-requires c κs = let l : length (c .before .before .before .before .before .before .args .staged .now) ≡ 32 = search needs in few (c .before .before .before .before .before .before .args .head) (c .before .before .before .before .before .before .args .staged .now) _ l (c .before .staged-in .ensures)
+record-in-requires c κs = let l : length (c .before .before .before .before .before .before .before .args .staged .now) ≡ 32 = search needs in few (c .before .before .before .before .head-in .result) (c .before .before .before .before .before .before .before .args .staged .now) _ l (c .before .staged-in .ensures)
 
 recorded-requires : tie.Need-recorded-requires
 recorded-requires c κs = search needs
 
 returns : tie.Need-returns
-returns c = let a = c .before .before .before .before .before .before .before .before .args in let l : length (a .staged .now) ≡ 32 = search (needs, c .before .before .before .before .before .before .before .before .good) in let s = decode (a .head) (a .staged .now) in
-    answers (λ (x : Session). recordAt (stateOf x (a .device .now) (a .work .now)) (a .i)) s s refl _ _ _ _ (c .before .record-in .ensures s (seen (a .head) (a .staged .now) _ l (c .before .before .before .staged-in .ensures) _ (c .before .before .before .before .before .phase-in .ensures)) .0) recordedOf _ (c .recorded .ensures)
+returns c = let a = c .before .before .before .before .before .before .before .before .before .args in let l : length (a .staged .now) ≡ 32 = search (needs, c .before .before .before .before .before .before .before .before .before .good) in let s = decode (c .before .before .before .before .before .before .head-in .result) (a .staged .now) in
+    answers (λ (x : Session). recordAt (stateOf x (a .device .now) (a .work .now)) (a .i)) s (decode (headIn (a .numbers .now)) (a .staged .now)) (ap (λ (h : CHead). decode h (a .staged .now)) (c .before .before .before .before .before .before .head-in .ensures)) _ _ _ _ (c .before .record-in .ensures s (seen (c .before .before .before .before .before .before .head-in .result) (a .staged .now) _ l (c .before .before .before .staged-in .ensures) _ (c .before .before .before .before .before .phase-in .ensures)) .0) recordedOf _ (c .recorded .ensures)
 
 pub purse-record-v-spec : {M : Type 1} → statement M
-purse-record-v-spec =
-    tie.close
-    (tie.spec
-    phase-in-requires
-    staged-in-requires
-    sub-used
-    part-used-start
-    part-used-end
-    record-in-requires
-    recorded-requires
-    returns)
+purse-record-v-spec = tie.close (tie.spec head-in-requires phase-in-requires staged-in-requires sub-used part-used-start part-used-end record-in-requires recorded-requires returns)

@@ -5,6 +5,7 @@
 use block::ByteOffset;
 use block::DiskBlock;
 use block::FileBlock;
+use checks::Changed;
 use extents::AtNode;
 use extents::AtSlot;
 use extents::pass_slots;
@@ -60,7 +61,7 @@ ghost use mathlib.Core.Path.{_≡_};
 ghost use mathlib.Core.List.{List};
 ghost use Prim.Native.Nat.{ℕ, _<_, _≤_};
 ghost use lib.ListN.{length};
-ghost use Rattle.spec.specs.Answers.{countedOf as answerOf};
+ghost use Rattle.spec.specs.Answers.{doneOf, countedOf as answerOf};
 ghost use Rattle.spec.specs.Transaction.{stateOf};
 ghost use Rattle.spec.specs.Calls.{format, openStore, advance, commit, abort, create, remove, rename, write, setSize, read, sizeOf, freeCount, recordAt, nthExtent, runList};
 ghost use Rattle.spec.specs.declared.Session.{Session};
@@ -68,10 +69,10 @@ ghost use Rattle.spec.specs.declared.Phase.{Phase};
 ghost use Rattle.mirror.specs.declared.CHead.{CHead};
 ghost use Rattle.journal.specs.Entries.{behind};
 ghost use Rattle.checks.specs.Checks.{Seen};
-ghost use Rattle.transaction.specs.Places.{viewIn};
+ghost use Rattle.transaction.specs.Places.{sessionOf, viewIn};
 ghost use Rattle.extents.specs.Stretches.{runsIn};
 ghost use Rattle.capi.specs.Cells.{Put, Last, Listed};
-ghost use Rattle.mirror.specs.Mirror.{phaseOf, headIn, decode, encode, countedOf, recordedOf, runOf, Finishes, Commits, Advances, Reads, Lists, extentsOf};
+ghost use Rattle.mirror.specs.Mirror.{phaseOf, headIn, decode, encode, finishedOf, countedOf, recordedOf, runOf, Finishes, Commits, Advances, Reads, Lists, extentsOf};
 
 // Makes an empty store. The work space is not lent: whatever it holds stays.
 #[no_mangle]
@@ -201,6 +202,14 @@ pub extern "C" fn purse_abort_v(
     finished(after)
 }
 
+// What a call that changed a session's cells answers, in numbers: blocks and phase are as they were.
+fn settled(head: CHead, phase: Phase, c: Changed) -> CFinished
+    ensures { λ r. ⌜ ((l : List ℕ) → r ≡ finishedOf (sessionOf (head .blocks) phase l (c .count)) (doneOf (c .answer))) ⌝ }
+{
+    let answer = c.answer;
+    finished_with(head_of(head.blocks, phase, c.count as u64), answer)
+}
+
 // Makes an empty file.
 #[no_mangle]
 pub extern "C" fn purse_create_v(
@@ -217,8 +226,7 @@ pub extern "C" fn purse_create_v(
     let phase = phase_in(head);
     let many = head.count as usize;
     let c = create_in(device, work, blocks, phase, staged, many, name);
-    let answer = c.answer;
-    finished_with(head_of(head.blocks, phase, c.count as u64), answer)
+    settled(head, phase, c)
 }
 
 // Removes a file.
@@ -237,8 +245,7 @@ pub extern "C" fn purse_remove_v(
     let phase = phase_in(head);
     let many = head.count as usize;
     let c = remove_in(device, work, blocks, phase, staged, many, name);
-    let answer = c.answer;
-    finished_with(head_of(head.blocks, phase, c.count as u64), answer)
+    settled(head, phase, c)
 }
 
 // Names a file anew.
@@ -258,8 +265,7 @@ pub extern "C" fn purse_rename_v(
     let phase = phase_in(head);
     let many = head.count as usize;
     let c = rename_in(device, work, blocks, phase, staged, many, name, new);
-    let answer = c.answer;
-    finished_with(head_of(head.blocks, phase, c.count as u64), answer)
+    settled(head, phase, c)
 }
 
 // Bytes laid over a file from byte x on.
@@ -290,8 +296,7 @@ pub extern "C" fn purse_write_v(
         ByteOffset(x as usize),
         bytes,
     );
-    let answer = c.answer;
-    finished_with(head_of(head.blocks, phase, c.count as u64), answer)
+    settled(head, phase, c)
 }
 
 // A file cut, or lengthened by zeros.
@@ -320,8 +325,7 @@ pub extern "C" fn purse_set_size_v(
         name,
         size as usize,
     );
-    let answer = c.answer;
-    finished_with(head_of(head.blocks, phase, c.count as u64), answer)
+    settled(head, phase, c)
 }
 
 // Bytes of a file from byte x on, as many as the buffer takes and the file has; how many.

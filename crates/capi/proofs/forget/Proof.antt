@@ -1,6 +1,4 @@
-use mathlib.Core.Path.{_≡_, sym, ap}
-use mathlib.Core.List.{List}
-use Prim.Native.Nat.{ℕ}
+use mathlib.Core.Path.{sym, ap}
 use Rattle.spec.specs.declared.Stored.{Stored}
 use Rattle.mirror.specs.Mirror.{decode}
 use Rattle.journal.specs.Entries.{behind}

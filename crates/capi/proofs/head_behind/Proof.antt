@@ -1,4 +1,4 @@
-use mathlib.Core.Path.{_≡_, sym, ap, _∙_}
+use mathlib.Core.Path.{ap, _∙_}
 use Rattle.spec.specs.declared.Phase.{Phase}
 use Rattle.mirror.specs.Mirror.{headOf, encode, decode}
 use Rattle.journal.specs.Entries.{behind}

@@ -2,7 +2,7 @@ use mathlib.Core.Path.{ap}
 use Rattle.mirror.specs.declared.CHead.{CHead}
 use Rattle.mirror.specs.Mirror.{headIn}
 use native.Mathlib.Omega.{arith}
-use mathlib.Core.Path.{_≡_, refl}
+use mathlib.Core.Path.{_≡_}
 use lib.ListN.{length}
 use Rattle.spec.specs.declared.Session.{Session}
 use Rattle.spec.specs.Transaction.{stateOf}

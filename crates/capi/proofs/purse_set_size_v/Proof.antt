@@ -1,7 +1,6 @@
 use Rattle.spec.specs.declared.Session.{Session}
 use Rattle.spec.specs.Transaction.{stateOf}
 use Rattle.spec.specs.Calls.{setSize}
-use Rattle.transaction.specs.Places.{sessionOf}
 use Rattle.capi.proofs.Laws.{finishes-in}
 use borrow.Author.Needs.{needs}
 use Rattle.capi.proofs.purse_set_size_v.Statement.{statement}
@@ -13,17 +12,14 @@ phase-in-requires c κs = search needs
 set-size-in-requires : tie.Need-set-size-in-requires
 set-size-in-requires c κs = search needs
 
-head-of-requires : tie.Need-head-of-requires
-head-of-requires c κs = search needs
-
-finished-with-requires : tie.Need-finished-with-requires
-finished-with-requires c κs = search needs
+settled-requires : tie.Need-settled-requires
+settled-requires c κs = search needs
 
 same-length : tie.Need-same-length
 same-length c = search needs
 
 returns : tie.Need-returns
-returns c = let a = c .before .before .before .before .before .before .before .before .before .before .before .args in finishes-in (λ (s : Session). (setSize (stateOf s (a .device .now) (a .work .now)) (a .name .now) (a .size))) (a .head) _ (a .staged .now) _ _ _ _ _ (c .before .before .before .before .before .before .before .phase-in .ensures) (c .before .before .before .before .set-size-in .ensures) _ (c .finished-with .ensures (sessionOf (a .head .blocks) (c .before .before .before .before .before .before .before .phase-in .result) _ _) (c .before .head-of .ensures))
+returns c = let a = c .before .before .before .before .before .before .before .before .before .before .args in finishes-in (λ (s : Session). (setSize (stateOf s (a .device .now) (a .work .now)) (a .name .now) (a .size))) (a .head) _ (a .staged .now) _ _ _ _ _ (c .before .before .before .before .before .before .phase-in .ensures) (c .before .before .before .set-size-in .ensures) _ (c .settled .ensures _)
 
 pub purse-set-size-v-spec : {M : Type 1} → statement M
-purse-set-size-v-spec = tie.close (tie.spec phase-in-requires set-size-in-requires head-of-requires finished-with-requires same-length returns)
+purse-set-size-v-spec = tie.close (tie.spec phase-in-requires set-size-in-requires settled-requires same-length returns)

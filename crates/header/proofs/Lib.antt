@@ -1,3 +1,4 @@
 pub mod Tables
 pub mod Every
 pub mod Loops
+pub mod Ends

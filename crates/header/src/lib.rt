@@ -144,7 +144,7 @@ fn are_inside(blocks: usize, l: &[u32]) -> bool
 }
 
 // Whether each target is lower than the next.
-fn is_ascending(l: &[u32]) -> bool
+pub fn is_ascending(l: &[u32]) -> bool
     ensures { λ r. ⌜ r ≡ ascends (now (l .entry)) ⌝ }
 {
     let mut up = true;
@@ -156,13 +156,10 @@ fn is_ascending(l: &[u32]) -> bool
     up
 }
 
-// Whether no target is listed twice. In ascending order, as one call stages them, none is.
+// Whether no target is listed twice.
 fn is_distinct(l: &[u32]) -> bool
     ensures { λ r. ⌜ r ≡ distinct (now (l .entry)) ⌝ }
 {
-    if is_ascending(l) {
-        return true;
-    }
     let mut i: usize = 0;
     while i < l.len() {
         if is_among(&l[i + 1..], l[i]) {
@@ -173,11 +170,19 @@ fn is_distinct(l: &[u32]) -> bool
     true
 }
 
-// Whether a log may list them: at least one, each within 33 to N-1, none twice.
-pub fn can_list(blocks: usize, l: &[u32]) -> bool
+// Whether a log may list them: at least one, each within 33 to N-1, none twice. Where they ascend, as one call stages them, the first and the last tell.
+pub fn can_list(blocks: usize, l: &[u32], up: bool) -> bool
+    requires { ⌜ up ≡ ascends (now l) ⌝ }
     ensures { λ r. ⌜ r ≡ areTargets blocks (now (l .entry)) ⌝ }
 {
-    (0 < l.len()) & are_inside(blocks, l) & is_distinct(l)
+    let n = l.len();
+    if n == 0 {
+        return false;
+    }
+    if up {
+        return is_target(blocks, DiskBlock(l[0])) & is_target(blocks, DiskBlock(l[n - 1]));
+    }
+    are_inside(blocks, l) & is_distinct(l)
 }
 
 pub fn are_targets(blocks: usize, t: Targets) -> bool
@@ -186,5 +191,6 @@ pub fn are_targets(blocks: usize, t: Targets) -> bool
 {
     let l = t.list;
     let n = t.count;
-    can_list(blocks, &l[0..n])
+    let listed = &l[0..n];
+    can_list(blocks, listed, is_ascending(listed))
 }

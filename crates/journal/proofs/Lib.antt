@@ -3,3 +3,4 @@ pub mod Listed
 pub mod Header
 pub mod Laws
 pub mod Steps
+pub mod Copies

@@ -12,17 +12,7 @@ use Rattle.spec.specs.Disk.{isTarget, isTargetArea, areaOf}
 use Rattle.spec.specs.Journal.{areTargets}
 use Rattle.transaction.proofs.Laws.{Listed}
 use Rattle.header.proofs.Every.{Every, every-at, all-every}
-
--- within 33 to N-1
-pub target-within : (N b : ℕ) → isTarget N b ≡ true → (33 ≤ b) × (b < N)
-unfolding isTarget areaOf
-target-within N b h = go (ltb b 1) refl (ltb b 33) refl (ltb b N) refl
-  where
-    go : (t : Bool) → ltb b 1 ≡ t → (u : Bool) → ltb b 33 ≡ u → (v : Bool) → ltb b N ≡ v → (33 ≤ b) × (b < N)
-    go true p u q v r = absurd (true≢false (sym (rw p at h)))
-    go false p true q v r = absurd (true≢false (sym (rw (p, q) at h)))
-    go false p false q true r = (ltb-false b 33 q, ltb-true b N r)
-    go false p false q false r = absurd (true≢false (sym (sym (and-false (isTargetArea (areaOf b))) ∙ (rw r at h))))
+use Rattle.header.proofs.Ends.{target-within}
 
 module _ (N : ℕ) (ts : List ℕ) (l : Listed N ts) where
   pub listed-every : Every (λ t. isTarget N t ≡ true) ts

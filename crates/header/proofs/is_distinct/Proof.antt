@@ -3,7 +3,7 @@ use mathlib.Core.Path.{_≡_, refl, sym, _∙_}
 use native.Mathlib.Omega.{arith}
 use lib.ListN.{length, drop}
 use Rattle.spec.specs.Bytes.{distinct}
-use Rattle.header.proofs.Loops.{ascends-distinct, distinct-fail, distinct-pass, distinct-end}
+use Rattle.header.proofs.Loops.{distinct-fail, distinct-pass, distinct-end}
 use borrow.Author.Needs.{needs}
 use Rattle.header.proofs.is_distinct.Statement.{statement}
 use Rattle.header.proofs.is_distinct.Tie as tie
@@ -13,12 +13,6 @@ Inv-loop l i₀ i = (i ≤ length l) × (distinct l ≡ distinct (drop i l))
 
 abbrev μ-loop : tie.MeasureT-loop
 μ-loop l i₀ i = length l - i
-
-is-ascending-requires : tie.Need-is-ascending-requires Inv-loop μ-loop
-is-ascending-requires c κs = search needs
-
-returns : tie.Need-returns Inv-loop μ-loop
-returns c = ascends-distinct _ (sym (c .before .is-ascending .ensures) ∙ c .if1 .taken)
 
 loop-holds : tie.Need-loop-holds Inv-loop μ-loop
 loop-holds c = (omega arith, refl)
@@ -47,8 +41,8 @@ shared-slice-read-is-among c = search needs
 is-among-requires : tie.Need-is-among-requires Inv-loop μ-loop
 is-among-requires c κs = search needs
 
-returns-2 : tie.Need-returns-2 Inv-loop μ-loop
-returns-2 c = let l = c .before .before .before .before .before .loop in sym (l .inv .1 ∙ distinct-fail _ (l .i) _ (c .before .before .before .before .loop-test .taken) (c .before .is-among .ensures) (c .if2 .taken))
+returns : tie.Need-returns Inv-loop μ-loop
+returns c = let l = c .before .before .before .before .before .loop in sym (l .inv .1 ∙ distinct-fail _ (l .i) _ (c .before .before .before .before .loop-test .taken) (c .before .is-among .ensures) (c .if1 .taken))
 
 add-i : tie.Need-add-i Inv-loop μ-loop
 add-i c = search needs
@@ -57,10 +51,10 @@ loop-less : tie.Need-loop-less Inv-loop μ-loop
 loop-less c = search needs
 
 loop-again : tie.Need-loop-again Inv-loop μ-loop
-loop-again c = let l = c .before .before .before .before .before .loop in (omega (arith, c .before .before .before .before .loop-test .taken), l .inv .1 ∙ distinct-pass _ (l .i) _ (c .before .before .before .before .loop-test .taken) (c .before .is-among .ensures) (c .if2 .left))
+loop-again c = let l = c .before .before .before .before .before .loop in (omega (arith, c .before .before .before .before .loop-test .taken), l .inv .1 ∙ distinct-pass _ (l .i) _ (c .before .before .before .before .loop-test .taken) (c .before .is-among .ensures) (c .if1 .left))
 
-returns-3 : tie.Need-returns-3 Inv-loop μ-loop
-returns-3 c = let l = c .before .loop in sym (l .inv .1 ∙ distinct-end _ (l .i) (c .loop-test .left))
+returns-2 : tie.Need-returns-2 Inv-loop μ-loop
+returns-2 c = let l = c .before .loop in sym (l .inv .1 ∙ distinct-end _ (l .i) (c .loop-test .left))
 
 pub is-distinct-spec : {M : Type 1} → statement M
 is-distinct-spec =
@@ -68,8 +62,6 @@ is-distinct-spec =
     (tie.spec
     Inv-loop
     μ-loop
-    is-ascending-requires
-    returns
     loop-holds
     add-is-among
     mul-is-among
@@ -79,8 +71,8 @@ is-distinct-spec =
     mul-is-among-2
     shared-slice-read-is-among
     is-among-requires
-    returns-2
+    returns
     add-i
     loop-less
     loop-again
-    returns-3)
+    returns-2)

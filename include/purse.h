@@ -97,28 +97,20 @@ typedef struct {
     uint32_t count;
 } purse_extent;
 
-/* ---- What the library exports: the numbers of the session go in by value and come back in the result; `staged` is its 32 cells, lent. A call
- * that only reads is lent the numbers too: `numbers` points to blocks, phase, place and count, in this order. The functions further below are
- * easier to use. */
+/* ---- What the library exports: `numbers` points to the four numbers of the session, blocks, phase, place and count in this order, and `staged` to
+ * its 32 cells. The functions further below are easier to use. */
 
 typedef struct {
-    uint64_t blocks, phase, place, count;
-} purse_head;
-
-typedef struct {
-    purse_head head;
     uint32_t refusal;
     uint64_t fault; /* refusal 10: the record of block 0 that is damaged; else 0 */
 } purse_finished;
 
 typedef struct {
-    purse_head head;
     uint32_t refusal;
     uint64_t stores;
 } purse_committed;
 
 typedef struct {
-    purse_head head;
     uint32_t refusal;
     uint64_t block, last, number;
 } purse_advanced;
@@ -130,8 +122,8 @@ typedef struct {
 
 typedef struct {
     uint32_t refusal;
-    uint64_t used, size;
-    uint8_t name[8];
+    uint32_t used;
+    uint64_t size;
 } purse_recorded;
 
 typedef struct {
@@ -139,20 +131,20 @@ typedef struct {
     uint32_t first, count;
 } purse_run;
 
-purse_finished purse_format_v(uint8_t *device, size_t len, purse_head head, uint32_t *staged);
-purse_finished purse_open_v(const uint8_t *device, size_t len, purse_head head, uint32_t *staged);
-purse_advanced purse_advance_v(uint8_t *device, size_t len, const uint8_t *work, size_t work_len, purse_head head, uint32_t *staged);
-purse_committed purse_commit_v(const uint8_t *device, size_t len, const uint8_t *work, size_t work_len, purse_head head, uint32_t *staged);
-purse_finished purse_abort_v(const uint8_t *device, size_t len, const uint8_t *work, size_t work_len, purse_head head, uint32_t *staged);
-purse_finished purse_create_v(const uint8_t *device, size_t len, uint8_t *work, size_t work_len, purse_head head, uint32_t *staged,
+purse_finished purse_format_v(uint8_t *device, size_t len, uint64_t *numbers, uint32_t *staged);
+purse_finished purse_open_v(const uint8_t *device, size_t len, uint64_t *numbers, uint32_t *staged);
+purse_advanced purse_advance_v(uint8_t *device, size_t len, const uint8_t *work, size_t work_len, uint64_t *numbers, uint32_t *staged);
+purse_committed purse_commit_v(const uint8_t *device, size_t len, const uint8_t *work, size_t work_len, uint64_t *numbers, const uint32_t *staged);
+purse_finished purse_abort_v(const uint8_t *device, size_t len, const uint8_t *work, size_t work_len, uint64_t *numbers, uint32_t *staged);
+purse_finished purse_create_v(const uint8_t *device, size_t len, uint8_t *work, size_t work_len, uint64_t *numbers, uint32_t *staged,
     const uint8_t *name, size_t name_len);
-purse_finished purse_remove_v(const uint8_t *device, size_t len, uint8_t *work, size_t work_len, purse_head head, uint32_t *staged,
+purse_finished purse_remove_v(const uint8_t *device, size_t len, uint8_t *work, size_t work_len, uint64_t *numbers, uint32_t *staged,
     const uint8_t *name, size_t name_len);
-purse_finished purse_rename_v(const uint8_t *device, size_t len, uint8_t *work, size_t work_len, purse_head head, uint32_t *staged,
+purse_finished purse_rename_v(const uint8_t *device, size_t len, uint8_t *work, size_t work_len, uint64_t *numbers, uint32_t *staged,
     const uint8_t *name, size_t name_len, const uint8_t *new_name, size_t new_name_len);
-purse_finished purse_write_v(const uint8_t *device, size_t len, uint8_t *work, size_t work_len, purse_head head, uint32_t *staged,
+purse_finished purse_write_v(const uint8_t *device, size_t len, uint8_t *work, size_t work_len, uint64_t *numbers, uint32_t *staged,
     const uint8_t *name, size_t name_len, uint64_t x, const uint8_t *bytes, size_t n);
-purse_finished purse_set_size_v(const uint8_t *device, size_t len, uint8_t *work, size_t work_len, purse_head head, uint32_t *staged,
+purse_finished purse_set_size_v(const uint8_t *device, size_t len, uint8_t *work, size_t work_len, uint64_t *numbers, uint32_t *staged,
     const uint8_t *name, size_t name_len, uint64_t size);
 purse_counted purse_read_v(const uint8_t *device, size_t len, const uint8_t *work, size_t work_len, const uint64_t *numbers,
     const uint8_t *name, size_t name_len, const uint32_t *staged, uint64_t x, uint8_t *buffer, size_t n);
@@ -160,7 +152,7 @@ purse_counted purse_size_v(const uint8_t *device, size_t len, const uint8_t *wor
     const uint8_t *name, size_t name_len, const uint32_t *staged);
 purse_counted purse_free_count_v(const uint8_t *device, size_t len, const uint8_t *work, size_t work_len, const uint64_t *numbers, const uint32_t *staged);
 purse_recorded purse_record_v(const uint8_t *device, size_t len, const uint8_t *work, size_t work_len, const uint64_t *numbers, const uint32_t *staged,
-    uint64_t i);
+    uint64_t i, uint8_t *name);
 purse_run purse_nth_extent_v(const uint8_t *device, size_t len, const uint8_t *work, size_t work_len, const uint64_t *numbers,
     const uint8_t *name, size_t name_len, const uint32_t *staged, uint64_t from, uint64_t n, uint64_t k);
 purse_counted purse_run_list_v(const uint8_t *device, size_t len, const uint8_t *work, size_t work_len, const uint64_t *numbers,
@@ -168,107 +160,90 @@ purse_counted purse_run_list_v(const uint8_t *device, size_t len, const uint8_t 
 
 /* ---- The calls */
 
-static inline purse_head purse_head_of(const purse_session *s)
+/* The four numbers stand first in the session. */
+static inline uint64_t *purse_numbers_in(purse_session *s)
 {
-    purse_head h = { s->blocks, s->phase, s->place, s->count };
-    return h;
+    return (uint64_t *)s;
 }
 
-/* The four numbers stand first in the session. */
 static inline const uint64_t *purse_numbers_of(const purse_session *s)
 {
     return (const uint64_t *)s;
 }
 
-static inline void purse_keep(purse_session *s, purse_head h)
-{
-    s->blocks = h.blocks;
-    s->phase = h.phase;
-    s->place = h.place;
-    s->count = h.count;
-}
-
-static inline uint32_t purse_finish(purse_finished r, purse_session *s)
-{
-    purse_keep(s, r.head);
-    return r.refusal;
-}
-
 /* Makes an empty store of the device, whatever was on it; the session is then closed. Write the whole image through. */
 static inline uint32_t purse_format(uint8_t *device, size_t len, purse_session *s)
 {
-    return purse_finish(purse_format_v(device, len, purse_head_of(s), s->staged), s);
+    return purse_format_v(device, len, purse_numbers_in(s), s->staged).refusal;
 }
 
 /* Opens the device, whatever the session was. It is then ready, or recovering if the power was cut in a commit: advance until the last store,
  * then open again. *record: for refusal 10 the damaged record of block 0, else 0. */
 static inline uint32_t purse_open(const uint8_t *device, size_t len, purse_session *s, uint64_t *record)
 {
-    purse_finished r = purse_open_v(device, len, purse_head_of(s), s->staged);
+    purse_finished r = purse_open_v(device, len, purse_numbers_in(s), s->staged);
     *record = r.fault;
-    return purse_finish(r, s);
+    return r.refusal;
 }
 
 /* Stores one block of a commit or a recovery in the device image, and tells which: bytes 512 * block on. Write it through before the next
  * call. After the last store of a commit the session is ready, after that of a recovery closed. */
 static inline uint32_t purse_advance(uint8_t *device, size_t len, const uint8_t *work, size_t work_len, purse_session *s, purse_store *out)
 {
-    purse_advanced r = purse_advance_v(device, len, work, work_len, purse_head_of(s), s->staged);
+    purse_advanced r = purse_advance_v(device, len, work, work_len, purse_numbers_in(s), s->staged);
     out->block = r.block;
     out->last = r.last;
     out->number = r.number;
-    purse_keep(s, r.head);
     return r.refusal;
 }
 
 /* Starts the commit of the transaction. *stores: how many advances it takes, 0 if nothing was changed. */
 static inline uint32_t purse_commit(const uint8_t *device, size_t len, const uint8_t *work, size_t work_len, purse_session *s, uint64_t *stores)
 {
-    purse_committed r = purse_commit_v(device, len, work, work_len, purse_head_of(s), s->staged);
+    purse_committed r = purse_commit_v(device, len, work, work_len, purse_numbers_in(s), s->staged);
     *stores = r.stores;
-    purse_keep(s, r.head);
     return r.refusal;
 }
 
 /* Gives up the changes of this transaction. */
 static inline uint32_t purse_abort(const uint8_t *device, size_t len, const uint8_t *work, size_t work_len, purse_session *s)
 {
-    return purse_finish(purse_abort_v(device, len, work, work_len, purse_head_of(s), s->staged), s);
+    return purse_abort_v(device, len, work, work_len, purse_numbers_in(s), s->staged).refusal;
 }
 
 /* Makes an empty file. */
 static inline uint32_t purse_create(const uint8_t *device, size_t len, uint8_t *work, size_t work_len, purse_session *s, const uint8_t *name,
     size_t name_len)
 {
-    return purse_finish(purse_create_v(device, len, work, work_len, purse_head_of(s), s->staged, name, name_len), s);
+    return purse_create_v(device, len, work, work_len, purse_numbers_in(s), s->staged, name, name_len).refusal;
 }
 
 /* Removes a file; its blocks are free at once. */
 static inline uint32_t purse_remove(const uint8_t *device, size_t len, uint8_t *work, size_t work_len, purse_session *s, const uint8_t *name,
     size_t name_len)
 {
-    return purse_finish(purse_remove_v(device, len, work, work_len, purse_head_of(s), s->staged, name, name_len), s);
+    return purse_remove_v(device, len, work, work_len, purse_numbers_in(s), s->staged, name, name_len).refusal;
 }
 
 /* Gives a file a name that no file has. */
 static inline uint32_t purse_rename(const uint8_t *device, size_t len, uint8_t *work, size_t work_len, purse_session *s, const uint8_t *name,
     size_t name_len, const uint8_t *new_name, size_t new_name_len)
 {
-    return purse_finish(purse_rename_v(device, len, work, work_len, purse_head_of(s), s->staged, name, name_len, new_name, new_name_len), s);
+    return purse_rename_v(device, len, work, work_len, purse_numbers_in(s), s->staged, name, name_len, new_name, new_name_len).refusal;
 }
 
 /* Writes n bytes into a file from byte x on. The file grows where they end behind it; a gap before x is zeros. */
 static inline uint32_t purse_write(const uint8_t *device, size_t len, uint8_t *work, size_t work_len, purse_session *s, const uint8_t *name,
     size_t name_len, uint64_t x, const uint8_t *bytes, size_t n)
 {
-    return purse_finish(purse_write_v(device, len, work, work_len, purse_head_of(s), s->staged, name, name_len, x, bytes, n), s);
+    return purse_write_v(device, len, work, work_len, purse_numbers_in(s), s->staged, name, name_len, x, bytes, n).refusal;
 }
 
 /* Cuts a file to a size, or lengthens it by zeros. */
 static inline uint32_t purse_set_size(const uint8_t *device, size_t len, uint8_t *work, size_t work_len, purse_session *s, const uint8_t *name,
     size_t name_len, uint64_t size)
 {
-    return purse_finish(purse_set_size_v(device, len, work, work_len, purse_head_of(s), s->staged, name, name_len, size), s);
+    return purse_set_size_v(device, len, work, work_len, purse_numbers_in(s), s->staged, name, name_len, size).refusal;
 }
 
 /* Reads up to n bytes of a file from byte x on, changes of this transaction included. *count: how many; the rest of the buffer stays. */
@@ -302,11 +277,9 @@ static inline uint32_t purse_free_count(const uint8_t *device, size_t len, const
 static inline uint32_t purse_record(const uint8_t *device, size_t len, const uint8_t *work, size_t work_len, const purse_session *s, uint64_t i,
     purse_file *out)
 {
-    purse_recorded r = purse_record_v(device, len, work, work_len, purse_numbers_of(s), s->staged, i);
+    purse_recorded r = purse_record_v(device, len, work, work_len, purse_numbers_of(s), s->staged, i, out->name);
     out->used = r.used;
     out->size = r.size;
-    for (size_t k = 0; k < sizeof out->name; k++)
-        out->name[k] = r.name[k];
     return r.refusal;
 }
 

@@ -102,91 +102,59 @@ fn calls(table: &mut Table, title: &str, image: &Image, file: u32, rounds: usize
     table.row("remove", b.time(|s| s.remove(&a).unwrap(), |d, w, s| plain::remove(d, w, s, &a).unwrap()));
 }
 
-/// Three small writes, one transaction, all its stores; and memcpy of as many blocks.
-fn sale(table: &mut Table, image: &Image, rounds: usize) {
-    let mut b = Bench::new(image, rounds);
-    let names = [name(0), name(1), name(2)];
-    let bytes = [9u8; 8];
-    table.head("a sale: three writes of 8 bytes, commit, 8 stores");
-    let pair = b.time(
-        |s| {
-            for a in &names {
-                s.write(a, 0, &bytes).unwrap();
-            }
-            assert_eq!(s.commit_whole(), Ok(8));
-        },
+/// The stores of a transaction, made from where it is staged.
+fn stores(b: &mut Bench, raw: RawSession, plain: plain::Session) -> Pair {
+    b.raw = raw;
+    b.plain = plain;
+    b.time(
+        |s| _ = black_box(s.commit_whole()),
         |d, w, s| {
-            for a in &names {
-                plain::write(d, w, s, a, 0, &bytes).unwrap();
-            }
-            assert_eq!(plain::commit(d, w, s), Ok(8));
+            _ = black_box(plain::commit(d, w, s));
             while let Ok(Some(_)) = plain::advance(d, w, s) {}
         },
-    );
-    table.row("whole sale", pair);
-    let stores = b.time(
-        |s| {
-            for a in &names {
-                s.write(a, 0, &bytes).unwrap();
-            }
-        },
-        |d, w, s| {
-            for a in &names {
-                plain::write(d, w, s, a, 0, &bytes).unwrap();
-            }
-        },
-    );
-    table.row("its writes alone", stores);
-    let mut to = vec![0u8; 8 * 512];
-    let from = vec![1u8; 8 * 512];
-    let copies = spread(rounds, |n, _| {
-        for _ in 0..n {
-            for k in 0..8 {
-                to[512 * k..512 * k + 512].copy_from_slice(black_box(&from[512 * k..512 * k + 512]));
-            }
-            black_box(&mut to);
-        }
-    });
-    table.note("memcpy of 8 blocks", copies.proved);
-    table.note("commit and 8 stores, against that memcpy (times)", (pair.proved - stores.proved) / copies.proved);
+    )
 }
 
-/// A commit of 30 blocks and its 62 stores.
-fn bulk(table: &mut Table, image: &Image, rounds: usize) {
-    let mut b = Bench::new(image, rounds);
-    let a = name(0);
-    let bytes = vec![3u8; 29 * 512];
-    table.head("a write of 29 blocks into a new stretch, commit, all stores");
-    let pair = b.time(
-        |s| {
-            s.write(&a, 512, &bytes).unwrap();
-        },
-        |d, w, s| {
-            plain::write(d, w, s, &a, 512, &bytes).unwrap();
-        },
-    );
-    table.row("write", pair);
-    let device = b.device.clone();
-    let whole = {
-        let (work, raw, session) = (&mut b.work, b.raw, b.plain.clone());
-        let mut d1 = device.clone();
-        spread(rounds, |n, first| {
-            for _ in 0..n {
-                d1[33 * 512..].copy_from_slice(&device[33 * 512..]);
-                if first {
-                    let mut s = Store::resume(&mut d1, work, raw);
-                    s.write(&a, 512, &bytes).unwrap();
-                    s.commit_whole().unwrap();
-                } else {
-                    let mut s = session.clone();
-                    plain::write(&mut d1, work, &mut s, &a, 512, &bytes).unwrap();
-                    plain::commit(&d1, work, &mut s).unwrap();
-                    while let Ok(Some(_)) = plain::advance(&mut d1, work, &mut s) {}
-                }
+/// The same blocks copied: images to the log, log blocks to their targets, and two more for block 0.
+fn copies(b: &mut Bench, raw: RawSession) -> f64 {
+    let (k, rounds) = (raw.count as usize, b.rounds);
+    let (device, work) = (&mut b.device, &b.work);
+    let (list, zeros) = ([1u8; 512], [0u8; 512]);
+    let pair = spread(rounds, |n, _| {
+        for _ in 0..n {
+            for i in 0..k {
+                device[512 + 512 * i..1024 + 512 * i].copy_from_slice(black_box(&work[512 * i..512 * i + 512]));
             }
-        })
-    };
-    table.row("write, commit, stores (and the device set back)", whole);
+            device[..512].copy_from_slice(black_box(&list));
+            for i in 0..k {
+                let to = 512 * raw.staged[i] as usize;
+                let (log, targets) = device.split_at_mut(to);
+                targets[..512].copy_from_slice(black_box(&log[512 + 512 * i..1024 + 512 * i]));
+            }
+            device[..512].copy_from_slice(black_box(&zeros));
+            black_box(&mut *device);
+        }
+    });
+    pair.proved.min(pair.rust)
+}
+
+/// What a transaction writes, alone and with its commit and all stores; and memcpy of the same blocks.
+fn transaction(table: &mut Table, title: &str, image: &Image, rounds: usize, writes: &[([u8; 8], u64, &[u8])]) {
+    let mut b = Bench::new(image, rounds);
+    table.head(title);
+    let proved = |s: &mut Store| writes.iter().for_each(|(a, x, bytes)| s.write(a, *x, bytes).unwrap());
+    let rust = |d: &mut [u8], w: &mut [u8], s: &mut plain::Session| writes.iter().for_each(|(a, x, bytes)| plain::write(d, w, s, a, *x, bytes).unwrap());
+    table.row("writes", b.time(proved, rust));
+    let mut store = Store::resume(&mut b.device, &mut b.work, b.raw);
+    proved(&mut store);
+    let (raw, mut plain) = (store.session(), b.plain.clone());
+    rust(&mut b.device, &mut b.work, &mut plain);
+    let pair = stores(&mut b, raw, plain);
+    table.row("commit and stores", pair);
+    let copies = copies(&mut b, raw);
+    table.note(&format!("memcpy of the same {} blocks", 2 * raw.count + 2), copies);
+    table.note("commit and stores against that memcpy (times)", pair.proved / copies);
+    table.note("those of the plain store (times)", pair.rust / copies);
 }
 
 fn opens(table: &mut Table, rounds: usize) {
@@ -215,8 +183,11 @@ fn main() {
     calls(&mut table, "N = 4,096, a file of 100 blocks in one stretch", &Image::even(4096, 4, 51_200), 3, rounds);
     calls(&mut table, "N = 4,096, a file of 2,000 blocks in one stretch", &Image::even(4096, 1, 1_024_000), 0, rounds);
     calls(&mut table, "N = 4,096, a file of 500 blocks in 500 extents", &Image::scattered(4096, 500), 0, rounds);
-    sale(&mut table, &Image::even(512, 64, 600), rounds);
-    bulk(&mut table, &Image::even(512, 4, 512), rounds);
+    let (small, large) = ([9u8; 8], vec![3u8; 29 * 512]);
+    let sale = [(name(0), 0, &small[..]), (name(1), 0, &small[..]), (name(2), 0, &small[..])];
+    transaction(&mut table, "a sale: three writes of 8 bytes, 8 stores", &Image::even(512, 64, 600), rounds, &sale);
+    let bulk = [(name(0), 512, &large[..])];
+    transaction(&mut table, "a write of 29 blocks into a new stretch, 64 stores", &Image::even(512, 4, 512), rounds, &bulk);
     opens(&mut table, rounds);
     table.foot();
 }

@@ -30,13 +30,13 @@ use Rattle.extents.proofs.Laws.{BegunIn, Grown, grow-none, grow-last}
 use Rattle.runlist.specs.Lists.{countsOf, countOk, namedRuns, manyOf, filled}
 use Rattle.runlist.proofs.Laws.{Told, told, count-bad, count-fine, count-short}
 use Rattle.mirror.specs.declared.CCounted.{CCounted}
-use Rattle.mirror.specs.declared.CHead.{CHead}
+use Rattle.mirror.specs.declared.Head.{Head}
 use Rattle.mirror.specs.declared.CFinished.{CFinished}
 use Rattle.transaction.specs.Places.{sessionOf}
-use Rattle.mirror.proofs.Laws.{finishes}
+use Rattle.mirror.proofs.Laws.{ends}
 use Rattle.journal.specs.Entries.{behind}
 use Rattle.spec.specs.declared.Stored.{Stored}
-use Rattle.mirror.specs.Mirror.{phaseOf, headOf, encode, decode, countedOf, finishedOf, Finishes, Lists, extentsOf, withExtents}
+use Rattle.mirror.specs.Mirror.{phaseOf, headIn, numbersOf, headOf, encode, decode, countedOf, finishedOf, Ends, Lists, extentsOf, withExtents}
 use Rattle.checks.specs.Checks.{Seen}
 use Rattle.lookup.proofs.Laws.{seen-lent}
 use Rattle.transaction.proofs.Laws.{length-staged, lent-few}
@@ -217,7 +217,7 @@ module _ (s : State) (name : List ℕ) (from n : ℕ) (cells : List ℕ) where
 
 -- ---- the session that numbers and cells stand for
 
-module _ (h : CHead) (l : List ℕ) (n : ℕ) (k : length l ≡ 32) (e : n ≡ min (h .count) 32) where
+module _ (h : Head) (l : List ℕ) (n : ℕ) (k : length l ≡ 32) (e : n ≡ min (h .count) 32) where
   -- it is seen by the numbers and the cells in use
   pub seen : (p : Phase) → p ≡ phaseOf (h .phase) (h .place) → Seen (h .blocks) p (take (n - 0) (drop 0 l)) (decode h l)
   seen p f =
@@ -232,14 +232,19 @@ in-numbers r q before after o e l = rw e l
 
 -- ---- the numbers behind an answer of advance that stores nothing
 
-pub head-same : (h : CHead) (p : Phase) (l : List ℕ) → p ≡ phaseOf (h .phase) (h .place) → (a : Stored) → behind p (decode h l) a ≡ decode h l
+pub head-same : (h : Head) (p : Phase) (l : List ℕ) → p ≡ phaseOf (h .phase) (h .place) → (a : Stored) → behind p (decode h l) a ≡ decode h l
     → headOf (h .blocks) p (h .count) ≡ encode (behind p (decode h l) a)
 head-same h p l e a f = rw f (ap (λ (q : Phase). headOf (h .blocks) q (h .count)) e)
 
--- a call on the session that numbers and cells stand for, given its parts
-pub finishes-in : (f : Session → Outcome) (h : CHead) (p : Phase) (cells left-cells : List ℕ) (count : ℕ) (d w : List ℕ) (a : Answer) → p ≡ phaseOf (h .phase) (h .place)
-    → left (sessionOf (h .blocks) p left-cells count) d w a ≡ f (sessionOf (h .blocks) p cells (h .count))
-    → (r : CFinished) → r ≡ finishedOf (sessionOf (h .blocks) p left-cells count) a → Finishes r left-cells d w (f (decode h cells))
-finishes-in f h p cells left-cells count d w a e q r g =
-    finishes f (sessionOf (h .blocks) p cells (h .count)) (decode h cells) (ap (λ (x : Phase). sessionOf (h .blocks) x cells (h .count)) e)
-    (sessionOf (h .blocks) p left-cells count) d w a q r g left-cells refl
+-- a call on the session that lent numbers and cells stand for, given its parts
+module _ (f : Session → Outcome) (ns : List ℕ) (h : Head) (is : h ≡ headIn ns) where
+  pub ends-of : {R : Type 0} (m : Answer → R) (cells : List ℕ) (s : Session) (d w : List ℕ) (a : Answer) → left s d w a ≡ f (decode h cells)
+      → (r : R) → r ≡ m a → (after l : List ℕ) → after ≡ numbersOf (encode s) → l ≡ s .staged → Ends m r after l d w (f (decode (headIn ns) cells))
+  ends-of m cells s d w a q r g after l n k = ends f (decode h cells) (decode (headIn ns) cells) (ap (λ (x : Head). decode x cells) is) s d w a q m r g after l n k
+
+  pub ends-in : (p : Phase) (cells left-cells : List ℕ) (count : ℕ) (d w : List ℕ) (a : Answer) → p ≡ phaseOf (h .phase) (h .place)
+      → left (sessionOf (h .blocks) p left-cells count) d w a ≡ f (sessionOf (h .blocks) p cells (h .count))
+      → (r : CFinished) (after : List ℕ) → (r ≡ finishedOf a) × (after ≡ numbersOf (headOf (h .blocks) p count))
+      → Ends finishedOf r after left-cells d w (f (decode (headIn ns) cells))
+  ends-in p cells left-cells count d w a e q r after g =
+      ends-of finishedOf cells (sessionOf (h .blocks) p left-cells count) d w a (q ∙ ap (λ (x : Phase). f (sessionOf (h .blocks) x cells (h .count))) e) r (g .0) after left-cells (g .1) refl

@@ -1,6 +1,6 @@
-// The calls of the store for C: structs of numbers by value, and lent slices, each a pointer and a length. include/purse.h declares them.
-// A session is its numbers by value, or lent where a call only reads, and its 32 cells lent. Each promise: all that is returned and left is the call's outcome, in numbers, at
-// the session that the numbers and the cells given stand for.
+// The calls of the store for C: answers as structs of numbers, and lent slices, each a pointer and a length. include/purse.h declares them.
+// A session is lent: its four numbers and its 32 cells. Each promise: all that is returned and left is the call's outcome, in numbers, at the
+// session that the numbers and the cells given stand for.
 // A refusal hands back that session in its own numbers: phase 0 where the number given was none, place 0 where the phase has none.
 use block::ByteOffset;
 use block::DiskBlock;
@@ -14,6 +14,8 @@ use extents::take_node;
 use extents::take_slot;
 use inode::inode_block_in;
 use journal::advance_in;
+use journal::begun_phase;
+use journal::commit_in;
 use journal::last_phase;
 use journal::phase_at;
 use lookup::Looked;
@@ -22,17 +24,18 @@ use mirror::CAdvanced;
 use mirror::CCommitted;
 use mirror::CCounted;
 use mirror::CFinished;
-use mirror::CHead;
 use mirror::CRecord;
 use mirror::CRun;
+use mirror::Head;
 use mirror::advanced;
 use mirror::committed;
 use mirror::counted;
 use mirror::decode;
+use mirror::encode;
 use mirror::finished;
-use mirror::finished_with;
 use mirror::head_in;
 use mirror::head_of;
+use mirror::keep;
 use mirror::phase_in;
 use mirror::recorded;
 use mirror::run;
@@ -44,11 +47,11 @@ use query::record_in;
 use query::size_in;
 use spec::Counted;
 use spec::Extent;
+use spec::Finished;
 use spec::Phase;
 use spec::Refusal;
 use spec::Stored;
 use store::abort;
-use store::commit;
 use store::format;
 use store::open_store;
 use transaction::view_in;
@@ -66,46 +69,58 @@ ghost use Rattle.spec.specs.Transaction.{stateOf};
 ghost use Rattle.spec.specs.Calls.{format, openStore, advance, commit, abort, create, remove, rename, write, setSize, read, sizeOf, freeCount, recordAt, nthExtent, runList};
 ghost use Rattle.spec.specs.declared.Session.{Session};
 ghost use Rattle.spec.specs.declared.Phase.{Phase};
-ghost use Rattle.mirror.specs.declared.CHead.{CHead};
+ghost use Rattle.mirror.specs.declared.Head.{Head};
 ghost use Rattle.journal.specs.Entries.{behind};
 ghost use Rattle.checks.specs.Checks.{Seen};
-ghost use Rattle.transaction.specs.Places.{sessionOf, viewIn};
+ghost use Rattle.transaction.specs.Places.{viewIn};
 ghost use Rattle.extents.specs.Stretches.{runsIn};
 ghost use Rattle.capi.specs.Cells.{Put, Last, Listed};
-ghost use Rattle.mirror.specs.Mirror.{phaseOf, headIn, decode, encode, finishedOf, countedOf, recordedOf, runOf, Finishes, Commits, Advances, Reads, Lists, extentsOf};
+ghost use Rattle.mirror.specs.Mirror.{phaseOf, headIn, numbersOf, headOf, decode, encode, finishedOf, committedOf, advancedOf, countedOf, runOf, Ends, Reads, Names, Lists, extentsOf};
+
+// What a call of a session by value leaves, in numbers.
+fn settled(numbers: &mut [u64; 4], staged: &mut [u32; 32], f: Finished) -> CFinished
+    ensures { λ r. ⌜ (r ≡ finishedOf (doneOf (f .answer))) × (now (numbers .exit) ≡ numbersOf (encode (f .session))) × (now (staged .exit) ≡ f .session .staged) ⌝ }
+{
+    let s = f.session;
+    let cells = s.staged;
+    let answer = f.answer;
+    *staged = cells;
+    keep(numbers, encode(s));
+    finished(answer)
+}
 
 // Makes an empty store. The work space is not lent: whatever it holds stays.
 #[no_mangle]
 pub extern "C" fn purse_format_v(
     device: &mut [u8],
-    head: CHead,
+    numbers: &mut [u64; 4],
     staged: &mut [u32; 32],
 ) -> CFinished
-    ensures { λ r. ⌜ ((work : List ℕ) → Finishes r (now (staged .exit)) (now (device .exit)) work (format (stateOf (decode head (now (staged .entry))) (now (device .entry)) work))) ⌝ }
+    ensures { λ r. ⌜ ((work : List ℕ) → Ends finishedOf r (now (numbers .exit)) (now (staged .exit)) (now (device .exit)) work
+        (format (stateOf (decode (headIn (now (numbers .entry))) (now (staged .entry))) (now (device .entry)) work))) ⌝ }
 {
-    let before = decode(head, *staged);
+    let before = decode(head_in(numbers), *staged);
     let after = format(device, before);
-    let s = after.session;
-    let cells = s.staged;
-    *staged = cells;
-    finished(after)
+    settled(numbers, staged, after)
 }
 
 // Opens a device: recovering where its header lists targets, else ready.
 #[no_mangle]
-pub extern "C" fn purse_open_v(device: &[u8], head: CHead, staged: &mut [u32; 32]) -> CFinished
-    ensures { λ r. ⌜ ((work : List ℕ) → Finishes r (now (staged .exit)) (now (device .entry)) work (openStore (stateOf (decode head (now (staged .entry))) (now (device .entry)) work))) ⌝ }
+pub extern "C" fn purse_open_v(
+    device: &[u8],
+    numbers: &mut [u64; 4],
+    staged: &mut [u32; 32],
+) -> CFinished
+    ensures { λ r. ⌜ ((work : List ℕ) → Ends finishedOf r (now (numbers .exit)) (now (staged .exit)) (now (device .entry)) work
+        (openStore (stateOf (decode (headIn (now (numbers .entry))) (now (staged .entry))) (now (device .entry)) work))) ⌝ }
 {
-    let before = decode(head, *staged);
+    let before = decode(head_in(numbers), *staged);
     let after = open_store(device, before);
-    let s = after.session;
-    let cells = s.staged;
-    *staged = cells;
-    finished(after)
+    settled(numbers, staged, after)
 }
 
 // The numbers behind an answer of advance.
-fn head_behind(h: CHead, phase: Phase, answer: Stored) -> CHead
+fn head_behind(h: Head, phase: Phase, answer: Stored) -> Head
     ensures { λ r. ⌜ ((l : List ℕ) → phase ≡ phaseOf (h .phase) (h .place) → r ≡ encode (behind phase (decode h l) answer)) ⌝ }
 {
     match answer {
@@ -126,7 +141,7 @@ fn head_behind(h: CHead, phase: Phase, answer: Stored) -> CHead
 
 // The cells behind it: none is in use behind the last store.
 fn forget(staged: &mut [u32; 32], answer: Stored)
-    ensures { λ _. ⌜ ((p : Phase) (h : CHead) → now (staged .exit) ≡ behind p (decode h (now (staged .entry))) answer .staged) ⌝ }
+    ensures { λ _. ⌜ ((p : Phase) (h : Head) → now (staged .exit) ≡ behind p (decode h (now (staged .entry))) answer .staged) ⌝ }
 {
     match answer {
         Stored::Refused(_) => {}
@@ -149,38 +164,45 @@ fn forget(staged: &mut [u32; 32], answer: Stored)
 pub extern "C" fn purse_advance_v(
     device: &mut [u8],
     work: &[u8],
-    head: CHead,
+    numbers: &mut [u64; 4],
     staged: &mut [u32; 32],
 ) -> CAdvanced
-    ensures { λ r. ⌜ Advances r (now (staged .exit)) (now (device .exit)) (now (work .entry))
-        (advance (stateOf (decode head (now (staged .entry))) (now (device .entry)) (now (work .entry)))) ⌝ }
+    ensures { λ r. ⌜ Ends advancedOf r (now (numbers .exit)) (now (staged .exit)) (now (device .exit)) (now (work .entry))
+        (advance (stateOf (decode (headIn (now (numbers .entry))) (now (staged .entry))) (now (device .entry)) (now (work .entry)))) ⌝ }
 {
+    let head = head_in(numbers);
     let blocks = head.blocks as usize;
     let phase = phase_in(head);
     let cells: &[u32] = staged;
     let used = &cells[0..staged_in(head)];
     let answer = advance_in(device, work, blocks, phase, used);
     forget(staged, answer);
-    advanced(head_behind(head, phase, answer), answer)
+    keep(numbers, head_behind(head, phase, answer));
+    advanced(answer)
 }
 
-// Starts the stores of a commit and tells how many they are.
+// Starts the stores of a commit and tells how many they are. No cell changes.
 #[no_mangle]
 pub extern "C" fn purse_commit_v(
     device: &[u8],
     work: &[u8],
-    head: CHead,
-    staged: &mut [u32; 32],
+    numbers: &mut [u64; 4],
+    staged: &[u32; 32],
 ) -> CCommitted
-    ensures { λ r. ⌜ Commits r (now (staged .exit)) (now (device .entry)) (now (work .entry))
-        (commit (stateOf (decode head (now (staged .entry))) (now (device .entry)) (now (work .entry)))) ⌝ }
+    ensures { λ r. ⌜ Ends committedOf r (now (numbers .exit)) (now (staged .entry)) (now (device .entry)) (now (work .entry))
+        (commit (stateOf (decode (headIn (now (numbers .entry))) (now (staged .entry))) (now (device .entry)) (now (work .entry)))) ⌝ }
 {
-    let before = decode(head, *staged);
-    let after = commit(device, work, before);
-    let s = after.session;
-    let cells = s.staged;
-    *staged = cells;
-    committed(after)
+    let head = head_in(numbers);
+    let blocks = head.blocks as usize;
+    let phase = phase_in(head);
+    let cells: &[u32] = staged;
+    let used = &cells[0..staged_in(head)];
+    let answer = commit_in(device, work, blocks, phase, used.len());
+    keep(
+        numbers,
+        head_of(head.blocks, begun_phase(phase, answer), head.count),
+    );
+    committed(answer)
 }
 
 // Empties the transaction.
@@ -188,26 +210,24 @@ pub extern "C" fn purse_commit_v(
 pub extern "C" fn purse_abort_v(
     device: &[u8],
     work: &[u8],
-    head: CHead,
+    numbers: &mut [u64; 4],
     staged: &mut [u32; 32],
 ) -> CFinished
-    ensures { λ r. ⌜ Finishes r (now (staged .exit)) (now (device .entry)) (now (work .entry))
-        (abort (stateOf (decode head (now (staged .entry))) (now (device .entry)) (now (work .entry)))) ⌝ }
+    ensures { λ r. ⌜ Ends finishedOf r (now (numbers .exit)) (now (staged .exit)) (now (device .entry)) (now (work .entry))
+        (abort (stateOf (decode (headIn (now (numbers .entry))) (now (staged .entry))) (now (device .entry)) (now (work .entry)))) ⌝ }
 {
-    let before = decode(head, *staged);
+    let before = decode(head_in(numbers), *staged);
     let after = abort(device, work, before);
-    let s = after.session;
-    let cells = s.staged;
-    *staged = cells;
-    finished(after)
+    settled(numbers, staged, after)
 }
 
-// What a call that changed a session's cells answers, in numbers: blocks and phase are as they were.
-fn settled(head: CHead, phase: Phase, c: Changed) -> CFinished
-    ensures { λ r. ⌜ ((l : List ℕ) → r ≡ finishedOf (sessionOf (head .blocks) phase l (c .count)) (doneOf (c .answer))) ⌝ }
+// What a call that changed a session's cells leaves, in numbers: blocks and phase are as they were.
+fn changed(numbers: &mut [u64; 4], blocks: u64, phase: Phase, c: Changed) -> CFinished
+    ensures { λ r. ⌜ (r ≡ finishedOf (doneOf (c .answer))) × (now (numbers .exit) ≡ numbersOf (headOf blocks phase (c .count))) ⌝ }
 {
     let answer = c.answer;
-    finished_with(head_of(head.blocks, phase, c.count as u64), answer)
+    keep(numbers, head_of(blocks, phase, c.count as u64));
+    finished(answer)
 }
 
 // Makes an empty file.
@@ -215,18 +235,19 @@ fn settled(head: CHead, phase: Phase, c: Changed) -> CFinished
 pub extern "C" fn purse_create_v(
     device: &[u8],
     work: &mut [u8],
-    head: CHead,
+    numbers: &mut [u64; 4],
     staged: &mut [u32; 32],
     name: &[u8],
 ) -> CFinished
-    ensures { λ r. ⌜ Finishes r (now (staged .exit)) (now (device .entry)) (now (work .exit))
-        (create (stateOf (decode head (now (staged .entry))) (now (device .entry)) (now (work .entry))) (now (name .entry))) ⌝ }
+    ensures { λ r. ⌜ Ends finishedOf r (now (numbers .exit)) (now (staged .exit)) (now (device .entry)) (now (work .exit))
+        (create (stateOf (decode (headIn (now (numbers .entry))) (now (staged .entry))) (now (device .entry)) (now (work .entry))) (now (name .entry))) ⌝ }
 {
+    let head = head_in(numbers);
     let blocks = head.blocks as usize;
     let phase = phase_in(head);
     let many = head.count as usize;
     let c = create_in(device, work, blocks, phase, staged, many, name);
-    settled(head, phase, c)
+    changed(numbers, head.blocks, phase, c)
 }
 
 // Removes a file.
@@ -234,18 +255,19 @@ pub extern "C" fn purse_create_v(
 pub extern "C" fn purse_remove_v(
     device: &[u8],
     work: &mut [u8],
-    head: CHead,
+    numbers: &mut [u64; 4],
     staged: &mut [u32; 32],
     name: &[u8],
 ) -> CFinished
-    ensures { λ r. ⌜ Finishes r (now (staged .exit)) (now (device .entry)) (now (work .exit))
-        (remove (stateOf (decode head (now (staged .entry))) (now (device .entry)) (now (work .entry))) (now (name .entry))) ⌝ }
+    ensures { λ r. ⌜ Ends finishedOf r (now (numbers .exit)) (now (staged .exit)) (now (device .entry)) (now (work .exit))
+        (remove (stateOf (decode (headIn (now (numbers .entry))) (now (staged .entry))) (now (device .entry)) (now (work .entry))) (now (name .entry))) ⌝ }
 {
+    let head = head_in(numbers);
     let blocks = head.blocks as usize;
     let phase = phase_in(head);
     let many = head.count as usize;
     let c = remove_in(device, work, blocks, phase, staged, many, name);
-    settled(head, phase, c)
+    changed(numbers, head.blocks, phase, c)
 }
 
 // Names a file anew.
@@ -253,19 +275,20 @@ pub extern "C" fn purse_remove_v(
 pub extern "C" fn purse_rename_v(
     device: &[u8],
     work: &mut [u8],
-    head: CHead,
+    numbers: &mut [u64; 4],
     staged: &mut [u32; 32],
     name: &[u8],
     new: &[u8],
 ) -> CFinished
-    ensures { λ r. ⌜ Finishes r (now (staged .exit)) (now (device .entry)) (now (work .exit))
-        (rename (stateOf (decode head (now (staged .entry))) (now (device .entry)) (now (work .entry))) (now (name .entry)) (now (new .entry))) ⌝ }
+    ensures { λ r. ⌜ Ends finishedOf r (now (numbers .exit)) (now (staged .exit)) (now (device .entry)) (now (work .exit))
+        (rename (stateOf (decode (headIn (now (numbers .entry))) (now (staged .entry))) (now (device .entry)) (now (work .entry))) (now (name .entry)) (now (new .entry))) ⌝ }
 {
+    let head = head_in(numbers);
     let blocks = head.blocks as usize;
     let phase = phase_in(head);
     let many = head.count as usize;
     let c = rename_in(device, work, blocks, phase, staged, many, name, new);
-    settled(head, phase, c)
+    changed(numbers, head.blocks, phase, c)
 }
 
 // Bytes laid over a file from byte x on.
@@ -273,15 +296,16 @@ pub extern "C" fn purse_rename_v(
 pub extern "C" fn purse_write_v(
     device: &[u8],
     work: &mut [u8],
-    head: CHead,
+    numbers: &mut [u64; 4],
     staged: &mut [u32; 32],
     name: &[u8],
     x: u64,
     bytes: &[u8],
 ) -> CFinished
-    ensures { λ r. ⌜ Finishes r (now (staged .exit)) (now (device .entry)) (now (work .exit))
-        (write (stateOf (decode head (now (staged .entry))) (now (device .entry)) (now (work .entry))) (now (name .entry)) x (now (bytes .entry))) ⌝ }
+    ensures { λ r. ⌜ Ends finishedOf r (now (numbers .exit)) (now (staged .exit)) (now (device .entry)) (now (work .exit))
+        (write (stateOf (decode (headIn (now (numbers .entry))) (now (staged .entry))) (now (device .entry)) (now (work .entry))) (now (name .entry)) x (now (bytes .entry))) ⌝ }
 {
+    let head = head_in(numbers);
     let blocks = head.blocks as usize;
     let phase = phase_in(head);
     let many = head.count as usize;
@@ -296,7 +320,7 @@ pub extern "C" fn purse_write_v(
         ByteOffset(x as usize),
         bytes,
     );
-    settled(head, phase, c)
+    changed(numbers, head.blocks, phase, c)
 }
 
 // A file cut, or lengthened by zeros.
@@ -304,14 +328,15 @@ pub extern "C" fn purse_write_v(
 pub extern "C" fn purse_set_size_v(
     device: &[u8],
     work: &mut [u8],
-    head: CHead,
+    numbers: &mut [u64; 4],
     staged: &mut [u32; 32],
     name: &[u8],
     size: u64,
 ) -> CFinished
-    ensures { λ r. ⌜ Finishes r (now (staged .exit)) (now (device .entry)) (now (work .exit))
-        (setSize (stateOf (decode head (now (staged .entry))) (now (device .entry)) (now (work .entry))) (now (name .entry)) size) ⌝ }
+    ensures { λ r. ⌜ Ends finishedOf r (now (numbers .exit)) (now (staged .exit)) (now (device .entry)) (now (work .exit))
+        (setSize (stateOf (decode (headIn (now (numbers .entry))) (now (staged .entry))) (now (device .entry)) (now (work .entry))) (now (name .entry)) size) ⌝ }
 {
+    let head = head_in(numbers);
     let blocks = head.blocks as usize;
     let phase = phase_in(head);
     let many = head.count as usize;
@@ -325,7 +350,7 @@ pub extern "C" fn purse_set_size_v(
         name,
         size as usize,
     );
-    settled(head, phase, c)
+    changed(numbers, head.blocks, phase, c)
 }
 
 // Bytes of a file from byte x on, as many as the buffer takes and the file has; how many.
@@ -399,7 +424,7 @@ pub extern "C" fn purse_free_count_v<'a>(
     counted(answer)
 }
 
-// Name and size of record i, or that it is empty.
+// Name and size of record i, or that it is empty: the name lent is then zero.
 #[no_mangle]
 pub extern "C" fn purse_record_v<'a>(
     device: &'a [u8],
@@ -407,8 +432,9 @@ pub extern "C" fn purse_record_v<'a>(
     numbers: &[u64; 4],
     staged: &[u32; 32],
     i: u64,
+    name: &mut [u8; 8],
 ) -> CRecord
-    ensures { λ r. ⌜ r ≡ recordedOf (recordAt (stateOf (decode (headIn (now (numbers .entry))) (now (staged .entry))) (now (device .entry)) (now (work .entry))) i .answer) ⌝ }
+    ensures { λ r. ⌜ Names r (now (name .exit)) (recordAt (stateOf (decode (headIn (now (numbers .entry))) (now (staged .entry))) (now (device .entry)) (now (work .entry))) i .answer) ⌝ }
 {
     let head = head_in(numbers);
     let blocks = head.blocks as usize;
@@ -416,7 +442,7 @@ pub extern "C" fn purse_record_v<'a>(
     let cells: &[u32] = staged;
     let used = &cells[0..staged_in(head)];
     let answer = record_in(device, work, blocks, phase, used, i as usize);
-    recorded(answer)
+    recorded(answer, name)
 }
 
 // The k-th extent of the run list of n blocks of a file from a block on, counted from 0.

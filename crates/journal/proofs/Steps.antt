@@ -1,12 +1,12 @@
 -- What the functions that choose and make a store leave to prove. Assumes nothing.
-use Prim.Native.Nat.{ℕ, suc, _+_, _*_, _-_, _<_, _≤_}
+use Prim.Native.Nat.{ℕ, zero, suc, _+_, _*_, _-_, _<_, _≤_}
 use mathlib.Core.Path.{_≡_, refl, sym, ap, ap₂, _∙_}
 use mathlib.Core.Bool.{Bool, true, false, not, _||_, true≢false}
 use mathlib.Core.List.{List, []}
 use mathlib.Core.Option.{some}
 use native.Mathlib.Numerals.{add-one}
 use native.Mathlib.Omega.{arith}
-use borrow.Author.Tests.{leb-true, leb-false}
+use borrow.Author.Tests.{leb-true, leb-false, ne-eqb}
 use lib.Dec.{leb}
 use lib.ListN.{length, take, getD, getElem?, replicate}
 use lib.Seq.{length-take-le, take-all, take-length}
@@ -15,19 +15,21 @@ use Rattle.spec.specs.Disk.{Slice, blocksOf, sliceOf}
 use Rattle.spec.specs.declared.Advanced.{Advanced}
 use Rattle.spec.specs.declared.Phase.{Phase}
 use Rattle.spec.specs.declared.Session.{Session}
+use Rattle.spec.specs.declared.Started.{Started}
+use Rattle.spec.specs.declared.Started.the-variants as start
 use Rattle.spec.specs.declared.Stored.{Stored}
 use Rattle.spec.specs.declared.Stored.the-variants as answers
 use Rattle.spec.specs.declared.Stored.the-variants.{Idle}
 use Rattle.spec.specs.Session.{opened, inPhase, stagedIn}
 use Rattle.spec.specs.declared.Phase.the-variants.{Closed, Ready, Committing, Recovering}
-use Rattle.spec.specs.Answers.{idle, storedOf, refusalOf, refuse, accept}
+use Rattle.spec.specs.Answers.{idle, started, storedOf, refusalOf, refuse, accept}
 use Rattle.spec.specs.declared.Refusal.{Refusal}
 use Rattle.spec.specs.Transaction.{BlockStore, put, stateOf}
 use Rattle.spec.specs.Journal.{headerOf, targetsIn, areTargets, commitStores, recoveryStores}
-use Rattle.spec.specs.Calls.{Outcome, perform, advanceIn, advance, left, lentOk}
+use Rattle.spec.specs.Calls.{Outcome, perform, advanceIn, advance, left, lentOk, readyOk, startCommit, commit}
 use Rattle.block.specs.Stores.{storedIn}
 use Rattle.journal.specs.Order.{rank, sorted}
-use Rattle.journal.specs.Entries.{entryContent, entryStore, phaseAt, lastPhase, behind, Told}
+use Rattle.journal.specs.Entries.{entryContent, entryStore, begunPhase, phaseAt, lastPhase, behind, Told}
 use Rattle.journal.specs.declared.Entry.{Entry}
 use Rattle.journal.proofs.Order.{sorted-length, sorted-at}
 use Rattle.journal.proofs.Listed.{targets-listed, targets-some, listed-at}
@@ -260,3 +262,29 @@ module _ (s : Session) (d w : List ℕ) where
   pub advance-fine : (o : Outcome) → accept true ≡ lentOk (stateOf s d w) → o ≡ advanceIn (stateOf s d w) (s .phase) → o ≡ advance (stateOf s d w)
   unfolding advance
   advance-fine o e f = f ∙ rw (← e)
+
+-- ---- a commit begins
+
+pub begun-next : (p : Phase) (a : Started) (n : ℕ) → a ≡ start.Stores n → (n ≡ 0 → ⊥) → Committing 0 ≡ begunPhase p a
+begun-next p a n e h = rw (e, ne-eqb n 0 h)
+
+module _ (s : Session) (d w : List ℕ) (p : Phase) (at : s .phase ≡ p) where
+  stays : inPhase s p ≡ s
+  stays = ap (inPhase s) (sym at)
+
+  pub commit-bad : (r : Refusal) → refuse r ≡ readyOk (stateOf s d w) → left (inPhase s p) d w (refusalOf r) ≡ commit (stateOf s d w)
+  unfolding commit
+  commit-bad r e = rw (stays, ← e)
+
+  pub commit-empty : (k : ℕ) → accept true ≡ readyOk (stateOf s d w) → k ≡ length (stagedIn s) → k ≡ 0 → left (inPhase s p) d w (started 0) ≡ commit (stateOf s d w)
+  unfolding commit
+  commit-empty k e q z = rw (stays, ← e, ← q, z)
+
+  begun : (n k : ℕ) → n ≡ k → (k ≡ 0 → ⊥) → left (inPhase s (begunPhase p (start.Stores (2 * k + 2)))) d w (started (2 * k + 2)) ≡ startCommit (stateOf s d w) n
+  begun zero k q h = absurd (h (sym q))
+  begun (suc n) k q h = rw (← q, ne-eqb (2 * suc n + 2) 0 (λ e. omega arith))
+
+  pub commit-begun : (k : ℕ) → accept true ≡ readyOk (stateOf s d w) → k ≡ length (stagedIn s) → (k ≡ 0 → ⊥)
+      → left (inPhase s (begunPhase p (start.Stores (2 * k + 2)))) d w (started (2 * k + 2)) ≡ commit (stateOf s d w)
+  unfolding commit
+  commit-begun k e q h = rw (← e) (begun (length (stagedIn s)) k (sym q) h)

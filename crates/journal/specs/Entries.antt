@@ -13,6 +13,8 @@ use Rattle.spec.specs.Transaction.{BlockStore, put}
 use Rattle.spec.specs.declared.Advanced.{Advanced}
 use Rattle.spec.specs.declared.Phase.{Phase}
 use Rattle.spec.specs.declared.Phase.the-variants.{Closed, Ready, Committing, Recovering}
+use Rattle.spec.specs.declared.Started.{Started}
+use Rattle.spec.specs.declared.Started.the-variants as start
 use Rattle.spec.specs.declared.Stored.{Stored}
 use Rattle.spec.specs.declared.Stored.the-variants as answer
 use Rattle.spec.specs.declared.Session.{Session}
@@ -30,6 +32,11 @@ entryContent bs device work source.Zeros = zeros blockSize
 
 abbrev pub entryStore : List ℕ → List ℕ → List ℕ → Entry → BlockStore
 entryStore bs device work e = put (e .block .0) (entryContent bs device work (e .source))
+
+-- the phase behind an answer of commit
+abbrev pub begunPhase : Phase → Started → Phase
+begunPhase p (start.Refused r) = p
+begunPhase p (start.Stores n) = cond (eqb n 0) p (Committing 0)
 
 -- the phase behind store number n, and behind the last one
 abbrev pub phaseAt : Phase → ℕ → Phase

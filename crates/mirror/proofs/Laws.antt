@@ -1,6 +1,6 @@
 -- The numbers of sessions and answers: a session is what its numbers stand for, and the cases of the results. Assumes nothing.
 use Prim.Native.Nat.{ℕ}
-use mathlib.Core.Path.{_≡_, refl, ap, ap₂, _∙_, subst}
+use mathlib.Core.Path.{_≡_, refl, sym, ap, ap₂, _∙_, subst}
 use mathlib.Core.Bool.{Bool, cond}
 use mathlib.Core.List.{List, []}
 use lib.ListN.{replicate}
@@ -15,13 +15,13 @@ use Rattle.spec.specs.Answers.{Answer, done, started, stored, idle, counted, fi
 use Rattle.spec.specs.Session.{neverOpened}
 use Rattle.spec.specs.Transaction.{stateOf}
 use Rattle.spec.specs.Calls.{Outcome, left, leftBuffer}
-use Rattle.mirror.specs.declared.CHead.{CHead}
+use Rattle.mirror.specs.declared.Head.{Head}
 use Rattle.mirror.specs.declared.CFinished.{CFinished}
 use Rattle.mirror.specs.declared.CCommitted.{CCommitted}
 use Rattle.mirror.specs.declared.CAdvanced.{CAdvanced}
 use Rattle.mirror.specs.declared.CCounted.{CCounted}
 use Rattle.mirror.specs.declared.CRecord.{CRecord}
-use Rattle.mirror.specs.Mirror.{phaseOf, phaseNumber, placeIn, decode, encode, refusalNumber, faultIn, valuesOf, nameIn, finishedOf, committedOf, advancedOf, countedOf, recordedOf, runOf, Finishes, Commits, Advances, Reads}
+use Rattle.mirror.specs.Mirror.{phaseOf, phaseNumber, placeIn, headIn, numbersOf, decode, encode, refusalNumber, faultIn, valuesOf, nameIn, finishedOf, committedOf, advancedOf, countedOf, recordedOf, runOf, Ends, Reads, Names}
 
 -- ---- sessions
 
@@ -95,63 +95,58 @@ no-name ListShort = refl
 
 -- ---- the cases of the results
 
-module _ (s : Session) (c : CHead) (e : c ≡ encode s) where
-  pub finished-refused : (r : Refusal) (n i : ℕ) → n ≡ refusalNumber (refusalOf r) → i ≡ faultIn (refusalOf r)
-      → record { head = c; refusal = n; fault = i } ≡ finishedOf s (refusalOf r)
-  unfolding finishedOf
-  finished-refused r n i f g = rw (e, f, g)
-
-  pub finished-done : record { head = c; refusal = 0; fault = 0 } ≡ finishedOf s done
-  unfolding finishedOf
-  finished-done = rw e
-
-  pub committed-refused : (r : Refusal) (n : ℕ) → n ≡ refusalNumber (refusalOf r)
-      → record { head = c; refusal = n; stores = 0 } ≡ committedOf s (refusalOf r)
-  unfolding committedOf
-  committed-refused r n f = rw (e, f, no-values r)
-
-  pub committed-started : (n : ℕ) → record { head = c; refusal = 0; stores = n } ≡ committedOf s (started n)
-  unfolding committedOf
-  committed-started n = rw e
-
-  pub advanced-refused : (r : Refusal) (n : ℕ) → n ≡ refusalNumber (refusalOf r)
-      → record { head = c; refusal = n; block = 0; last = 0; number = 0 } ≡ advancedOf s (refusalOf r)
-  unfolding advancedOf
-  advanced-refused r n f = simp (e, f, no-values r)
-
-  pub advanced-stored : (b n x : ℕ) (l : Bool) → x ≡ cond l 1 0
-      → record { head = c; refusal = 0; block = b; last = x; number = n } ≡ advancedOf s (stored b l n)
-  unfolding advancedOf
-  advanced-stored b n x l f = rw (e, f)
-
-  pub advanced-idle : record { head = c; refusal = 0; block = 0; last = 0; number = 0 } ≡ advancedOf s idle
-  unfolding advancedOf
-  advanced-idle = rw e
-
 module _ (r : Refusal) (n : ℕ) (f : n ≡ refusalNumber (refusalOf r)) where
+  pub finished-refused : (i : ℕ) → i ≡ faultIn (refusalOf r) → record { refusal = n; fault = i } ≡ finishedOf (refusalOf r)
+  unfolding finishedOf
+  finished-refused i g = rw (f, g)
+
+  pub committed-refused : record { refusal = n; stores = 0 } ≡ committedOf (refusalOf r)
+  unfolding committedOf
+  committed-refused = rw (f, no-values r)
+
+  pub advanced-refused : record { refusal = n; block = 0; last = 0; number = 0 } ≡ advancedOf (refusalOf r)
+  unfolding advancedOf
+  advanced-refused = simp (f, no-values r)
+
   pub counted-refused : record { refusal = n; count = 0 } ≡ countedOf (refusalOf r)
   unfolding countedOf
   counted-refused = rw (f, no-values r)
 
-  pub recorded-refused : (q : CRecord) → q ≡ record { refusal = n; used = 0; size = 0; name = replicate 8 0 } → q ≡ recordedOf (refusalOf r)
+  pub recorded-refused : (q : CRecord) (name : List ℕ) (a : Answer) → a ≡ refusalOf r → (q ≡ record { refusal = n; used = 0; size = 0 }) × (name ≡ replicate 8 0) → Names q name a
   unfolding recordedOf
-  recorded-refused q e = e ∙ simp (f, no-values r, no-name r)
+  recorded-refused q name a g e = rw g (e .0 ∙ simp (f, no-values r), e .1 ∙ sym (no-name r))
 
   pub run-refused : record { refusal = n; first = 0; count = 0 } ≡ runOf (refusalOf r)
   unfolding runOf
   run-refused = simp (f, no-values r)
 
+pub finished-done : record { refusal = 0; fault = 0 } ≡ finishedOf done
+unfolding finishedOf
+finished-done = refl
+
+pub committed-started : (n : ℕ) → record { refusal = 0; stores = n } ≡ committedOf (started n)
+unfolding committedOf
+committed-started n = refl
+
+pub advanced-stored : (b n x : ℕ) (l : Bool) → x ≡ cond l 1 0 → record { refusal = 0; block = b; last = x; number = n } ≡ advancedOf (stored b l n)
+unfolding advancedOf
+advanced-stored b n x l f = rw f
+
+pub advanced-idle : record { refusal = 0; block = 0; last = 0; number = 0 } ≡ advancedOf idle
+unfolding advancedOf
+advanced-idle = refl
+
 pub counted-count : (n : ℕ) → record { refusal = 0; count = n } ≡ countedOf (counted n)
 unfolding countedOf
 counted-count n = refl
 
-pub recorded-file : (x : List ℕ) (n : ℕ) → record { refusal = 0; used = 1; size = n; name = x } ≡ recordedOf (file x n)
+pub recorded-file : (x : List ℕ) (n : ℕ) (a : Answer) → a ≡ file x n → Names (record { refusal = 0; used = 1; size = n }) x a
 unfolding recordedOf
-recorded-file x n = refl
+recorded-file x n a g = rw g (refl, refl)
 
-pub recorded-none : (q : CRecord) → q ≡ record { refusal = 0; used = 0; size = 0; name = replicate 8 0 } → q ≡ recordedOf noFile
+pub recorded-none : (q : CRecord) (name : List ℕ) (a : Answer) → a ≡ noFile → (q ≡ record { refusal = 0; used = 0; size = 0 }) × (name ≡ replicate 8 0) → Names q name a
 unfolding recordedOf
-recorded-none q e = e
+recorded-none q name a g e = rw g e
 
 pub run-extent : (e : Extent) → record { refusal = 0; first = e .first; count = e .count } ≡ runOf (run e)
 unfolding runOf
@@ -168,27 +163,22 @@ module _ (f : Session → Outcome) (b c : Session) (q : b ≡ c) where
     at-session : left s d w a ≡ f c
     at-session = e ∙ ap f q
 
-    pub finishes : (r : CFinished) → r ≡ finishedOf s a → (l : List ℕ) → l ≡ s .staged → Finishes r l d w (f c)
-    unfolding finishedOf
-    finishes r g l h =
-        subst (λ (x : Outcome). Finishes r l d w x) at-session
-        (g, ap₂ (λ (x : CFinished) (y : List ℕ). stateOf (decode (x .head) y) d w) g h ∙ ap (λ (x : Session). stateOf x d w) (decode-encode s))
+    -- m gives the numbers of its answer
+    pub ends : {R : Type 0} (m : Answer → R) (r : R) → r ≡ m a → (ns l : List ℕ) → ns ≡ numbersOf (encode s) → l ≡ s .staged → Ends m r ns l d w (f c)
+    ends m r g ns l n h =
+        subst (λ (x : Outcome). Ends m r ns l d w x) at-session
+        (record {
+          answer = g;
+          head = n;
+          state = ap₂ (λ (x y : List ℕ). stateOf (decode (headIn x) y) d w) n h ∙ ap (λ (x : Session). stateOf x d w) (decode-encode s);
+        })
 
-    pub commits : (r : CCommitted) → r ≡ committedOf s a → (l : List ℕ) → l ≡ s .staged → Commits r l d w (f c)
-    unfolding committedOf
-    commits r g l h =
-        subst (λ (x : Outcome). Commits r l d w x) at-session
-        (g, ap₂ (λ (x : CCommitted) (y : List ℕ). stateOf (decode (x .head) y) d w) g h ∙ ap (λ (x : Session). stateOf x d w) (decode-encode s))
-
-    pub advances : (r : CAdvanced) → r ≡ advancedOf s a → (l : List ℕ) → l ≡ s .staged → Advances r l d w (f c)
-    unfolding advancedOf
-    advances r g l h =
-        subst (λ (x : Outcome). Advances r l d w x) at-session
-        (g, ap₂ (λ (x : CAdvanced) (y : List ℕ). stateOf (decode (x .head) y) d w) g h ∙ ap (λ (x : Session). stateOf x d w) (decode-encode s))
-
-    -- a call that only reads: m gives the numbers of its answer
+    -- a call that only reads
     pub answers : {R : Type 0} (m : Answer → R) (r : R) → r ≡ m a → r ≡ m (f c .answer)
     answers m r g = g ∙ ap (λ (x : Outcome). m (x .answer)) at-session
+
+    pub names : (r : CRecord) (name : List ℕ) → Names r name a → Names r name (f c .answer)
+    names r name g = subst (λ (x : Outcome). Names r name (x .answer)) at-session g
 
   pub reads : (s : Session) (d w : List ℕ) (a : Answer) (buffer : List ℕ) → leftBuffer s d w a buffer ≡ f b → (r : CCounted) → r ≡ countedOf a
       → Reads r buffer (f c)

@@ -13,7 +13,7 @@ use Rattle.spec.specs.Inode.{extent}
 use Rattle.spec.specs.Answers.{Answer, refused, done, started, stored, idle, counted, file, noFile, run, noRun}
 use Rattle.spec.specs.Transaction.{stateOf}
 use Rattle.spec.specs.Calls.{Outcome}
-use Rattle.mirror.specs.declared.CHead.{CHead}
+use Rattle.mirror.specs.declared.Head.{Head}
 use Rattle.mirror.specs.declared.CFinished.{CFinished}
 use Rattle.mirror.specs.declared.CCommitted.{CCommitted}
 use Rattle.mirror.specs.declared.CAdvanced.{CAdvanced}
@@ -39,20 +39,23 @@ placeIn Ready = 0
 placeIn (Committing d) = d
 placeIn (Recovering d) = d
 
--- the four numbers where they are lent as well
-abbrev pub headIn : List ℕ → CHead
+-- the four numbers as they are lent
+abbrev pub headIn : List ℕ → Head
 headIn ns = record { blocks = getD ns 0 0; phase = getD ns 1 0; place = getD ns 2 0; count = getD ns 3 0 }
 
+abbrev pub numbersOf : Head → List ℕ
+numbersOf h = h .blocks ∷ h .phase ∷ h .place ∷ h .count ∷ []
+
 -- the session that numbers and cells stand for: any stand for one
-abbrev pub decode : CHead → List ℕ → Session
+abbrev pub decode : Head → List ℕ → Session
 decode h staged = record { blocks = h .blocks; phase = phaseOf (h .phase) (h .place); staged = staged; count = h .count }
 
 -- the numbers of a session on so many blocks, in this phase, with so many cells in use
-abbrev pub headOf : ℕ → Phase → ℕ → CHead
+abbrev pub headOf : ℕ → Phase → ℕ → Head
 headOf blocks p count = record { blocks = blocks; phase = phaseNumber p; place = placeIn p; count = count }
 
 -- its numbers; its cells are lent beside them
-abbrev pub encode : Session → CHead
+abbrev pub encode : Session → Head
 encode s = headOf (s .blocks) (s .phase) (s .count)
 
 -- ---- answers
@@ -114,45 +117,41 @@ nameIn noRun = replicate 8 0
 abbrev pub valueAt : ℕ → Answer → ℕ
 valueAt k a = getD (valuesOf a) k 0
 
--- ---- results: a session and an answer in numbers
+-- ---- results: an answer in numbers
 
-unfoldable pub finishedOf : Session → Answer → CFinished
-finishedOf s a = record { head = encode s; refusal = refusalNumber a; fault = faultIn a }
+unfoldable pub finishedOf : Answer → CFinished
+finishedOf a = record { refusal = refusalNumber a; fault = faultIn a }
 
-unfoldable pub committedOf : Session → Answer → CCommitted
-committedOf s a = record { head = encode s; refusal = refusalNumber a; stores = valueAt 0 a }
+unfoldable pub committedOf : Answer → CCommitted
+committedOf a = record { refusal = refusalNumber a; stores = valueAt 0 a }
 
-unfoldable pub advancedOf : Session → Answer → CAdvanced
-advancedOf s a =
-    record { head = encode s; refusal = refusalNumber a; block = valueAt 0 a; last = valueAt 1 a; number = valueAt 2 a }
+unfoldable pub advancedOf : Answer → CAdvanced
+advancedOf a = record { refusal = refusalNumber a; block = valueAt 0 a; last = valueAt 1 a; number = valueAt 2 a }
 
 unfoldable pub countedOf : Answer → CCounted
 countedOf a = record { refusal = refusalNumber a; count = valueAt 0 a }
 
 unfoldable pub recordedOf : Answer → CRecord
-recordedOf a = record { refusal = refusalNumber a; used = valueAt 0 a; size = valueAt 1 a; name = nameIn a }
+recordedOf a = record { refusal = refusalNumber a; used = valueAt 0 a; size = valueAt 1 a }
 
 unfoldable pub runOf : Answer → CRun
 runOf a = record { refusal = refusalNumber a; first = valueAt 0 a; count = valueAt 1 a }
 
--- ---- the form of a promise: what a function returns is the call's outcome in numbers, and the session that these numbers and the cells left
--- stand for, with the lent slices, is the state that the outcome leaves
+-- ---- the form of a promise: what a function returns is the answer of the call's outcome in numbers (m), the numbers left are those of its session, and
+-- the session that they and the cells left stand for, with the lent slices, is the state that the outcome leaves
 
-abbrev pub Finishes : CFinished → List ℕ → List ℕ → List ℕ → Outcome → Type 0
-Finishes r staged device work o =
-    (r ≡ finishedOf (o .after .session) (o .answer)) × (stateOf (decode (r .head) staged) device work ≡ o .after)
-
-abbrev pub Commits : CCommitted → List ℕ → List ℕ → List ℕ → Outcome → Type 0
-Commits r staged device work o =
-    (r ≡ committedOf (o .after .session) (o .answer)) × (stateOf (decode (r .head) staged) device work ≡ o .after)
-
-abbrev pub Advances : CAdvanced → List ℕ → List ℕ → List ℕ → Outcome → Type 0
-Advances r staged device work o =
-    (r ≡ advancedOf (o .after .session) (o .answer)) × (stateOf (decode (r .head) staged) device work ≡ o .after)
+pub record Ends {R : Type 0} (m : Answer → R) (r : R) (numbers staged device work : List ℕ) (o : Outcome) : Type 0 where
+  pub answer : r ≡ m (o .answer)
+  pub head : numbers ≡ numbersOf (encode (o .after .session))
+  pub state : stateOf (decode (headIn numbers) staged) device work ≡ o .after
 
 -- read: and the buffer lent
 abbrev pub Reads : CCounted → List ℕ → Outcome → Type 0
 Reads r buffer o = (r ≡ countedOf (o .answer)) × (buffer ≡ o .buffer)
+
+-- record i: and the name lent
+abbrev pub Names : CRecord → List ℕ → Answer → Type 0
+Names r name a = (r ≡ recordedOf a) × (name ≡ nameIn a)
 
 -- ---- a lent list of extents in cells: first block and count of each, in turn
 

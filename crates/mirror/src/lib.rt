@@ -1,9 +1,7 @@
 // Sessions and answers as structs of numbers, in which they cross to C. What the numbers mean is defined in specs/Mirror.antt.
-use spec::Committed;
 use spec::Counted;
 use spec::Done;
 use spec::FileRecord;
-use spec::Finished;
 use spec::Limits;
 use spec::Phase;
 use spec::Recorded;
@@ -16,14 +14,12 @@ ghost use mathlib.Core.Path.{_≡_};
 ghost use mathlib.Core.Bool.{cond};
 ghost use Prim.Native.Nat.{min};
 ghost use lib.ListN.{replicate};
-ghost use Rattle.spec.specs.declared.Session.{Session};
 ghost use Rattle.spec.specs.Answers.{refusalOf, doneOf, startedOf, storedOf, countedOf as answerOf, recordedOf as fileOf, runOf as extentOf};
-ghost use Rattle.mirror.specs.Mirror.{phaseOf, phaseNumber, placeIn, headOf, headIn, decode, encode, refusalNumber, faultIn, finishedOf, committedOf, advancedOf, countedOf, recordedOf, runOf};
+ghost use Rattle.mirror.specs.Mirror.{phaseOf, phaseNumber, placeIn, headOf, headIn, numbersOf, decode, encode, refusalNumber, faultIn, finishedOf, committedOf, advancedOf, countedOf, runOf, Names};
 
-// A session but for the cells of its staged blocks, which are lent beside it.
+// A session in numbers, but for the cells of its staged blocks: both are lent.
 // phase: 0 closed, 1 ready, 2 committing, 3 recovering; place: the stores made so far of a commit or a recovery, else 0.
-#[repr(C)]
-pub struct CHead {
+pub struct Head {
     pub blocks: u64,
     pub phase: u64,
     pub place: u64,
@@ -33,7 +29,6 @@ pub struct CHead {
 // format, open, abort, create, remove, rename, write, set-size: refusal 0 is accepted; fault is the wrong record of refusal 10, else 0.
 #[repr(C)]
 pub struct CFinished {
-    pub head: CHead,
     pub refusal: u32,
     pub fault: u64,
 }
@@ -41,7 +36,6 @@ pub struct CFinished {
 // commit
 #[repr(C)]
 pub struct CCommitted {
-    pub head: CHead,
     pub refusal: u32,
     pub stores: u64,
 }
@@ -49,7 +43,6 @@ pub struct CCommitted {
 // advance: all 0 but the session where nothing is under way.
 #[repr(C)]
 pub struct CAdvanced {
-    pub head: CHead,
     pub refusal: u32,
     pub block: u64,
     pub last: u64,
@@ -63,13 +56,12 @@ pub struct CCounted {
     pub count: u64,
 }
 
-// record i: used is 1 where a file is answered; else size and name are zero.
+// record i: used is 1 where a file is answered, else size and the name lent become zero.
 #[repr(C)]
 pub struct CRecord {
     pub refusal: u32,
-    pub used: u64,
+    pub used: u32,
     pub size: u64,
-    pub name: [u8; 8],
 }
 
 // n-th extent: 0 and 0 where there is none.
@@ -113,12 +105,12 @@ fn place_in(p: Phase) -> u64
     }
 }
 
-// The numbers of a session, lent: a call that only reads does not wait for a copy of them.
-pub fn head_in(numbers: &[u64; 4]) -> CHead
+// The numbers of a session where they are lent.
+pub fn head_in(numbers: &[u64; 4]) -> Head
     ensures { λ h. ⌜ h ≡ headIn (now (numbers .entry)) ⌝ }
 {
     let n: &[u64] = numbers;
-    CHead {
+    Head {
         blocks: n[0],
         phase: n[1],
         place: n[2],
@@ -126,15 +118,22 @@ pub fn head_in(numbers: &[u64; 4]) -> CHead
     }
 }
 
+// They become these.
+pub fn keep(numbers: &mut [u64; 4], h: Head)
+    ensures { λ _. ⌜ now (numbers .exit) ≡ numbersOf h ⌝ }
+{
+    *numbers = [h.blocks, h.phase, h.place, h.count];
+}
+
 // The phase of the session that numbers stand for.
-pub fn phase_in(h: CHead) -> Phase
+pub fn phase_in(h: Head) -> Phase
     ensures { λ p. ⌜ p ≡ phaseOf (h .phase) (h .place) ⌝ }
 {
     phase_of(h.phase, h.place)
 }
 
 // How many of the 32 cells are in use.
-pub fn staged_in(h: CHead) -> usize
+pub fn staged_in(h: Head) -> usize
     ensures { λ n. ⌜ n ≡ min (h .count) 32 ⌝ }
 {
     let n = h.count as usize;
@@ -145,7 +144,7 @@ pub fn staged_in(h: CHead) -> usize
 }
 
 // The session that numbers and cells stand for: any stand for one.
-pub fn decode(h: CHead, staged: [u32; 32]) -> Session
+pub fn decode(h: Head, staged: [u32; 32]) -> Session
     ensures { λ s. ⌜ s ≡ decode h staged ⌝ }
 {
     let phase = phase_in(h);
@@ -158,10 +157,10 @@ pub fn decode(h: CHead, staged: [u32; 32]) -> Session
 }
 
 // The numbers of a session on so many blocks, in this phase, with so many cells in use.
-pub fn head_of(blocks: u64, phase: Phase, count: u64) -> CHead
+pub fn head_of(blocks: u64, phase: Phase, count: u64) -> Head
     ensures { λ h. ⌜ h ≡ headOf blocks phase count ⌝ }
 {
-    CHead {
+    Head {
         blocks: blocks,
         phase: phase_number(phase),
         place: place_in(phase),
@@ -170,7 +169,7 @@ pub fn head_of(blocks: u64, phase: Phase, count: u64) -> CHead
 }
 
 // The numbers of a session.
-pub fn encode(s: Session) -> CHead
+pub fn encode(s: Session) -> Head
     ensures { λ h. ⌜ h ≡ encode s ⌝ }
 {
     let phase = s.phase;
@@ -221,46 +220,30 @@ fn fault_in(r: Refusal) -> u64
     }
 }
 
-// Of every session with these numbers.
-pub fn finished_with(head: CHead, answer: Done) -> CFinished
-    ensures { λ r. ⌜ ((s : Session) → head ≡ encode s → r ≡ finishedOf s (doneOf answer)) ⌝ }
+pub fn finished(answer: Done) -> CFinished
+    ensures { λ r. ⌜ r ≡ finishedOf (doneOf answer) ⌝ }
 {
     match answer {
         Done::Refused(why) => CFinished {
-            head: head,
             refusal: refusal_number(why),
             fault: fault_in(why),
         },
         Done::Done => CFinished {
-            head: head,
             refusal: 0,
             fault: 0,
         },
     }
 }
 
-pub fn finished(f: Finished) -> CFinished
-    ensures { λ r. ⌜ r ≡ finishedOf (f .session) (doneOf (f .answer)) ⌝ }
+pub fn committed(answer: Started) -> CCommitted
+    ensures { λ r. ⌜ r ≡ committedOf (startedOf answer) ⌝ }
 {
-    let s = f.session;
-    let answer = f.answer;
-    finished_with(encode(s), answer)
-}
-
-pub fn committed(c: Committed) -> CCommitted
-    ensures { λ r. ⌜ r ≡ committedOf (c .session) (startedOf (c .answer)) ⌝ }
-{
-    let s = c.session;
-    let answer = c.answer;
-    let head = encode(s);
     match answer {
         Started::Refused(why) => CCommitted {
-            head: head,
             refusal: refusal_number(why),
             stores: 0,
         },
         Started::Stores(n) => CCommitted {
-            head: head,
             refusal: 0,
             stores: n as u64,
         },
@@ -273,13 +256,11 @@ fn flag(b: bool) -> u64
     if b { 1 } else { 0 }
 }
 
-// Of every session with these numbers.
-pub fn advanced(head: CHead, answer: Stored) -> CAdvanced
-    ensures { λ r. ⌜ ((s : Session) → head ≡ encode s → r ≡ advancedOf s (storedOf answer)) ⌝ }
+pub fn advanced(answer: Stored) -> CAdvanced
+    ensures { λ r. ⌜ r ≡ advancedOf (storedOf answer) ⌝ }
 {
     match answer {
         Stored::Refused(why) => CAdvanced {
-            head: head,
             refusal: refusal_number(why),
             block: 0,
             last: 0,
@@ -290,14 +271,12 @@ pub fn advanced(head: CHead, answer: Stored) -> CAdvanced
             last,
             number,
         } => CAdvanced {
-            head: head,
             refusal: 0,
             block: block as u64,
             last: flag(last),
             number: number as u64,
         },
         Stored::Idle => CAdvanced {
-            head: head,
             refusal: 0,
             block: 0,
             last: 0,
@@ -321,31 +300,33 @@ pub fn counted(answer: Counted) -> CCounted
     }
 }
 
-fn no_file(refusal: u32) -> CRecord
-    ensures { λ r. ⌜ r ≡ record { refusal = refusal; used = 0; size = 0; name = replicate 8 0 } ⌝ }
+fn no_file(refusal: u32, name: &mut [u8; 8]) -> CRecord
+    ensures { λ r. ⌜ (r ≡ record { refusal = refusal; used = 0; size = 0 }) × (now (name .exit) ≡ replicate 8 0) ⌝ }
 {
+    *name = [0; 8];
     CRecord {
         refusal: refusal,
         used: 0,
         size: 0,
-        name: [0; 8],
     }
 }
 
-pub fn recorded(f: FileRecord) -> CRecord
-    ensures { λ r. ⌜ r ≡ recordedOf (fileOf (f .answer) (f .name) (f .size)) ⌝ }
+pub fn recorded(f: FileRecord, name: &mut [u8; 8]) -> CRecord
+    ensures { λ r. ⌜ Names r (now (name .exit)) (fileOf (f .answer) (f .name) (f .size)) ⌝ }
 {
     let answer = f.answer;
-    let name = f.name;
+    let own = f.name;
     match answer {
-        Recorded::Refused(why) => no_file(refusal_number(why)),
-        Recorded::File => CRecord {
-            refusal: 0,
-            used: 1,
-            size: f.size as u64,
-            name: name,
-        },
-        Recorded::Empty => no_file(0),
+        Recorded::Refused(why) => no_file(refusal_number(why), name),
+        Recorded::File => {
+            *name = own;
+            CRecord {
+                refusal: 0,
+                used: 1,
+                size: f.size as u64,
+            }
+        }
+        Recorded::Empty => no_file(0, name),
     }
 }
 

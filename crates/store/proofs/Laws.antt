@@ -97,23 +97,6 @@ module _ (s : Session) (d w : List ℕ) where
 -- ---- commit and abort
 
 module _ (s : Session) (d w : List ℕ) where
-  pub commit-bad : (r : Refusal) → refuse r ≡ readyOk (stateOf s d w) → left s d w (refusalOf r) ≡ commit (stateOf s d w)
-  unfolding commit
-  commit-bad r e = rw (← e)
-
-  pub commit-none : (k : ℕ) → accept true ≡ readyOk (stateOf s d w) → k ≡ length (stagedIn s) → k ≡ 0 → left s d w (started 0) ≡ commit (stateOf s d w)
-  unfolding commit
-  commit-none k e q z = rw (← e, ← q, z)
-
-  begun : (n k : ℕ) → n ≡ k → (k ≡ 0 → ⊥) → left (inPhase s (Committing 0)) d w (started (2 * k + 2)) ≡ startCommit (stateOf s d w) n
-  begun zero k q h = absurd (h (sym q))
-  begun (suc n) k q h = rw (← q)
-
-  pub commit-some : (k : ℕ) (next : Session) → accept true ≡ readyOk (stateOf s d w) → k ≡ length (stagedIn s) → (k ≡ 0 → ⊥) → next ≡ inPhase s (Committing 0)
-      → left next d w (started (2 * k + 2)) ≡ commit (stateOf s d w)
-  unfolding commit
-  commit-some k next e q h n = rw (← e, n) (begun (length (stagedIn s)) k (sym q) h)
-
   pub abort-bad : (r : Refusal) → refuse r ≡ readyOk (stateOf s d w) → left s d w (refusalOf r) ≡ abort (stateOf s d w)
   unfolding abort
   abort-bad r e = rw (← e)

@@ -12,6 +12,8 @@ use header::header_fault;
 use header::targets_in;
 use journal::advance_in;
 use journal::after;
+use journal::begun_phase;
+use journal::commit_in;
 use mkfs::make_empty;
 pub use query::free_count;
 pub use query::nth_extent;
@@ -26,7 +28,6 @@ use spec::Limits;
 use spec::Phase;
 use spec::Refusal;
 use spec::Session;
-use spec::Started;
 use spec::Stored;
 use transaction::staged_count;
 pub use update::create;
@@ -101,25 +102,11 @@ pub fn commit(device: &[u8], work: &[u8], session: Session) -> Committed
 {
     let blocks = session.blocks;
     let phase = session.phase;
-    match ready(device, work, blocks, phase) {
-        Checked::Bad(why) => Committed {
-            session: session,
-            answer: Started::Refused(why),
-        },
-        Checked::Fine => {
-            let k = staged_count(session);
-            if k == 0 {
-                return Committed {
-                    session: session,
-                    answer: Started::Stores(0),
-                };
-            }
-            let next = session.in_phase(Phase::Committing(0));
-            Committed {
-                session: next,
-                answer: Started::Stores(2 * k + 2),
-            }
-        }
+    let answer = commit_in(device, work, blocks, phase, staged_count(session));
+    let next = session.in_phase(begun_phase(phase, answer));
+    Committed {
+        session: next,
+        answer: answer,
     }
 }
 

@@ -1,6 +1,6 @@
-//! The C interface of the proved store, as `include/purse.h` has it: the functions that take the
-//! numbers of the session by value and give them back; its cells are lent. A slice crosses as a pointer and a length; the pointer leads to
-//! an element even where the length is 0. `refusal` is 0, or the number of the refusal.
+//! The C interface of the proved store, as `include/purse.h` has it: the functions that are lent the
+//! four numbers of the session and its 32 cells. A slice crosses as a pointer and a length; the
+//! pointer leads to an element even where the length is 0. `refusal` is 0, or the number of the refusal.
 
 /// `purse_session`. `phase`: 0 closed, 1 ready, 2 committing, 3 recovering; `place`: the stores
 /// made so far of a commit or recovery, else 0. The first `count` cells of `staged` are in use. The
@@ -15,38 +15,25 @@ pub struct RawSession {
     pub staged: [u32; 32],
 }
 
-/// `purse_head`: the numbers of a session.
-#[repr(C)]
-#[derive(Clone, Copy)]
-pub struct Head {
-    pub blocks: u64,
-    pub phase: u64,
-    pub place: u64,
-    pub count: u64,
-}
-
 impl RawSession {
-    pub(crate) fn head(&self) -> Head {
-        Head { blocks: self.blocks, phase: self.phase, place: self.place, count: self.count }
+    /// Its first four numbers and its cells, to be read.
+    #[inline]
+    pub(crate) fn parts(&self) -> (Numbers, Cells) {
+        (std::ptr::from_ref(self).cast(), &self.staged)
     }
 
-    /// The same where they stand: the first four numbers of the session.
-    pub(crate) fn numbers(&self) -> *const [u64; 4] {
-        std::ptr::from_ref(self).cast()
-    }
-
-    pub(crate) fn keep(&mut self, h: Head) {
-        self.blocks = h.blocks;
-        self.phase = h.phase;
-        self.place = h.place;
-        self.count = h.count;
+    /// The same, to be changed.
+    #[inline]
+    pub(crate) fn parts_mut(&mut self) -> (NumbersMut, CellsMut) {
+        let whole: *mut RawSession = self;
+        // Both lie in `whole`, one behind the other.
+        (whole.cast(), unsafe { std::ptr::addr_of_mut!((*whole).staged) })
     }
 }
 
 /// `purse_finished`. `fault`: the wrong record for refusal 10, else 0.
 #[repr(C)]
 pub struct Finished {
-    pub head: Head,
     pub refusal: u32,
     pub fault: u64,
 }
@@ -54,7 +41,6 @@ pub struct Finished {
 /// `purse_committed`.
 #[repr(C)]
 pub struct Committed {
-    pub head: Head,
     pub refusal: u32,
     pub stores: u64,
 }
@@ -62,7 +48,6 @@ pub struct Committed {
 /// `purse_advanced`. `number` 0: nothing is under way.
 #[repr(C)]
 pub struct Advanced {
-    pub head: Head,
     pub refusal: u32,
     pub block: u64,
     pub last: u64,
@@ -80,9 +65,8 @@ pub struct Counted {
 #[repr(C)]
 pub struct Recorded {
     pub refusal: u32,
-    pub used: u64,
+    pub used: u32,
     pub size: u64,
-    pub name: [u8; 8],
 }
 
 /// `purse_run`. `count` 0: none.
@@ -106,30 +90,31 @@ type BytesMut = *mut u8;
 type Cells = *const [u32; 32];
 type CellsMut = *mut [u32; 32];
 type Numbers = *const [u64; 4];
+type NumbersMut = *mut [u64; 4];
 
 #[rustfmt::skip]
 extern "C" {
-    pub fn purse_format_v(device: BytesMut, len: usize, head: Head, staged: CellsMut) -> Finished;
-    pub fn purse_open_v(device: Bytes, len: usize, head: Head, staged: CellsMut) -> Finished;
-    pub fn purse_advance_v(device: BytesMut, len: usize, work: Bytes, work_len: usize, head: Head, staged: CellsMut) -> Advanced;
-    pub fn purse_commit_v(device: Bytes, len: usize, work: Bytes, work_len: usize, head: Head, staged: CellsMut) -> Committed;
-    pub fn purse_abort_v(device: Bytes, len: usize, work: Bytes, work_len: usize, head: Head, staged: CellsMut) -> Finished;
-    pub fn purse_create_v(device: Bytes, len: usize, work: BytesMut, work_len: usize, head: Head, staged: CellsMut,
+    pub fn purse_format_v(device: BytesMut, len: usize, numbers: NumbersMut, staged: CellsMut) -> Finished;
+    pub fn purse_open_v(device: Bytes, len: usize, numbers: NumbersMut, staged: CellsMut) -> Finished;
+    pub fn purse_advance_v(device: BytesMut, len: usize, work: Bytes, work_len: usize, numbers: NumbersMut, staged: CellsMut) -> Advanced;
+    pub fn purse_commit_v(device: Bytes, len: usize, work: Bytes, work_len: usize, numbers: NumbersMut, staged: Cells) -> Committed;
+    pub fn purse_abort_v(device: Bytes, len: usize, work: Bytes, work_len: usize, numbers: NumbersMut, staged: CellsMut) -> Finished;
+    pub fn purse_create_v(device: Bytes, len: usize, work: BytesMut, work_len: usize, numbers: NumbersMut, staged: CellsMut,
         name: Bytes, name_len: usize) -> Finished;
-    pub fn purse_remove_v(device: Bytes, len: usize, work: BytesMut, work_len: usize, head: Head, staged: CellsMut,
+    pub fn purse_remove_v(device: Bytes, len: usize, work: BytesMut, work_len: usize, numbers: NumbersMut, staged: CellsMut,
         name: Bytes, name_len: usize) -> Finished;
-    pub fn purse_rename_v(device: Bytes, len: usize, work: BytesMut, work_len: usize, head: Head, staged: CellsMut,
+    pub fn purse_rename_v(device: Bytes, len: usize, work: BytesMut, work_len: usize, numbers: NumbersMut, staged: CellsMut,
         name: Bytes, name_len: usize, new_name: Bytes, new_len: usize) -> Finished;
-    pub fn purse_write_v(device: Bytes, len: usize, work: BytesMut, work_len: usize, head: Head, staged: CellsMut,
+    pub fn purse_write_v(device: Bytes, len: usize, work: BytesMut, work_len: usize, numbers: NumbersMut, staged: CellsMut,
         name: Bytes, name_len: usize, x: u64, bytes: Bytes, n: usize) -> Finished;
-    pub fn purse_set_size_v(device: Bytes, len: usize, work: BytesMut, work_len: usize, head: Head, staged: CellsMut,
+    pub fn purse_set_size_v(device: Bytes, len: usize, work: BytesMut, work_len: usize, numbers: NumbersMut, staged: CellsMut,
         name: Bytes, name_len: usize, size: u64) -> Finished;
     pub fn purse_read_v(device: Bytes, len: usize, work: Bytes, work_len: usize, numbers: Numbers,
         name: Bytes, name_len: usize, staged: Cells, x: u64, buffer: BytesMut, n: usize) -> Counted;
     pub fn purse_size_v(device: Bytes, len: usize, work: Bytes, work_len: usize, numbers: Numbers,
         name: Bytes, name_len: usize, staged: Cells) -> Counted;
     pub fn purse_free_count_v(device: Bytes, len: usize, work: Bytes, work_len: usize, numbers: Numbers, staged: Cells) -> Counted;
-    pub fn purse_record_v(device: Bytes, len: usize, work: Bytes, work_len: usize, numbers: Numbers, staged: Cells, i: u64) -> Recorded;
+    pub fn purse_record_v(device: Bytes, len: usize, work: Bytes, work_len: usize, numbers: Numbers, staged: Cells, i: u64, name: *mut [u8; 8]) -> Recorded;
     pub fn purse_nth_extent_v(device: Bytes, len: usize, work: Bytes, work_len: usize, numbers: Numbers,
         name: Bytes, name_len: usize, staged: Cells, from: u64, n: u64, k: u64) -> Run;
     pub fn purse_run_list_v(device: Bytes, len: usize, work: Bytes, work_len: usize, numbers: Numbers,

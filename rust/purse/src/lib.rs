@@ -76,6 +76,7 @@ pub struct Store<'a> {
 }
 
 /// A slice as the header wants it: a pointer to an element even where the length is 0.
+#[inline]
 fn lend(bytes: &[u8]) -> (*const u8, usize) {
     static NOTHING: u8 = 0;
     match bytes.len() {
@@ -85,6 +86,7 @@ fn lend(bytes: &[u8]) -> (*const u8, usize) {
 }
 
 /// The same for a slice that the store writes; `own` stands in for an empty one.
+#[inline]
 fn lend_mut<T>(items: &mut [T], own: &mut T) -> (*mut T, usize) {
     match items.len() {
         0 => (own, 0),
@@ -93,6 +95,7 @@ fn lend_mut<T>(items: &mut [T], own: &mut T) -> (*mut T, usize) {
 }
 
 /// A number of document 01 as a result; `record` goes with refusal 10.
+#[inline]
 fn settle<T>(number: u32, record: u64, value: T) -> Result<T, Refusal> {
     match number {
         0 => Ok(value),
@@ -139,12 +142,6 @@ impl<'a> Store<'a> {
         }
     }
 
-    /// Takes the session of an answer over.
-    fn finish(&mut self, answer: ffi::Finished) -> Result<(), Refusal> {
-        self.session.keep(answer.head);
-        settle(answer.refusal, answer.fault, ())
-    }
-
     /// Opens the store, with a recovery and the second open where they are due.
     pub fn open_whole(&mut self) -> Result<(), Refusal> {
         self.open()?;
@@ -175,141 +172,172 @@ impl<'a> Store<'a> {
 
 // The calls themselves. Safety of each: a slice is lent as its own pointer and length, for the time
 // of the call only; device and work space are lent mutably where the store may write; no two slices
-// overlap. The store is proved to stay inside them whatever they and the session hold.
+// overlap. The store is proved to stay inside them whatever they and the session hold. They are thin,
+// so they go where they are called.
 impl Store<'_> {
     /// Makes an empty store on the device. The session is closed: open it next.
+    #[inline]
     pub fn format(&mut self) -> Result<(), Refusal> {
         let mut own = 0;
         let (d, n) = lend_mut(self.device, &mut own);
-        let answer = unsafe { ffi::purse_format_v(d, n, self.session.head(), &mut self.session.staged) };
-        self.finish(answer)
+        let (s, c) = self.session.parts_mut();
+        let answer = unsafe { ffi::purse_format_v(d, n, s, c) };
+        settle(answer.refusal, answer.fault, ())
     }
 
     /// Opens the store. If [`Store::phase`] is then recovering, a commit was cut short: run
     /// [`Store::stores`] to its end and open again. [`Store::open_whole`] does all of this.
+    #[inline]
     pub fn open(&mut self) -> Result<(), Refusal> {
         let (d, n) = lend(self.device);
-        let answer = unsafe { ffi::purse_open_v(d, n, self.session.head(), &mut self.session.staged) };
-        self.finish(answer)
+        let (s, c) = self.session.parts_mut();
+        let answer = unsafe { ffi::purse_open_v(d, n, s, c) };
+        settle(answer.refusal, answer.fault, ())
     }
 
     /// Stores one block of the commit or recovery under way; none if nothing is.
+    #[inline]
     pub fn advance(&mut self) -> Result<Option<BlockStore>, Refusal> {
         let mut own = 0;
         let ((d, n), (w, m)) = (lend_mut(self.device, &mut own), lend(self.work));
-        let answer = unsafe { ffi::purse_advance_v(d, n, w, m, self.session.head(), &mut self.session.staged) };
-        self.session.keep(answer.head);
+        let (s, c) = self.session.parts_mut();
+        let answer = unsafe { ffi::purse_advance_v(d, n, w, m, s, c) };
         let store = BlockStore { block: answer.block, last: answer.last != 0, number: answer.number };
         settle(answer.refusal, 0, (answer.number != 0).then_some(store))
     }
 
     /// Starts the commit of k staged blocks and answers 2k+2, the number of stores; 0 if nothing is
     /// staged. The transaction counts once its list is stored, in the middle of them.
+    #[inline]
     pub fn commit(&mut self) -> Result<u64, Refusal> {
         let ((d, n), (w, m)) = (lend(self.device), lend(self.work));
-        let answer = unsafe { ffi::purse_commit_v(d, n, w, m, self.session.head(), &mut self.session.staged) };
-        self.session.keep(answer.head);
+        let (s, c) = self.session.parts_mut();
+        let answer = unsafe { ffi::purse_commit_v(d, n, w, m, s, c) };
         settle(answer.refusal, 0, answer.stores)
     }
 
     /// Empties the transaction.
+    #[inline]
     pub fn abort(&mut self) -> Result<(), Refusal> {
         let ((d, n), (w, m)) = (lend(self.device), lend(self.work));
-        let answer = unsafe { ffi::purse_abort_v(d, n, w, m, self.session.head(), &mut self.session.staged) };
-        self.finish(answer)
+        let (s, c) = self.session.parts_mut();
+        let answer = unsafe { ffi::purse_abort_v(d, n, w, m, s, c) };
+        settle(answer.refusal, answer.fault, ())
     }
 
     /// A new empty file. A name is 8 bytes, not all zero.
+    #[inline]
     pub fn create(&mut self, name: &[u8]) -> Result<(), Refusal> {
         let mut own = 0;
         let ((d, n), (w, m), (a, l)) = (lend(self.device), lend_mut(self.work, &mut own), lend(name));
-        let answer = unsafe { ffi::purse_create_v(d, n, w, m, self.session.head(), &mut self.session.staged, a, l) };
-        self.finish(answer)
+        let (s, c) = self.session.parts_mut();
+        let answer = unsafe { ffi::purse_create_v(d, n, w, m, s, c, a, l) };
+        settle(answer.refusal, answer.fault, ())
     }
 
     /// Removes a file and gives its blocks back.
+    #[inline]
     pub fn remove(&mut self, name: &[u8]) -> Result<(), Refusal> {
         let mut own = 0;
         let ((d, n), (w, m), (a, l)) = (lend(self.device), lend_mut(self.work, &mut own), lend(name));
-        let answer = unsafe { ffi::purse_remove_v(d, n, w, m, self.session.head(), &mut self.session.staged, a, l) };
-        self.finish(answer)
+        let (s, c) = self.session.parts_mut();
+        let answer = unsafe { ffi::purse_remove_v(d, n, w, m, s, c, a, l) };
+        settle(answer.refusal, answer.fault, ())
     }
 
     /// Gives a file another name.
+    #[inline]
     pub fn rename(&mut self, name: &[u8], new: &[u8]) -> Result<(), Refusal> {
         let mut own = 0;
         let ((d, n), (w, m)) = (lend(self.device), lend_mut(self.work, &mut own));
         let ((a, l), (b, k)) = (lend(name), lend(new));
-        let answer = unsafe { ffi::purse_rename_v(d, n, w, m, self.session.head(), &mut self.session.staged, a, l, b, k) };
-        self.finish(answer)
+        let (s, c) = self.session.parts_mut();
+        let answer = unsafe { ffi::purse_rename_v(d, n, w, m, s, c, a, l, b, k) };
+        settle(answer.refusal, answer.fault, ())
     }
 
     /// Lays bytes over a file from place `x` on. The file grows where needed; a gap is zeros.
+    #[inline]
     pub fn write(&mut self, name: &[u8], x: u64, bytes: &[u8]) -> Result<(), Refusal> {
         let mut own = 0;
         let ((d, n), (w, m)) = (lend(self.device), lend_mut(self.work, &mut own));
         let ((a, l), (b, k)) = (lend(name), lend(bytes));
-        let answer = unsafe { ffi::purse_write_v(d, n, w, m, self.session.head(), &mut self.session.staged, a, l, x, b, k) };
-        self.finish(answer)
+        let (s, c) = self.session.parts_mut();
+        let answer = unsafe { ffi::purse_write_v(d, n, w, m, s, c, a, l, x, b, k) };
+        settle(answer.refusal, answer.fault, ())
     }
 
     /// Cuts a file off or lengthens it by zeros.
+    #[inline]
     pub fn set_size(&mut self, name: &[u8], size: u64) -> Result<(), Refusal> {
         let mut own = 0;
         let ((d, n), (w, m), (a, l)) = (lend(self.device), lend_mut(self.work, &mut own), lend(name));
-        let answer = unsafe { ffi::purse_set_size_v(d, n, w, m, self.session.head(), &mut self.session.staged, a, l, size) };
-        self.finish(answer)
+        let (s, c) = self.session.parts_mut();
+        let answer = unsafe { ffi::purse_set_size_v(d, n, w, m, s, c, a, l, size) };
+        settle(answer.refusal, answer.fault, ())
     }
 
     /// Copies bytes from place `x` of a file on and answers how many; the rest of the buffer is
     /// unchanged.
+    #[inline]
     pub fn read(&self, name: &[u8], x: u64, buffer: &mut [u8]) -> Result<usize, Refusal> {
         let mut own = 0;
         let ((d, n), (w, m)) = (lend(self.device), lend(self.work));
         let ((a, l), (b, k)) = (lend(name), lend_mut(buffer, &mut own));
-        let answer = unsafe { ffi::purse_read_v(d, n, w, m, self.session.numbers(), a, l, &self.session.staged, x, b, k) };
+        let (s, c) = self.session.parts();
+        let answer = unsafe { ffi::purse_read_v(d, n, w, m, s, a, l, c, x, b, k) };
         settle(answer.refusal, 0, answer.count as usize)
     }
 
     /// The size of a file in bytes.
+    #[inline]
     pub fn size(&self, name: &[u8]) -> Result<u64, Refusal> {
         let ((d, n), (w, m), (a, l)) = (lend(self.device), lend(self.work), lend(name));
-        let answer = unsafe { ffi::purse_size_v(d, n, w, m, self.session.numbers(), a, l, &self.session.staged) };
+        let (s, c) = self.session.parts();
+        let answer = unsafe { ffi::purse_size_v(d, n, w, m, s, a, l, c) };
         settle(answer.refusal, 0, answer.count)
     }
 
     /// The number of free blocks.
+    #[inline]
     pub fn free_count(&self) -> Result<u64, Refusal> {
         let ((d, n), (w, m)) = (lend(self.device), lend(self.work));
-        let answer = unsafe { ffi::purse_free_count_v(d, n, w, m, self.session.numbers(), &self.session.staged) };
+        let (s, c) = self.session.parts();
+        let answer = unsafe { ffi::purse_free_count_v(d, n, w, m, s, c) };
         settle(answer.refusal, 0, answer.count)
     }
 
     /// Name and size of record `i`, none if it is empty or past 127.
+    #[inline]
     pub fn record(&self, i: u64) -> Result<Option<File>, Refusal> {
+        let mut name = [0; 8];
         let ((d, n), (w, m)) = (lend(self.device), lend(self.work));
-        let answer = unsafe { ffi::purse_record_v(d, n, w, m, self.session.numbers(), &self.session.staged, i) };
-        let file = File { name: answer.name, size: answer.size };
+        let (s, c) = self.session.parts();
+        let answer = unsafe { ffi::purse_record_v(d, n, w, m, s, c, i, &mut name) };
+        let file = File { name, size: answer.size };
         settle(answer.refusal, 0, (answer.used != 0).then_some(file))
     }
 
     /// The k-th of the largest extents that hold `count` blocks of a file from block place `from` on,
     /// counted from 0; none past the last.
+    #[inline]
     pub fn nth_extent(&self, name: &[u8], from: u64, count: u64, k: u64) -> Result<Option<Extent>, Refusal> {
         let ((d, n), (w, m), (a, l)) = (lend(self.device), lend(self.work), lend(name));
-        let answer = unsafe { ffi::purse_nth_extent_v(d, n, w, m, self.session.numbers(), a, l, &self.session.staged, from, count, k) };
+        let (s, c) = self.session.parts();
+        let answer = unsafe { ffi::purse_nth_extent_v(d, n, w, m, s, a, l, c, from, count, k) };
         let extent = Extent { first: answer.first, count: answer.count };
         settle(answer.refusal, 0, (answer.count != 0).then_some(extent))
     }
 
     /// Those extents put into a lent list; answers how many. Places after the last are unchanged.
+    #[inline]
     pub fn run_list(&self, name: &[u8], from: u64, count: u64, list: &mut [Extent]) -> Result<usize, Refusal> {
         let mut own = Extent::default();
         let ((d, n), (w, m)) = (lend(self.device), lend(self.work));
         let ((a, l), (e, k)) = (lend(name), lend_mut(list, &mut own));
         // An extent is two cells of 32 bits, first and count.
-        let answer =
-            unsafe { ffi::purse_run_list_v(d, n, w, m, self.session.numbers(), a, l, &self.session.staged, from, count, e.cast(), 2 * k) };
+        let (s, c) = self.session.parts();
+        let answer = unsafe { ffi::purse_run_list_v(d, n, w, m, s, a, l, c, from, count, e.cast(), 2 * k) };
         settle(answer.refusal, 0, answer.count as usize)
     }
 }
@@ -337,6 +365,7 @@ pub struct Stores<'s, 'a> {
 impl Iterator for Stores<'_, '_> {
     type Item = Result<BlockStore, Refusal>;
 
+    #[inline]
     fn next(&mut self) -> Option<Self::Item> {
         if self.over {
             return None;

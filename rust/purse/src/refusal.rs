@@ -57,6 +57,7 @@ impl Refusal {
     }
 
     /// The refusal of a number, with the record that goes with 10.
+    #[cold]
     pub(crate) fn of(number: u32, record: u64) -> Refusal {
         match number {
             1 => Refusal::DeviceSize,

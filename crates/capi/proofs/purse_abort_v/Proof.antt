@@ -1,11 +1,15 @@
+use mathlib.Core.Path.{ap, _∙_}
 use Rattle.spec.specs.declared.Session.{Session}
 use Rattle.spec.specs.Transaction.{stateOf}
 use Rattle.spec.specs.Calls.{abort}
-use Rattle.mirror.proofs.Laws.{finishes}
-use mathlib.Core.Path.{refl}
+use Rattle.mirror.specs.Mirror.{finishedOf}
+use Rattle.capi.proofs.Laws.{ends-of}
 use borrow.Author.Needs.{needs}
 use Rattle.capi.proofs.purse_abort_v.Statement.{statement}
 use Rattle.capi.proofs.purse_abort_v.Tie as tie
+
+head-in-requires : tie.Need-head-in-requires
+head-in-requires c κs = search needs
 
 decode-requires : tie.Need-decode-requires
 decode-requires c κs = search needs
@@ -13,11 +17,18 @@ decode-requires c κs = search needs
 abort-requires : tie.Need-abort-requires
 abort-requires c κs = search needs
 
-finished-requires : tie.Need-finished-requires
-finished-requires c κs = search needs
+settled-requires : tie.Need-settled-requires
+settled-requires c κs = search needs
 
 returns : tie.Need-returns
-returns c = let a = c .before .before .before .before .before .before .before .before .args in finishes (λ (s : Session). abort (stateOf s (a .device .now) (a .work .now))) _ _ (c .before .before .before .before .decode .ensures) _ _ _ _ (c .before .before .before .abort .ensures) _ (c .finished .ensures) _ refl
+returns c = let a = c .before .before .before .before .before .before .before .before .before .before .args in ends-of (λ (s : Session). abort (stateOf s (a .device .now) (a .work .now))) (a .numbers .now) (c .before .before .before .before .before .before .head-in .result) (c .before .before .before .before .before .before .head-in .ensures) finishedOf (a .staged .now) _ _ (a .work .now) _ (c .before .before .before .abort .ensures ∙ ap (λ (s : Session). abort (stateOf s (a .device .now) (a .work .now))) (c .before .before .before .before .decode .ensures)) _ (c .settled .ensures .0) _ _ (c .settled .ensures .1) (c .settled .ensures .2)
 
 pub purse-abort-v-spec : {M : Type 1} → statement M
-purse-abort-v-spec = tie.close (tie.spec decode-requires abort-requires finished-requires returns)
+purse-abort-v-spec =
+    tie.close
+    (tie.spec
+    head-in-requires
+    decode-requires
+    abort-requires
+    settled-requires
+    returns)

@@ -1,24 +1,70 @@
+use native.Mathlib.Omega.{arith}
+use mathlib.Core.Path.{_≡_, refl, sym, ap, _∙_}
+use lib.ListN.{length}
 use Rattle.spec.specs.declared.Session.{Session}
+use Rattle.spec.specs.declared.Phase.{Phase}
 use Rattle.spec.specs.Transaction.{stateOf}
 use Rattle.spec.specs.Calls.{commit}
-use Rattle.mirror.proofs.Laws.{commits}
-use mathlib.Core.Path.{refl}
+use Rattle.spec.specs.Session.{inPhase}
+use Rattle.journal.specs.Entries.{begunPhase}
+use Rattle.mirror.specs.Mirror.{numbersOf, headOf, decode, committedOf}
+use Rattle.capi.proofs.Laws.{seen, few, ends-of}
 use borrow.Author.Needs.{needs}
 use Rattle.capi.proofs.purse_commit_v.Statement.{statement}
 use Rattle.capi.proofs.purse_commit_v.Tie as tie
 
-decode-requires : tie.Need-decode-requires
-decode-requires c κs = search needs
+head-in-requires : tie.Need-head-in-requires
+head-in-requires c κs = search needs
 
-commit-requires : tie.Need-commit-requires
-commit-requires c κs = search needs
+phase-in-requires : tie.Need-phase-in-requires
+phase-in-requires c κs = search needs
+
+staged-in-requires : tie.Need-staged-in-requires
+staged-in-requires c κs = search needs
+
+sub-used : tie.Need-sub-used
+sub-used c = search needs
+
+part-used-start : tie.Need-part-used-start
+part-used-start c = search needs
+
+part-used-end : tie.Need-part-used-end
+part-used-end c = let l : length (c .before .before .before .before .before .before .before .args .staged .now) ≡ 32 = search needs in omega (arith, l, c .staged-in .ensures)
+
+commit-in-requires : tie.Need-commit-in-requires
+commit-in-requires c κs = let l : length (c .before .before .before .before .before .before .before .before .args .staged .now) ≡ 32 = search (needs, c .before .before .cells .given) in few (c .before .before .before .before .head-in .result) (c .before .before .before .before .before .before .before .before .args .staged .now) _ l (c .before .staged-in .ensures)
+
+begun-phase-requires : tie.Need-begun-phase-requires
+begun-phase-requires c κs = search needs
+
+head-of-requires : tie.Need-head-of-requires
+head-of-requires c κs = search needs
+
+keep-requires : tie.Need-keep-requires
+keep-requires c κs = search needs
 
 committed-requires : tie.Need-committed-requires
 committed-requires c κs = search needs
 
 returns : tie.Need-returns
-returns c = let a = c .before .before .before .before .before .before .before .before .args in commits (λ (s : Session). commit (stateOf s (a .device .now) (a .work .now))) _ _ (c .before .before .before .before .decode .ensures) _ _ _ _ (c .before .before .before .commit .ensures) _ (c .committed .ensures) _ refl
+returns c = let a = c .before .before .before .before .before .before .before .before .before .before .before .before .before .before .args in let l : length (a .staged .now) ≡ 32 = search (needs, c .before .before .before .before .before .before .before .before .cells .given, c .before .before .before .before .before .before .before .before .before .before .before .before .before .before .good) in let h = c .before .before .before .before .before .before .before .before .before .before .head-in .result in let s = decode h (a .staged .now) in let n = seen h (a .staged .now) _ l (c .before .before .before .before .before .before .before .staged-in .ensures) _ (c .before .before .before .before .before .before .before .before .before .phase-in .ensures) in
+    ends-of (λ (x : Session). commit (stateOf x (a .device .now) (a .work .now))) (a .numbers .now) h (c .before .before .before .before .before .before .before .before .before .before .head-in .ensures) committedOf (a .staged .now) (inPhase s (begunPhase (c .before .before .before .before .before .before .before .before .before .phase-in .result) (c .before .before .before .before .before .commit-in .result))) (a .device .now) (a .work .now) _
+    (c .before .before .before .before .before .commit-in .ensures s (n .head) (ap length (sym (n .numbers)))) _ (c .committed .ensures) _ _
+    (c .before .keep .ensures ∙ ap numbersOf (c .before .before .head-of .ensures ∙ ap (λ (p : Phase). headOf (h .blocks) p (h .count)) (c .before .before .before .begun-phase .ensures))) refl
 
 pub purse-commit-v-spec : {M : Type 1} → statement M
 purse-commit-v-spec =
-    tie.close (tie.spec decode-requires commit-requires committed-requires returns)
+    tie.close
+    (tie.spec
+    head-in-requires
+    phase-in-requires
+    staged-in-requires
+    sub-used
+    part-used-start
+    part-used-end
+    commit-in-requires
+    begun-phase-requires
+    head-of-requires
+    keep-requires
+    committed-requires
+    returns)

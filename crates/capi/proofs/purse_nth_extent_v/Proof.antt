@@ -1,5 +1,5 @@
 use mathlib.Core.Path.{ap}
-use Rattle.mirror.specs.declared.CHead.{CHead}
+use Rattle.mirror.specs.declared.Head.{Head}
 use Rattle.mirror.specs.Mirror.{headIn}
 use native.Mathlib.Omega.{arith}
 use mathlib.Core.Path.{_≡_}
@@ -40,7 +40,7 @@ run-requires c κs = search needs
 
 returns : tie.Need-returns
 returns c = let a = c .before .before .before .before .before .before .before .before .before .before .args in let l : length (a .staged .now) ≡ 32 = search (needs, c .before .before .before .before .before .before .before .before .before .before .good) in let s = decode (c .before .before .before .before .before .before .head-in .result) (a .staged .now) in
-    answers (λ (x : Session). nthExtent (stateOf x (a .device .now) (a .work .now)) (a .name .now) (a .from) (a .n) (a .k)) s (decode (headIn (a .numbers .now)) (a .staged .now)) (ap (λ (h : CHead). decode h (a .staged .now)) (c .before .before .before .before .before .before .head-in .ensures)) _ _ _ _ (c .before .nth-extent-in .ensures s (seen (c .before .before .before .before .before .before .head-in .result) (a .staged .now) _ l (c .before .before .before .staged-in .ensures) _ (c .before .before .before .before .before .phase-in .ensures))) runOf _ (c .run .ensures)
+    answers (λ (x : Session). nthExtent (stateOf x (a .device .now) (a .work .now)) (a .name .now) (a .from) (a .n) (a .k)) s (decode (headIn (a .numbers .now)) (a .staged .now)) (ap (λ (h : Head). decode h (a .staged .now)) (c .before .before .before .before .before .before .head-in .ensures)) _ _ _ _ (c .before .nth-extent-in .ensures s (seen (c .before .before .before .before .before .before .head-in .result) (a .staged .now) _ l (c .before .before .before .staged-in .ensures) _ (c .before .before .before .before .before .phase-in .ensures))) runOf _ (c .run .ensures)
 
 pub purse-nth-extent-v-spec : {M : Type 1} → statement M
 purse-nth-extent-v-spec = tie.close (tie.spec head-in-requires phase-in-requires staged-in-requires sub-used part-used-start part-used-end nth-extent-in-requires run-requires returns)

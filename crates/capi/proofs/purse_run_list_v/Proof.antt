@@ -1,5 +1,5 @@
 use mathlib.Core.Path.{subst}
-use Rattle.mirror.specs.declared.CHead.{CHead}
+use Rattle.mirror.specs.declared.Head.{Head}
 use Rattle.mirror.specs.Mirror.{headIn, countedOf, Lists}
 use Rattle.spec.specs.Answers.{countedOf as answerOf}
 use native.Mathlib.Omega.{arith}
@@ -43,7 +43,7 @@ same-length c = search needs
 returns : tie.Need-returns
 returns c = let a = c .before .before .before .before .before .before .before .before .before .before .before .before .before .before .args in let l : length (a .staged .now) ≡ 32 = search (needs, c .before .before .before .before .before .before .before .before .before .before .before .before .before .before .good) in
     in-numbers _ _ _ _ (runList (stateOf (decode (headIn (a .numbers .now)) (a .staged .now)) (a .device .now) (a .work .now)) (a .name .now) (a .from) (a .n) (extentsOf (a .list .now))) (c .counted .ensures)
-    (subst (λ (h : CHead). Lists (countedOf (answerOf (c .before .before .before .list-runs .result))) (a .list .now) (c .before .before .before .list-runs .last .1 .1 .1 .1 .1 .1 .1 .1 .0) (runList (stateOf (decode h (a .staged .now)) (a .device .now) (a .work .now)) (a .name .now) (a .from) (a .n) (extentsOf (a .list .now)))) (c .before .before .before .before .before .before .before .before .before .head-in .ensures)
+    (subst (λ (h : Head). Lists (countedOf (answerOf (c .before .before .before .list-runs .result))) (a .list .now) (c .before .before .before .list-runs .last .1 .1 .1 .1 .1 .1 .1 .1 .0) (runList (stateOf (decode h (a .staged .now)) (a .device .now) (a .work .now)) (a .name .now) (a .from) (a .n) (extentsOf (a .list .now)))) (c .before .before .before .before .before .before .before .before .before .head-in .ensures)
     (c .before .before .before .list-runs .ensures (decode (c .before .before .before .before .before .before .before .before .before .head-in .result) (a .staged .now)) (seen (c .before .before .before .before .before .before .before .before .before .head-in .result) (a .staged .now) _ l (c .before .before .before .before .before .before .staged-in .ensures) _ (c .before .before .before .before .before .before .before .before .phase-in .ensures))))
 
 pub purse-run-list-v-spec : {M : Type 1} → statement M

@@ -16,8 +16,8 @@ refusal-number-requires c κs = search needs
 enum-known-answer-2 : tie.Need-enum-known-answer-2
 enum-known-answer-2 c = search needs
 
-cast-t9 : tie.Need-cast-t9
-cast-t9 c = search needs
+cast-t8 : tie.Need-cast-t8
+cast-t8 c = search needs
 
 flag-requires : tie.Need-flag-requires
 flag-requires c κs = search needs
@@ -26,13 +26,24 @@ enum-told : tie.Need-enum-told
 enum-told c = search needs
 
 returns : tie.Need-returns
-returns c = λ s e. advanced-refused _ _ e (c .before .before .answer .given .0 .0) _ (c .refusal-number .ensures) ∙ ap (λ (x : Stored). advancedOf s (storedOf x)) (sym (c .before .before .answer .given .1))
+returns c = advanced-refused (c .before .before .answer .given .0 .0) _ (c .refusal-number .ensures) ∙ ap (λ (x : Stored). advancedOf (storedOf x)) (sym (c .before .before .answer .given .1))
 
 returns-2 : tie.Need-returns-2
-returns-2 c = λ s e. advanced-stored _ _ e _ _ _ _ (c .flag .ensures) ∙ ap (λ (x : Stored). advancedOf s (storedOf x)) (sym (c .before .before .answer2 .given .1))
+returns-2 c = advanced-stored _ _ _ _ (c .flag .ensures) ∙ ap (λ (x : Stored). advancedOf (storedOf x)) (sym (c .before .before .answer2 .given .1))
 
 returns-3 : tie.Need-returns-3
-returns-3 c = λ s e. advanced-idle _ _ e ∙ ap (λ (x : Stored). advancedOf s (storedOf x)) (sym (c .enum-told .given .1))
+returns-3 c = advanced-idle ∙ ap (λ (x : Stored). advancedOf (storedOf x)) (sym (c .enum-told .given .1))
 
 pub advanced-spec : {M : Type 1} → statement M
-advanced-spec = tie.close (tie.spec enum-known-answer refusal-number-requires enum-known-answer-2 cast-t9 flag-requires enum-told returns returns-2 returns-3)
+advanced-spec =
+    tie.close
+    (tie.spec
+    enum-known-answer
+    refusal-number-requires
+    enum-known-answer-2
+    cast-t8
+    flag-requires
+    enum-told
+    returns
+    returns-2
+    returns-3)

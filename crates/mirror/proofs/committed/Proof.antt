@@ -7,9 +7,6 @@ use borrow.Author.Needs.{needs}
 use Rattle.mirror.proofs.committed.Statement.{statement}
 use Rattle.mirror.proofs.committed.Tie as tie
 
-encode-requires : tie.Need-encode-requires
-encode-requires c κs = search needs
-
 enum-known-answer : tie.Need-enum-known-answer
 enum-known-answer c = search needs
 
@@ -20,16 +17,15 @@ enum-known-answer-2 : tie.Need-enum-known-answer-2
 enum-known-answer-2 c = search needs
 
 returns : tie.Need-returns
-returns c = committed-refused _ _ (c .before .before .before .before .encode .ensures) (c .before .before .answer .given .0 .0) _ (c .refusal-number .ensures) ∙ ap (λ (x : Started). committedOf (c .before .before .before .before .before .before .args .c .session) (startedOf x)) (sym (c .before .before .answer .given .1))
+returns c = committed-refused (c .before .before .answer .given .0 .0) _ (c .refusal-number .ensures) ∙ ap (λ (x : Started). committedOf (startedOf x)) (sym (c .before .before .answer .given .1))
 
 returns-2 : tie.Need-returns-2
-returns-2 c = committed-started _ _ (c .before .before .before .encode .ensures) _ ∙ ap (λ (x : Started). committedOf (c .before .before .before .before .before .args .c .session) (startedOf x)) (sym (c .before .answer2 .given .1))
+returns-2 c = committed-started _ ∙ ap (λ (x : Started). committedOf (startedOf x)) (sym (c .before .answer2 .given .1))
 
 pub committed-spec : {M : Type 1} → statement M
 committed-spec =
     tie.close
     (tie.spec
-    encode-requires
     enum-known-answer
     refusal-number-requires
     enum-known-answer-2

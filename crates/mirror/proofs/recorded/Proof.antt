@@ -1,7 +1,6 @@
-use Rattle.spec.specs.Answers.{recordedOf as fileOf}
-use mathlib.Core.Path.{sym, ap, _∙_}
+use mathlib.Core.Path.{ap}
 use Rattle.spec.specs.declared.Recorded.{Recorded}
-use Rattle.mirror.specs.Mirror.{recordedOf}
+use Rattle.spec.specs.Answers.{recordedOf as fileOf}
 use Rattle.mirror.proofs.Laws.{recorded-refused, recorded-file, recorded-none}
 use borrow.Author.Needs.{needs}
 use Rattle.mirror.proofs.recorded.Statement.{statement}
@@ -19,8 +18,8 @@ no-file-requires c κs = search needs
 enum-told : tie.Need-enum-told
 enum-told c = search needs
 
-cast-t7 : tie.Need-cast-t7
-cast-t7 c = search needs
+cast-t9 : tie.Need-cast-t9
+cast-t9 c = search needs
 
 enum-told-2 : tie.Need-enum-told-2
 enum-told-2 c = search needs
@@ -29,13 +28,13 @@ no-file-requires-2 : tie.Need-no-file-requires-2
 no-file-requires-2 c κs = search needs
 
 returns : tie.Need-returns
-returns c = recorded-refused (c .before .before .before .answer .given .0 .0) _ (c .before .refusal-number .ensures) _ (c .no-file .ensures) ∙ ap (λ (x : Recorded). recordedOf (fileOf x (c .before .before .before .before .before .before .args .f .name) (c .before .before .before .before .before .before .args .f .size))) (sym (c .before .before .before .answer .given .1))
+returns c = recorded-refused (c .before .before .before .before .answer .given .0 .0) _ (c .before .before .refusal-number .ensures) _ _ _ (ap (λ (x : Recorded). fileOf x (c .before .before .before .before .before .before .before .args .f .name) (c .before .before .before .before .before .before .before .args .f .size)) (c .before .before .before .before .answer .given .1)) (c .no-file .ensures)
 
 returns-2 : tie.Need-returns-2
-returns-2 c = recorded-file _ _ ∙ ap (λ (x : Recorded). recordedOf (fileOf x (c .before .before .before .before .args .f .name) (c .before .before .before .before .args .f .size))) (sym (c .before .enum-told .given .1))
+returns-2 c = recorded-file _ _ _ (ap (λ (x : Recorded). fileOf x (c .before .before .before .before .args .f .name) (c .before .before .before .before .args .f .size)) (c .before .enum-told .given .1))
 
 returns-3 : tie.Need-returns-3
-returns-3 c = recorded-none _ (c .no-file2 .ensures) ∙ ap (λ (x : Recorded). recordedOf (fileOf x (c .before .before .before .before .args .f .name) (c .before .before .before .before .args .f .size))) (sym (c .before .enum-told2 .given .1))
+returns-3 c = recorded-none _ _ _ (ap (λ (x : Recorded). fileOf x (c .before .before .before .before .before .args .f .name) (c .before .before .before .before .before .args .f .size)) (c .before .before .enum-told2 .given .1)) (c .no-file2 .ensures)
 
 pub recorded-spec : {M : Type 1} → statement M
 recorded-spec =
@@ -45,7 +44,7 @@ recorded-spec =
     refusal-number-requires
     no-file-requires
     enum-told
-    cast-t7
+    cast-t9
     enum-told-2
     no-file-requires-2
     returns

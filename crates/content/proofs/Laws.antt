@@ -7,16 +7,17 @@ use mathlib.Core.List.{List, [], _∷_, _++_, append-assoc, append-nil}
 use native.Mathlib.Omega.{arith}
 use native.Mathlib.Nat.{add-zero}
 use native.Mathlib.Numerals.{add-one}
-use borrow.Author.Tests.{eqb-true, le-leb, lt-leb, lt-ltb, le-ltb}
+use borrow.Author.Tests.{eqb-true, leb-true, le-leb, lt-leb, lt-ltb, le-ltb}
 use lib.Dec.{eqb, leb, ltb}
-use lib.ListN.{length, take, drop, getD, set, length-set, length-take, length-append, take-append-drop, drop-of-length-le}
-use lib.Seq.{paste, paste-zero, paste-suc, take-suc-set, drop-set-lt, take-all, drop-cons, append-snoc}
+use lib.ListN.{length, take, drop, getD, set, length-set, length-take, length-drop, length-append, take-append-drop, drop-of-length-le}
+use lib.Seq.{paste, paste-zero, paste-suc, take-suc-set, take-all, drop-cons, drop-drop}
+use Rattle.lists.specs.Tests.{both-true}
 use Rattle.block.proofs.Steps.{set-exactly}
 use Rattle.spec.specs.Bytes.{exactly, zeros}
-use Rattle.block.proofs.Laws.{lt-or-le, exactly-all, exactly-nil}
+use Rattle.block.proofs.Laws.{lt-or-le, length-exactly, exactly-all, exactly-nil}
 use Rattle.spec.specs.declared.Extent.{Extent}
 use Rattle.spec.specs.Inode.{extent, bytesOfSlots}
-use Rattle.spec.specs.Plan.{overlay, isLastKept}
+use Rattle.spec.specs.Plan.{overlay, clearTail, isLastKept}
 use Rattle.runs.specs.Tree.{Runs}
 use Rattle.runs.specs.Runs.{extentsFrom, listed}
 use Rattle.content.specs.Content.{withRecord, nodeContent, laidOver, cutTo, keptContent, dataContent}
@@ -144,39 +145,73 @@ over-past x bytes at [] h = refl
 over-past x bytes at (o ∷ old) h =
     rw (le-leb x at (omega arith), le-ltb at (x + length bytes) h) (ap (λ (l : List ℕ). o ∷ l) (over-past x bytes (suc at) old (omega arith)))
 
--- the first k bytes are done, the others as they were
-pub record OverTo (x : ℕ) (bytes : List ℕ) (p : ℕ) (old q : List ℕ) (k : ℕ) : Type 0 where
-  pub long : length q ≡ 512
-  pub whole : length old ≡ 512
-  pub rest : drop k q ≡ drop k old
-  pub is : laidOver x bytes p old ≡ take k q ++ overlay x bytes (512 * p + k) (drop k old)
+-- the data holds the first n bytes
+over-in : (x : ℕ) (bytes : List ℕ) (n at : ℕ) (old : List ℕ) → x ≤ at → at + n ≤ x + length bytes → n ≤ length old
+    → overlay x bytes at old ≡ take n (drop (at - x) bytes) ++ overlay x bytes (at + n) (drop n old)
+over-in x bytes zero at old h m l = rw (add-zero at)
+over-in x bytes (suc n) at [] h m l = absurd (omega arith)
+over-in x bytes (suc n) at (o ∷ old) h m l =
+    let e : at + suc n ≡ suc at + n = omega arith in
+    let z : suc at - x ≡ suc (at - x) = omega arith in
+    let ih : overlay x bytes (suc at) old ≡ take n (drop (suc (at - x)) bytes) ++ overlay x bytes (suc at + n) (drop n old) = rw z at (over-in x bytes n (suc at) old (omega arith) (omega arith) (omega arith)) in
+    rw (le-leb x at h, lt-ltb at (x + length bytes) (omega arith), e, drop-cons bytes (at - x) 0 (omega arith)) (ap (λ (r : List ℕ). getD bytes (at - x) 0 ∷ r) ih)
 
-module _ (x : ℕ) (bytes : List ℕ) (p : ℕ) (old : List ℕ) where
-  pub over-start : length old ≡ 512 → (k : ℕ) → k ≡ min 512 (x - 512 * p) → OverTo x bytes p old old k
+-- n bytes of data at x reach block p from one place to another
+pub record Reach (x n p from end : ℕ) : Type 0 where
+  pub skipped : from ≤ x - 512 * p
+  pub low : x ≤ 512 * p + from
+  pub ahead : from < end
+  pub high : 512 * p + end ≤ x + n
+  pub inside : end ≤ 512
+  pub last : min 512 (x + n - 512 * p) ≤ end
+
+pub reach : (x n p from end : ℕ) → from ≡ min 512 (x - 512 * p) → end ≡ min 512 (x + n - 512 * p) → from < end → Reach x n p from end
+reach x n p from end a b h = record { skipped = omega arith; low = omega arith; ahead = h; high = omega arith; inside = omega arith; last = omega arith }
+
+module _ (x : ℕ) (bytes : List ℕ) (p : ℕ) (old : List ℕ) (whole : length old ≡ 512) where
+  -- from the end of the data on the block stays as it was
+  over-rest : (k : ℕ) → min 512 (x + length bytes - 512 * p) ≤ k → overlay x bytes (512 * p + k) (drop k old) ≡ drop k old
+  over-rest k h = go (lt-or-le k 512)
+    where
+      go : (k < 512) ⊎ (512 ≤ k) → overlay x bytes (512 * p + k) (drop k old) ≡ drop k old
+      go (inl m) = over-past x bytes (512 * p + k) (drop k old) (omega arith)
+      go (inr m) = rw (drop-of-length-le old {i = k} (omega arith))
+
+  -- no byte of the data lies in the block
+  pub over-none : (from end : ℕ) → from ≡ min 512 (x - 512 * p) → end ≡ min 512 (x + length bytes - 512 * p) → end ≤ from → old ≡ laidOver x bytes p old
   unfolding laidOver
-  over-start l k h = record { long = l; whole = l; rest = refl; is = over-skip x bytes k (512 * p) old (omega arith) }
+  over-none from end a b h = sym (over-skip x bytes from (512 * p) old (omega arith) ∙ ap (λ (r : List ℕ). take from old ++ r) (over-rest from (omega arith)) ∙ take-append-drop from old)
 
-  module _ (q : List ℕ) (k : ℕ) (h : OverTo x bytes p old q k) where
-    pub over-more : k < 512 → x ≤ 512 * p + k → 512 * p + k < x + length bytes → OverTo x bytes p old (set q k (getD bytes (512 * p + k - x) 0)) (k + 1)
-    over-more l a e =
-        let b = getD bytes (512 * p + k - x) 0 in
-        let z : 512 * p + (k + 1) ≡ suc (512 * p + k) = omega arith in
-        let d : drop k old ≡ getD old k 0 ∷ drop (suc k) old = drop-cons old k 0 (omega (arith, h .whole)) in
-        let t : take (suc k) (set q k b) ≡ take k q ++ (b ∷ []) = take-suc-set q k b (omega (arith, h .long)) in
-        let f : drop k q ≡ getD q k 0 ∷ drop (suc k) q = drop-cons q k 0 (omega (arith, h .long)) in
-        record {
-          long = simp length-set (h .long);
-          whole = h .whole;
-          rest = rw (add-one k, drop-set-lt (suc k) q k b (omega arith)) (ap (drop 1) (sym f ∙ h .rest ∙ d));
-          is = h .is ∙ rw (z, add-one k, t, d, le-leb x (512 * p + k) a, lt-ltb (512 * p + k) (x + length bytes) e) (sym (append-snoc (take k q) b (overlay x bytes (suc (512 * p + k)) (drop (suc k) old))));
-        }
+  -- the part that it reaches: as long as its bytes there, and lent and given back with these in it
+  module _ (from end : ℕ) (h : Reach x (length bytes) p from end) where
+    many : 512 * p + end - x - (512 * p + from - x) ≡ end - from
+    many = omega (arith, h .low, h .ahead)
 
-    pub over-end : min 512 (x + length bytes - 512 * p) ≤ k → q ≡ laidOver x bytes p old
-    over-end l = sym (h .is ∙ ap (λ (r : List ℕ). take k q ++ r) (behind (lt-or-le k 512) ∙ sym (h .rest)) ∙ take-append-drop k q)
-      where
-        behind : (k < 512) ⊎ (512 ≤ k) → overlay x bytes (512 * p + k) (drop k old) ≡ drop k old
-        behind (inl m) = over-past x bytes (512 * p + k) (drop k old) (omega arith)
-        behind (inr m) = rw (drop-of-length-le old {i = k} (omega (arith, h .whole)))
+    pub part-even : length (take (512 * p + end - x - (512 * p + from - x)) (drop (512 * p + from - x) bytes)) ≡ length (take (end - from) (drop from old))
+    part-even =
+        let l : length (take (end - from) (drop (512 * p + from - x) bytes)) ≡ end - from = simp (length-take, length-drop) (omega (arith, h .low, h .high, h .ahead)) in
+        let m : length (take (end - from) (drop from old)) ≡ end - from = simp (length-take, length-drop) (omega (arith, h .ahead, h .inside)) in
+        rw many (l ∙ sym m)
+
+    pub part-laid : (y : List ℕ) → y ≡ take (512 * p + end - x - (512 * p + from - x)) (drop (512 * p + from - x) bytes)
+        → take from old ++ (y ++ drop (end - from) (drop from old)) ≡ laidOver x bytes p old
+    unfolding laidOver
+    part-laid y e =
+        let m : 512 * p + from + (end - from) ≡ 512 * p + end = omega (arith, h .ahead) in
+        let j : from + (end - from) ≡ end = omega (arith, h .ahead) in
+        let l : end - from ≤ length (drop from old) = simp length-drop (omega (arith, h .ahead, h .inside)) in
+        let d : drop (end - from) (drop from old) ≡ drop end old = drop-drop (end - from) from old ∙ ap (λ (k : ℕ). drop k old) j in
+        rw (e, many, d)
+        (sym (over-skip x bytes from (512 * p) old (h .skipped)
+        ∙ ap (λ (r : List ℕ). take from old ++ r) (over-in x bytes (end - from) (512 * p + from) (drop from old) (h .low) (omega (arith, h .high, h .ahead)) l
+        ∙ rw (m, d, over-rest end (h .last)))))
+
+  -- of a block that the data covers nothing is left
+  over-whole : x ≤ 512 * p → 512 * p + 512 ≤ x + length bytes → laidOver x bytes p old ≡ take 512 (drop (512 * p - x) bytes)
+  unfolding laidOver
+  over-whole h m =
+      over-in x bytes 512 (512 * p) old h m (omega arith)
+      ∙ rw (drop-of-length-le old {i = 512} (omega arith)) (append-nil (take 512 (drop (512 * p - x) bytes)))
 
 -- ---- a block cleared from a place on
 
@@ -246,7 +281,30 @@ module _ (held oldSize size p : ℕ) (old : List ℕ) where
   unfolding keptContent
   kept-same h l = rw (lt-leb held p h, l)
 
-pub data-is : (held oldSize size x : ℕ) (bytes : List ℕ) (p : ℕ) (old kept q : List ℕ) → kept ≡ keptContent held oldSize size p old → q ≡ laidOver x bytes p kept
-    → q ≡ dataContent held oldSize size x bytes p old
-unfolding keptContent laidOver dataContent
-data-is held oldSize size x bytes p old kept q ek eq = eq ∙ rw ek
+  length-kept : length old ≡ 512 → length (keptContent held oldSize size p old) ≡ 512
+  unfolding keptContent
+  length-kept l = go (leb held p) (isLastKept oldSize size p)
+    where
+      go : (a b : Bool) → length (cond a (zeros 512) (cond b (clearTail size p old) old)) ≡ 512
+      go true b = sym (ap length (exactly-nil 512)) ∙ length-exactly 512 []
+      go false true = length-exactly 512 (take (size - 512 * p) old)
+      go false false = l
+
+-- what the data is laid over: what is kept of the block, or all of it where the data covers it
+pub record Under (held oldSize size x : ℕ) (bytes : List ℕ) (p : ℕ) (old block : List ℕ) : Type 0 where
+  pub long : length block ≡ 512
+  pub is : laidOver x bytes p block ≡ dataContent held oldSize size x bytes p old
+
+module _ (held oldSize size x : ℕ) (bytes : List ℕ) (p : ℕ) (old block : List ℕ) (l : length old ≡ 512) where
+  pub under-kept : block ≡ keptContent held oldSize size p old → Under held oldSize size x bytes p old block
+  unfolding keptContent laidOver dataContent
+  under-kept e = record { long = ap length e ∙ length-kept held oldSize size p old l; is = rw e }
+
+  pub under-covered : leb x (512 * p) && leb (512 * p + 512) (x + length bytes) ≡ true → block ≡ old → Under held oldSize size x bytes p old block
+  unfolding keptContent laidOver dataContent
+  under-covered h e =
+      let t = both-true (leb x (512 * p)) (leb (512 * p + 512) (x + length bytes)) h in
+      let a = leb-true x (512 * p) (t .0) in
+      let b = leb-true (512 * p + 512) (x + length bytes) (t .1) in
+      let n : length block ≡ 512 = ap length e ∙ l in
+      record { long = n; is = over-whole x bytes p block n a b ∙ sym (over-whole x bytes p (keptContent held oldSize size p old) (length-kept held oldSize size p old l) a b) }

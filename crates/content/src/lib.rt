@@ -1,10 +1,13 @@
 // The content of a block after a change: a file record's block, a node, a data block.
+use block::copy;
 use runs::End;
 use spec::Extent;
 use spec::Limits;
 ghost use mathlib.Core.Path.{_≡_};
+ghost use mathlib.Core.Bool.{_&&_};
 ghost use mathlib.Core.List.{List, [], _∷_, _++_};
 ghost use Prim.Native.Nat.{ℕ, _+_, _*_, _-_, _<_, _≤_, min};
+ghost use lib.Dec.{leb};
 ghost use lib.ListN.{length, getD};
 ghost use Rattle.spec.specs.Bytes.{bytes2, bytes4};
 ghost use Rattle.spec.specs.Inode.{extent, bytesOfInode, inodeWith};
@@ -241,11 +244,20 @@ fn lay_over(block: &mut [u8], x: usize, bytes: &[u8], p: usize)
     let start = Limits::BLOCK_SIZE * p;
     let from = within(start, x);
     let end = within(start, x + bytes.len());
-    let mut k = from;
-    while k < end {
-        block[k] = bytes[start + k - x];
-        k += 1;
+    if from < end {
+        let a = start + from - x;
+        let b = start + end - x;
+        copy(&bytes[a..b], &mut block[from..end]);
     }
+}
+
+// Whether the data covers the whole of the file's block p.
+fn is_covered(x: usize, bytes: &[u8], p: usize) -> bool
+    requires { ⌜ (p < 4294967296) × (x + length (now bytes) ≤ 1048576) ⌝ }
+    ensures { λ r. ⌜ r ≡ leb x (512 * p) && leb (512 * p + 512) (x + length (now (bytes .entry))) ⌝ }
+{
+    let start = Limits::BLOCK_SIZE * p;
+    (x <= start) & (start + Limits::BLOCK_SIZE <= x + bytes.len())
 }
 
 // "on shortening to a size not divisible by 512, the last kept block"
@@ -298,7 +310,7 @@ fn clear_block(block: &mut [u8], held: usize, was: usize, size: usize, p: usize)
     }
 }
 
-// Block p of the file as the change leaves it.
+// Block p of the file as the change leaves it. Where the data covers it, what it held plays no part.
 pub fn lay_data(
     block: &mut [u8],
     held: usize,
@@ -311,6 +323,8 @@ pub fn lay_data(
     requires { ⌜ (length (now block) ≡ 512) × (p < 4294967296) × (x + length (now bytes) ≤ 1048576) ⌝ }
     ensures { λ _. ⌜ now (block .exit) ≡ dataContent held was size x (now (bytes .entry)) p (now (block .entry)) ⌝ }
 {
-    clear_block(block, held, was, size, p);
+    if !is_covered(x, bytes, p) {
+        clear_block(block, held, was, size, p);
+    }
     lay_over(block, x, bytes, p);
 }

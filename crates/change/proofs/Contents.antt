@@ -3,7 +3,7 @@ use Prim.Native.Nat.{ℕ, _+_, _*_, _-_, _<_, _≤_}
 use mathlib.Core.Path.{_≡_, refl, sym, ap, _∙_}
 use mathlib.Core.List.{List}
 use native.Mathlib.Omega.{arith}
-use borrow.Author.Tests.{eq-eqb, ne-eqb, lt-ltb, le-ltb}
+use borrow.Author.Tests.{eq-eqb, ne-eqb, le-leb, lt-ltb, le-ltb}
 use lib.ListN.{take, drop}
 use Rattle.spec.specs.Bytes.{patch}
 use Rattle.spec.specs.Disk.{Disk}
@@ -31,6 +31,16 @@ module _ (i : ℕ) (c : Change) (x : ℕ) (bytes : List ℕ) (tag : ℕ) (old q 
   pub tag-data : (tag ≡ 0 → ⊥) → (tag ≡ 1 → ⊥) → 6 ≤ tag → q ≡ dataContent (c .tree .held) (c .old) (c .size) x bytes (tag - 6) old → q ≡ contentOf i c x bytes tag old
   unfolding contentOf
   tag-data g h l e = e ∙ rw (ne-eqb tag 0 g, ne-eqb tag 1 h, le-ltb tag 6 l)
+
+-- contents made anew
+module _ (i : ℕ) (c : Change) (x : ℕ) (bytes : List ℕ) (tag : ℕ) (y z : List ℕ) where
+  pub anew-low : tag < 6 → (tag ≡ 1 → ⊥) → contentOf i c x bytes tag y ≡ contentOf i c x bytes tag z
+  unfolding contentOf
+  anew-low l h = rw (ne-eqb tag 1 h, lt-ltb tag 6 l)
+
+  pub anew-data : 6 ≤ tag → c .tree .held ≤ tag - 6 → contentOf i c x bytes tag y ≡ contentOf i c x bytes tag z
+  unfolding contentOf dataContent
+  anew-data l h = rw (ne-eqb tag 0 (λ e. omega arith), ne-eqb tag 1 (λ e. omega arith), le-ltb tag 6 l, le-leb (c .tree .held) (tag - 6) h)
 
 -- the contents that are compared before anything is staged
 module _ (v : Disk) (i : ℕ) (c : Change) (x : ℕ) (bytes : List ℕ) where

@@ -24,6 +24,7 @@ use Rattle.transaction.specs.Places.{foundAt, spot, blocksWith, sessionOf, view
 use Rattle.transaction.proofs.Laws.{spot-at, spot-new, view-at, view-new, cells-lent, cells-view, stage-leaves}
 use Rattle.inode.specs.Records.{bytesIn}
 use Rattle.content.specs.Content.{withRecord}
+use Rattle.change.specs.Contents.{Ready}
 
 -- ---- what is compared
 
@@ -126,36 +127,30 @@ module _ (l device work : List ℕ) (b : ℕ) where
   image-new left from n e en ef h =
       h ∙ ap₂ (λ (k : ℕ) (x : List ℕ). storedIn (sliceOf work) k x) (en ∙ spot-new l b e) (block-read device from (exactly 512 from) b ef refl ∙ sym (view-new l device work b e))
 
-module _ (s : Session) (device work : List ℕ) (b : ℕ) where
-  abbrev viewed : List ℕ
-  viewed = view (stateOf s device work) b
+-- an image that is loaded is ready for any content
+pub ready-loaded : (g : List ℕ → List ℕ) (old was work : List ℕ) (j k : ℕ) → k ≡ j → 512 * k + 512 ≤ length work → sliceOf work ≡ storedIn (sliceOf was) j old → Ready g old was work k
+ready-loaded g old was work j k e fits is =
+    let loaded : sliceOf work ≡ storedIn (sliceOf was) k old = is ∙ ap (λ (i : ℕ). storedIn (sliceOf was) i old) (sym e) in
+    let l : length (take 512 (drop (512 * k) work)) ≡ 512 = simp (length-take, length-drop) (omega arith) in
+    record {
+      around = λ x. ap (λ (u : Slice). storedIn u k x) loaded ∙ ap (λ (d : Disk). record { size = length was; block = d }) (with-twice k x old (blocksOf was));
+      made = ap g (sym (block-is work k ∙ exactly-all 512 (take 512 (drop (512 * k) work)) l) ∙ ap (λ (u : Slice). u .block k) loaded ∙ with-same k old (blocksOf was));
+    }
 
-  -- its content made there, in the part that is lent
-  module _ (w : List ℕ) (k : ℕ) (e : k ≡ spot (stagedIn s) b) (fits : 512 * k + 512 ≤ length w) (loaded : sliceOf w ≡ storedIn (sliceOf work) (spot (stagedIn s) b) viewed) where
-    loaded-at : sliceOf w ≡ storedIn (sliceOf work) k viewed
-    loaded-at = loaded ∙ ap (λ (j : ℕ). storedIn (sliceOf work) j viewed) (sym e)
-
-    lent-part : take (512 * k + 512 - 512 * k) (drop (512 * k) w) ≡ viewed
-    lent-part =
-        let z : 512 * k + 512 - 512 * k ≡ 512 = omega arith in
-        let l : length (take 512 (drop (512 * k) w)) ≡ 512 = simp (length-take, length-drop) (omega arith) in
-        ap (λ (n : ℕ). take n (drop (512 * k) w)) z
-        ∙ sym (block-is w k ∙ exactly-all 512 (take 512 (drop (512 * k) w)) l)
-        ∙ ap (λ (u : Slice). u .block k) loaded-at
-        ∙ with-same k viewed (blocksOf work)
-
-    image-edited : (q : Session) (g : List ℕ → List ℕ) (y : List ℕ) → y ≡ g (take (512 * k + 512 - 512 * k) (drop (512 * k) w)) → length y ≡ 512
-        → q ≡ withStaged s (blocksWith (stagedIn s) b)
-        → stateOf q device (take (512 * k) w ++ (y ++ drop (512 * k + 512 - 512 * k) (drop (512 * k) w)))
-        ≡ withStaging (stateOf s device work) (stage (stagedOf (stateOf s device work)) (put b (g viewed)))
-    image-edited q g y ey l eq =
-        let x = g viewed in
-        let yx : y ≡ x = ey ∙ ap g lent-part in
-        let m : length x ≡ 512 = sym (ap length yx) ∙ l in
-        stage-leaves s q device work (take (512 * k) w ++ (y ++ drop (512 * k + 512 - 512 * k) (drop (512 * k) w))) b k x e
-        (slice-stored k x y w yx m fits ∙ ap (λ (u : Slice). storedIn u k x) loaded-at
-        ∙ ap (λ (d : Disk). record { size = length work; block = d }) (with-twice k x viewed (blocksOf work)))
-        eq
+-- a content made in an image that is ready for it, in the part that is lent
+image-edited : (s q : Session) (device work w : List ℕ) (b k : ℕ) (g : List ℕ → List ℕ) (y : List ℕ) → k ≡ spot (stagedIn s) b → 512 * k + 512 ≤ length w
+    → Ready g (view (stateOf s device work) b) work w k → y ≡ g (take (512 * k + 512 - 512 * k) (drop (512 * k) w)) → length y ≡ 512
+    → q ≡ withStaged s (blocksWith (stagedIn s) b)
+    → stateOf q device (take (512 * k) w ++ (y ++ drop (512 * k + 512 - 512 * k) (drop (512 * k) w)))
+    ≡ withStaging (stateOf s device work) (stage (stagedOf (stateOf s device work)) (put b (g (view (stateOf s device work) b))))
+image-edited s q device work w b k g y e fits ready ey l eq =
+    let x = g (view (stateOf s device work) b) in
+    let z : 512 * k + 512 - 512 * k ≡ 512 = omega arith in
+    let yx : y ≡ x = ey ∙ ap (λ (n : ℕ). g (take n (drop (512 * k) w))) z ∙ ready .made in
+    let m : length x ≡ 512 = sym (ap length yx) ∙ l in
+    stage-leaves s q device work (take (512 * k) w ++ (y ++ drop (512 * k + 512 - 512 * k) (drop (512 * k) w))) b k x e
+    (slice-stored k x y w yx m fits ∙ ready .around x)
+    eq
 
 -- the same of every session with these cells, where those in use are lent
 module _ (cells : List ℕ) (count n : ℕ) (h : length cells ≡ 32) (m : n ≡ min count 32) (b : ℕ) where
@@ -165,18 +160,13 @@ module _ (cells : List ℕ) (count n : ℕ) (h : length cells ≡ 32) (m : n ≡
   pub spot-lent : (k : ℕ) → k ≡ spot (take count cells) b → k ≡ spot (take (n - 0) (drop 0 cells)) b
   spot-lent k e = e ∙ ap (λ (l : List ℕ). spot l b) (sym (cells-lent cells count n h m))
 
-  module _ (device work w : List ℕ) (k : ℕ) (e : k ≡ spot (take count cells) b) (fits : 512 * k + 512 ≤ length w)
-      (loaded : sliceOf w ≡ storedIn (sliceOf work) (spot (take (n - 0) (drop 0 cells)) b) (viewIn (take (n - 0) (drop 0 cells)) device work b)) where
-    loaded-in : (N : ℕ) (p : Phase)
-        → sliceOf w ≡ storedIn (sliceOf work) (spot (stagedIn (sessionOf N p cells count)) b) (view (stateOf (sessionOf N p cells count) device work) b)
-    unfolding stagedIn
-    loaded-in N p =
-        loaded ∙ ap₂ (λ (l : List ℕ) (x : List ℕ). storedIn (sliceOf work) (spot l b) x) (cells-lent cells count n h m) (ap (λ (v : Disk). v b) (cells-view cells count n h m N p device work))
-
-    pub image-cells : (left : List ℕ) (q : ℕ) → ((N : ℕ) (p : Phase) → sessionOf N p left q ≡ withStaged (sessionOf N p cells count) (blocksWith (take count cells) b))
-        → (g : List ℕ → List ℕ) (y : List ℕ) → y ≡ g (take (512 * k + 512 - 512 * k) (drop (512 * k) w)) → length y ≡ 512 → (N : ℕ) (p : Phase)
-        → stateOf (sessionOf N p left q) device (take (512 * k) w ++ (y ++ drop (512 * k + 512 - 512 * k) (drop (512 * k) w)))
-        ≡ withStaging (stateOf (sessionOf N p cells count) device work) (stage (stagedOf (stateOf (sessionOf N p cells count) device work)) (put b (g (view (stateOf (sessionOf N p cells count) device work) b))))
-    unfolding stagedIn
-    image-cells left q eq g y ey l N p =
-        image-edited (sessionOf N p cells count) device work b w k e fits (loaded-in N p) (sessionOf N p left q) g y ey l (eq N p)
+  pub image-cells : (device work w : List ℕ) (k : ℕ) → k ≡ spot (take count cells) b → 512 * k + 512 ≤ length w
+      → (g : List ℕ → List ℕ) → Ready g (viewIn (take (n - 0) (drop 0 cells)) device work b) work w k
+      → (left : List ℕ) (q : ℕ) → ((N : ℕ) (p : Phase) → sessionOf N p left q ≡ withStaged (sessionOf N p cells count) (blocksWith (take count cells) b))
+      → (y : List ℕ) → y ≡ g (take (512 * k + 512 - 512 * k) (drop (512 * k) w)) → length y ≡ 512 → (N : ℕ) (p : Phase)
+      → stateOf (sessionOf N p left q) device (take (512 * k) w ++ (y ++ drop (512 * k + 512 - 512 * k) (drop (512 * k) w)))
+      ≡ withStaging (stateOf (sessionOf N p cells count) device work) (stage (stagedOf (stateOf (sessionOf N p cells count) device work)) (put b (g (view (stateOf (sessionOf N p cells count) device work) b))))
+  unfolding stagedIn
+  image-cells device work w k e fits g ready left q eq y ey l N p =
+      let r : Ready g (view (stateOf (sessionOf N p cells count) device work) b) work w k = rw (← cells-view cells count n h m N p device work) ready in
+      image-edited (sessionOf N p cells count) (sessionOf N p left q) device work w b k g y e fits r ey l (eq N p)

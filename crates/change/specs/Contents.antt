@@ -3,13 +3,14 @@ use Prim.Native.Nat.{ℕ, _*_, _-_, _<_, _≤_}
 use mathlib.Core.Path.{_≡_}
 use mathlib.Core.Bool.{cond}
 use mathlib.Core.List.{List, _∷_, _++_, map}
-use lib.ListN.{length, drop, getD}
+use lib.ListN.{length, take, drop, getD}
 use lib.Dec.{eqb, ltb}
 use Rattle.spec.specs.Bytes.{same, keep, upFrom}
-use Rattle.spec.specs.Disk.{Disk}
+use Rattle.spec.specs.Disk.{Disk, sliceOf}
 use Rattle.spec.specs.Inode.{blocksIn, counts}
 use Rattle.spec.specs.Transaction.{State, view, BlockStore, put, stageEach, stagedOf}
 use Rattle.spec.specs.Plan.{edit, ifChanged, storesOf, inodeEdit, nodeEdits, dataEdits, isStaged, newContent}
+use Rattle.block.specs.Stores.{storedIn}
 use Rattle.runs.specs.Tree.{Runs}
 use Rattle.runs.specs.Runs.{extentsFrom, listed, nodesIn}
 use Rattle.runs.specs.Push.{columns}
@@ -34,6 +35,11 @@ contentOf i c x bytes tag old =
 -- the same for block b of a disk
 unfoldable pub contentIn : Disk → ℕ → Change → ℕ → List ℕ → ℕ → ℕ → List ℕ
 contentIn v i c x bytes b tag = contentOf i c x bytes tag (v b)
+
+-- a work space whose image k is ready for content g of a block that held `old`: it differs from what it was in that image alone, and g makes of the image what it makes of `old`
+pub record Ready (g : List ℕ → List ℕ) (old was work : List ℕ) (k : ℕ) : Type 0 where
+  pub around : (x : List ℕ) → storedIn (sliceOf work) k x ≡ storedIn (sliceOf was) k x
+  pub made : g (take 512 (drop (512 * k) work)) ≡ g old
 
 -- a store before others, where it changes the block
 unfoldable pub withChanged : Disk → List ℕ → ℕ → List BlockStore → List BlockStore

@@ -23,6 +23,7 @@ use transaction::staged_in;
 use transaction::view_in;
 use transaction::with_block;
 ghost use mathlib.Core.Path.{_≡_};
+ghost use mathlib.Core.Bool.{true};
 ghost use mathlib.Core.List.{List, []};
 ghost use Prim.Native.Nat.{ℕ, _+_, _*_, _-_, _/_, _<_, _≤_};
 ghost use lib.ListN.{length, take, getD};
@@ -42,7 +43,7 @@ ghost use Rattle.runs.specs.Push.{columns};
 ghost use Rattle.agenda.specs.Agenda.{agenda, Room, Lists, storesBy};
 ghost use Rattle.change.specs.Change.{Change, changeStores};
 ghost use Rattle.change.specs.Window.{Outside};
-ghost use Rattle.change.specs.Contents.{Stages, contentOf, contentIn, withChanged, dataStores, nodeStores, placeOf, changeOf, Numbers, IsBlock};
+ghost use Rattle.change.specs.Contents.{Stages, Ready, contentOf, contentIn, withChanged, dataStores, nodeStores, placeOf, changeOf, Numbers, IsBlock};
 
 // All of a change but the bitmap and the columns of its extents: where these end, its nodes, the bytes of its record, its numbers.
 pub struct Outline {
@@ -544,6 +545,36 @@ fn load_image(device: &[u8], work: &mut [u8], staged: &[u32], b: DiskBlock, k: u
     store_copy(work, DiskBlock(k as u32), block_in(device, b));
 }
 
+// Whether the content of a tag is one and the same whatever the block held: that of the bitmap, a node or a new data block.
+fn is_made_anew(held: usize, tag: u32) -> bool
+    ensures { λ r. ⌜ (r ≡ true → (i : ℕ) (c : Change) (x : ℕ) (bytes y z : List ℕ) → c .tree .held ≡ held → contentOf i c x bytes tag y ≡ contentOf i c x bytes tag z) ⌝ }
+{
+    if tag < FIRST_DATA {
+        return !(tag == RECORD);
+    }
+    held <= (tag - FIRST_DATA) as usize
+}
+
+// The image of block b, whose place is k, made ready for the content of its tag: it is loaded, unless that is made anew.
+fn ready_image(
+    device: &[u8],
+    work: &mut [u8],
+    staged: &[u32],
+    b: DiskBlock,
+    k: usize,
+    held: usize,
+    tag: u32,
+)
+    requires { ⌜ (length (now work) ≡ 16384) × (k ≡ spot (now staged) (b .0)) × (k < 32) ⌝ }
+    ensures { λ _. ⌜ ((i : ℕ) (c : Change) (x : ℕ) (bytes : List ℕ) → c .tree .held ≡ held
+        → Ready (contentOf i c x bytes tag) (viewIn (now (staged .entry)) (now (device .entry)) (now (work .entry)) (b .0)) (now (work .entry)) (now (work .exit)) k) ⌝ }
+{
+    if is_made_anew(held, tag) {
+        return;
+    }
+    load_image(device, work, staged, b, k);
+}
+
 // Block b staged with the content of its tag, which is made in its image: how many cells are in use then. Of every session with these cells.
 fn stage_block<'a>(
     device: &'a [u8],
@@ -570,7 +601,7 @@ fn stage_block<'a>(
     let l: &[u32] = cells;
     let staged = &l[0..n];
     let k = spot(staged, DiskBlock(b));
-    load_image(device, work, staged, DiskBlock(b), k);
+    ready_image(device, work, staged, DiskBlock(b), k, o.held, tag);
     let at = Limits::BLOCK_SIZE * k;
     let end = at + Limits::BLOCK_SIZE;
     edit_block(&mut work[at..end], i, table, first, count, o, x, bytes, tag);

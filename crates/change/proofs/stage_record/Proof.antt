@@ -1,4 +1,4 @@
-use Rattle.change.proofs.Images.{spot-lent, image-cells}
+use Rattle.change.proofs.Images.{spot-lent, ready-loaded, image-cells}
 use Rattle.content.specs.Content.{withRecord}
 use Rattle.transaction.specs.Places.{spot, sessionOf}
 use Rattle.spec.specs.Inode.{blockOfInode}
@@ -59,7 +59,10 @@ same-length c = search needs
 
 returns : tie.Need-returns
 returns c = λ N p. let a = c .before .before .before .before .before .before .before .before .before .before .before .before .before .before .before .before .before .before .args in let st = stateOf (sessionOf N p (a .cells .now) (a .many)) (a .device .now) (a .work .now) in
-    image-cells (a .cells .now) (a .many) _ (c .before .before .before .before .before .before .before .before .before .before .before .before .before .before .before .before .before .before .pre .1) (c .before .before .before .before .before .before .before .before .before .before .before .before .before .before .staged-in .ensures .0) _ (a .device .now) (a .work .now) _ _ (at (c .before .before .before .before .before .before .before .before .before .before)) (omega (arith, c .before .before .before .before .before .before .before .before .before .before .before .before .before .before .before .before .before .before .pre .5, c .before .before .before .before .before .before .before .before .before .before .before .before .before .before .before .before .before .before .pre .0, c .before .before .before .before .before .before .before .before .load-image .kept .1 .0)) (c .before .before .before .before .before .before .before .before .load-image .ensures) _ _ (c .with-block .ensures .0) (withRecord (a .i) (a .new .now)) _ (c .before .before .before .before .lay-record .ensures) (search needs) N p
+    let k = at (c .before .before .before .before .before .before .before .before .before .before) in
+    let n = c .before .before .before .before .before .before .before .before .before .before .before .before .before .before .staged-in .ensures .0 in
+    image-cells (a .cells .now) (a .many) _ (c .before .before .before .before .before .before .before .before .before .before .before .before .before .before .before .before .before .before .pre .1) n _ (a .device .now) (a .work .now) _ _ k (omega (arith, c .before .before .before .before .before .before .before .before .before .before .before .before .before .before .before .before .before .before .pre .5, c .before .before .before .before .before .before .before .before .before .before .before .before .before .before .before .before .before .before .pre .0, c .before .before .before .before .before .before .before .before .load-image .kept .1 .0)) (withRecord (a .i) (a .new .now))
+    (ready-loaded _ _ _ _ _ _ (spot-lent _ _ _ (c .before .before .before .before .before .before .before .before .before .before .before .before .before .before .before .before .before .before .pre .1) n _ _ k) (omega (arith, c .before .before .before .before .before .before .before .before .before .before .before .before .before .before .before .before .before .before .pre .5, c .before .before .before .before .before .before .before .before .before .before .before .before .before .before .before .before .before .before .pre .0, c .before .before .before .before .before .before .before .before .load-image .kept .1 .0)) (c .before .before .before .before .before .before .before .before .load-image .ensures)) _ _ (c .with-block .ensures .0) _ (c .before .before .before .before .lay-record .ensures) (search needs) N p
     ∙ ap (λ (b : ℕ). withStaging st (stage (stagedOf st) (put b (withRecord (a .i) (a .new .now) (view st b))))) (c .before .before .before .before .before .before .before .before .before .before .table-block .ensures)
 
 pub stage-record-spec : {M : Type 1} → statement M

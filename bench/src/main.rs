@@ -30,6 +30,21 @@ impl Bench {
         Bench { device, work, raw, plain, rounds }
     }
 
+    /// Times one call that only reads, made over and over.
+    fn look(&mut self, mut proved: impl FnMut(&Store), mut rust: impl FnMut(&[u8], &[u8], &plain::Session)) -> Pair {
+        let (mut d, mut w) = (self.device.clone(), self.work.clone());
+        let store = Store::resume(&mut d, &mut w, self.raw);
+        spread(self.rounds, |n, first| {
+            for _ in 0..n {
+                if first {
+                    proved(black_box(&store));
+                } else {
+                    rust(black_box(&self.device), black_box(&self.work), black_box(&self.plain));
+                }
+            }
+        })
+    }
+
     /// Times one call made over and over from the same session.
     fn time(
         &mut self,
@@ -63,27 +78,27 @@ fn calls(table: &mut Table, title: &str, image: &Image, file: u32, rounds: usize
     let mut rust_list = vec![plain::Extent::default(); 512];
     let at = size / 2;
     table.head(title);
-    table.row("size", b.time(|s| _ = black_box(s.size(&a)), |d, w, s| _ = black_box(plain::size(d, w, s, &a))));
-    table.row("free count", b.time(|s| _ = black_box(s.free_count()), |d, w, s| _ = black_box(plain::free_count(d, w, s))));
-    table.row("record", b.time(|s| _ = black_box(s.record(127)), |d, w, s| _ = black_box(plain::record_at(d, w, s, 127))));
+    table.row("size", b.look(|s| _ = black_box(s.size(&a)), |d, w, s| _ = black_box(plain::size(d, w, s, &a))));
+    table.row("free count", b.look(|s| _ = black_box(s.free_count()), |d, w, s| _ = black_box(plain::free_count(d, w, s))));
+    table.row("record", b.look(|s| _ = black_box(s.record(127)), |d, w, s| _ = black_box(plain::record_at(d, w, s, 127))));
     let mut again = small;
     table.row(
         "read 8 bytes",
-        b.time(|s| _ = black_box(s.read(&a, at, &mut small)), |d, w, s| _ = black_box(plain::read(d, w, s, &a, at, &mut again))),
+        b.look(|s| _ = black_box(s.read(&a, at, &mut small)), |d, w, s| _ = black_box(plain::read(d, w, s, &a, at, &mut again))),
     );
     let mut whole = vec![0u8; size as usize];
     let mut other_whole = whole.clone();
     table.row(
         "read all",
-        b.time(|s| _ = black_box(s.read(&a, 0, &mut whole)), |d, w, s| _ = black_box(plain::read(d, w, s, &a, 0, &mut other_whole))),
+        b.look(|s| _ = black_box(s.read(&a, 0, &mut whole)), |d, w, s| _ = black_box(plain::read(d, w, s, &a, 0, &mut other_whole))),
     );
     table.row(
         "n-th extent",
-        b.time(|s| _ = black_box(s.nth_extent(&a, 0, blocks, 0)), |d, w, s| _ = black_box(plain::nth_extent(d, w, s, &a, 0, blocks, 0))),
+        b.look(|s| _ = black_box(s.nth_extent(&a, 0, blocks, 0)), |d, w, s| _ = black_box(plain::nth_extent(d, w, s, &a, 0, blocks, 0))),
     );
     table.row(
         "run list",
-        b.time(
+        b.look(
             |s| _ = black_box(s.run_list(&a, 0, blocks, &mut list)),
             |d, w, s| _ = black_box(plain::run_list(d, w, s, &a, 0, blocks, &mut rust_list)),
         ),

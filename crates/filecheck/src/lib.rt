@@ -4,6 +4,7 @@ use inode::size_of;
 use spec::Limits;
 use tree::SLOTS_PER_INODE;
 use tree::SLOTS_PER_NODE;
+use tree::are_packed;
 use tree::block_at;
 use tree::extents_over;
 use tree::no_run;
@@ -88,11 +89,11 @@ fn flat_sound(
 {
     let at = 32 * (i % 16) + 16;
     let k = size / Limits::BLOCK_SIZE;
-    let w = extents_over(once, twice, table, blocks, k, at, SLOTS_PER_INODE, no_run());
-    let r = w.run;
+    let r = extents_over(once, twice, table, blocks, k, at, SLOTS_PER_INODE, no_run());
+    let packed = are_packed(table, at, SLOTS_PER_INODE, r.extents);
     let clear = last_clear(device, size, r.tail);
     let want = blocks_for(size);
-    w.packed & r.inside & (r.blocks == want) & r.apart & clear
+    packed & r.inside & (r.blocks == want) & r.apart & clear
 }
 
 // S4 to S6 and S8 of file i, of depth 1.

@@ -46,6 +46,10 @@ module _ (N k : ℕ) where
   over-extents r [] = omega arith
   over-extents r (e ∷ es) = over-extents (withExtent N k r e) es ∙ omega arith
 
+  -- from none on
+  pub over-many : (z r : Run) (es : List Extent) → z ≡ noRun → r ≡ overExtents N k z es → r .extents ≡ length es
+  over-many z r es ez er = omega (arith, ap (λ (q : Run). q .extents) ez, ap (λ (q : Run). q .extents) er, over-extents z es)
+
   pub over-blocks : (r : Run) (es : List Extent) → overExtents N k r es .blocks ≡ r .blocks + counts es
   unfolding overExtents withExtent
   over-blocks r [] = omega arith

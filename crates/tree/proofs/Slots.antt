@@ -1,10 +1,10 @@
 -- Slots one by one. Assumes nothing.
-use Prim.Native.Nat.{ℕ, zero, suc, _+_, _-_, _<_, _≤_}
-use mathlib.Core.Path.{_≡_, refl, sym, ap₂, _∙_}
+use Prim.Native.Nat.{ℕ, zero, suc, _+_, _*_, _-_, _<_, _≤_}
+use mathlib.Core.Path.{_≡_, refl, sym, ap, ap₂, _∙_}
 use mathlib.Core.Bool.{Bool, true, false, cond, not, _&&_, _||_, true≢false}
 use mathlib.Core.List.{List, [], _∷_, _++_}
 use native.Mathlib.Omega.{arith}
-use borrow.Author.Tests.{eqb-false}
+use borrow.Author.Tests.{eqb-false, ne-eqb}
 use lib.Dec.{eqb}
 use lib.ListN.{length, drop}
 use lib.Seq.{drop-drop, getD-drop}
@@ -14,7 +14,8 @@ use Rattle.spec.specs.Inode.{extent, slotsIn, used, counts}
 use Rattle.spec.specs.Sound.{slotsPacked}
 use Rattle.block.proofs.Laws.{number2-exactly}
 use Rattle.inode.specs.Walk.{slotIn}
-use Rattle.tree.specs.Reached.{usedFrom}
+use Rattle.tree.specs.Reached.{isUnused, usedFrom}
+use Rattle.tree.proofs.Runs.{and-right}
 
 -- a slot as the code reads it
 pub slot-read : (t : List ℕ) (at x y : ℕ) → at + 4 ≤ 512 → x ≡ number2 at t → y ≡ number2 (at + 2) t → extent x y ≡ slotIn at (exactly 512 t)
@@ -36,6 +37,62 @@ slots-next X p (suc m) e h q = let z : suc m - 1 ≡ m = omega arith in rw (z, q
 -- whether slots are packed, all used before them or not
 unfoldable pub packedFrom : Bool → List Extent → Bool
 packedFrom more slots = cond more (slotsPacked slots) (all (λ e. eqb (e .first) 0 && eqb (e .count) 0) slots)
+
+-- a slot that is not used is the first of the others, and a used one stands before them
+module _ (e : Extent) (es : List Extent) where
+  pub unused-none : e .count ≡ 0 → used (e ∷ es) ≡ []
+  unused-none h = rw h
+
+  pub used-first : 0 < e .count → used (e ∷ es) ≡ e ∷ used es
+  used-first h = rw (ne-eqb (e .count) 0 (λ q. omega arith))
+
+pub used-few : (es : List Extent) → length (used es) ≤ length es
+used-few [] = omega arith
+used-few (e ∷ es) = go (eqb (e .count) 0) (used-few es)
+  where
+    go : (t : Bool) → length (used es) ≤ length es → length (cond (not t) (e ∷ used es) []) ≤ suc (length es)
+    go true h = omega arith
+    go false h = omega arith
+
+pub length-slots : (n : ℕ) (xs : List ℕ) → length (slotsIn n xs) ≡ n
+unfolding slotsIn
+length-slots zero xs = refl
+length-slots (suc n) xs = ap suc (length-slots n (drop 4 xs))
+
+-- slots tested one by one, from slot j on
+unused-on : (a b c : Bool) → a && (b && c) ≡ (a && b) && c
+unused-on true b c = refl
+unused-on false b c = refl
+
+module _ (X : List ℕ) (at n j : ℕ) (slots : List Extent) (unused : Bool) where
+  abbrev rest : ℕ → Bool
+  rest i = all isUnused (slotsIn (n - i) (drop (at + 4 * i) X))
+
+  module _ (g : unused && rest j ≡ slotsPacked slots) where
+    pub unused-more : (e : Extent) → j < n → e ≡ slotIn (at + 4 * j) X → (unused && isUnused e) && rest (j + 1) ≡ slotsPacked slots
+    unused-more e h q =
+        let a : n - (j + 1) ≡ n - j - 1 = omega arith in
+        let b : at + 4 * (j + 1) ≡ at + 4 * j + 4 = omega arith in
+        rw (a, b)
+        (sym (unused-on unused (isUnused e) (all isUnused (slotsIn (n - j - 1) (drop (at + 4 * j + 4) X))))
+        ∙ ap (λ (es : List Extent). unused && all isUnused es) (sym (slots-next X (at + 4 * j) (n - j) e (omega arith) q)) ∙ g)
+
+    pub unused-end : n ≤ j → unused ≡ slotsPacked slots
+    unfolding slotsIn
+    unused-end h = let z : n - j ≡ 0 = omega arith in sym (and-right unused) ∙ ap (λ (i : ℕ). unused && all isUnused (slotsIn i (drop (at + 4 * j) X))) (sym z) ∙ g
+
+drop-slots : (m n at : ℕ) (X : List ℕ) → m ≤ n → drop m (slotsIn n (drop at X)) ≡ slotsIn (n - m) (drop (at + 4 * m) X)
+drop-slots zero n at X h = let a : at + 4 * 0 ≡ at = omega arith in let b : n - 0 ≡ n = omega arith in rw (a, b)
+drop-slots (suc m) zero at X h = absurd (omega arith)
+drop-slots (suc m) (suc n) at X h =
+    let a : at + 4 + 4 * m ≡ at + 4 * suc m = omega arith in
+    let b : suc n - suc m ≡ n - m = omega arith in
+    rw (slots-first n at X, b, ← a) (drop-slots m n (at + 4) X (omega arith))
+
+pub unused-start : (X : List ℕ) (at n m : ℕ) → m ≡ length (used (slotsIn n (drop at X))) → (m ≤ n) × (true && all isUnused (slotsIn (n - m) (drop (at + 4 * m) X)) ≡ slotsPacked (slotsIn n (drop at X)))
+unused-start X at n m e =
+    let h : m ≤ n = omega (arith, e, used-few (slotsIn n (drop at X)), length-slots n (drop at X)) in
+    (h, ap (all isUnused) (sym (drop-slots m n at X h)) ∙ ap (λ (i : ℕ). all isUnused (drop i (slotsIn n (drop at X)))) e)
 
 module _ (e : Extent) where
   -- one slot that is not used, and one that is

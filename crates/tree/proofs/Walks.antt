@@ -22,7 +22,7 @@ use Rattle.tree.specs.declared.Nodes.{Nodes}
 use Rattle.tree.specs.Runs.{withExtent, overExtents, withNode, overNodes, noNodes}
 use Rattle.tree.specs.Reached.{usedFrom, blocksFrom, treeFrom}
 use Rattle.tree.proofs.Runs.{and-assoc, and-right, over-append, over-extents, over-blocks, nodes-run, nodes-append, nodes-tops, nodes-counts}
-use Rattle.tree.proofs.Slots.{slots-next, packedFrom, not-used, is-used, used-length, used-counts, used-step, packed-step}
+use Rattle.tree.proofs.Slots.{slots-next, unused-none, used-first, packedFrom, not-used, is-used, used-length, used-counts, used-step, packed-step}
 
 -- ---- blocks of extents
 
@@ -94,35 +94,71 @@ node-marked N v n e us o₂ t₂ o₁ t₁ o t q a b =
     (λ x. omega (arith, occurs-append x B (e .first ∷ []))) a)
     o₂ t₂ B [] (λ x. omega arith) b
 
--- ---- one slot
-
-module _ (N k : ℕ) (r : Run) (more : Bool) (e : Extent) (o t : List ℕ) where
-  pub slot-off : (not more || eqb (e .count) 0) ≡ true → (r ≡ overExtents N k r (usedFrom more (e ∷ []))) × Kept N o t [] o t (blocksFrom (r .blocks) (usedFrom more (e ∷ [])))
-  unfolding overExtents
-  slot-off h =
-      let z = not-used e more h in
-      (ap (overExtents N k r) (sym z), kept-start N o t [] _ (blocks-none (r .blocks) ∙ ap (blocksFrom (r .blocks)) (sym z)))
-
-  pub slot-on : (q : Run) (m : ℕ) (o₁ t₁ : List ℕ) → (not more || eqb (e .count) 0) ≡ false → q ≡ withExtent N k r e → m ≡ min (e .count) (2048 - r .blocks)
-      → Kept N o₁ t₁ [] o t (upFrom (e .first) m)
-      → (q ≡ overExtents N k r (usedFrom more (e ∷ []))) × Kept N o₁ t₁ [] o t (blocksFrom (r .blocks) (usedFrom more (e ∷ [])))
-  unfolding overExtents
-  slot-on q m o₁ t₁ h iq im c =
-      let z = is-used e more h in (
-        iq ∙ ap (overExtents N k r) (sym z),
-        kept-end N o₁ t₁ [] o t _ c _ refl (blocks-one (r .blocks) m e im ∙ ap (blocksFrom (r .blocks)) (sym z)),
-      )
-
 -- ---- the loop over extents
 
--- at place p of a block X with so many slots left, q so far: with what is left it comes to what all the slots make of r, and so do the marks
-pub record Going (N k : ℕ) (X : List ℕ) (o t : List ℕ) (q : Run) (more packed : Bool) (p left : ℕ) (o₀ t₀ : List ℕ) (r : Run) (slots : List Extent) (n : ℕ) : Type 0 where
-  pub whole : overExtents N k q (usedFrom more (slotsIn left (drop p X))) ≡ overExtents N k r (used slots)
-  pub zero : packed && packedFrom more (slotsIn left (drop p X)) ≡ slotsPacked slots
-  pub marks : Kept N o t (blocksFrom (q .blocks) (usedFrom more (slotsIn left (drop p X)))) o₀ t₀ (blocksFrom (r .blocks) (used slots))
+-- at place p of a block X with so many slots left, all before them used, q so far: with what is left it comes to what all the slots make of r, and so do the marks
+pub record Going (N k : ℕ) (X : List ℕ) (o t : List ℕ) (q : Run) (p left : ℕ) (o₀ t₀ : List ℕ) (r : Run) (slots : List Extent) (n : ℕ) : Type 0 where
+  pub whole : overExtents N k q (used (slotsIn left (drop p X))) ≡ overExtents N k r (used slots)
+  pub marks : Kept N o t (blocksFrom (q .blocks) (used (slotsIn left (drop p X)))) o₀ t₀ (blocksFrom (r .blocks) (used slots))
   pub few : q .extents + left ≤ r .extents + n
   pub small : q .blocks + 65536 * left ≤ r .blocks + 65536 * n
   pub room : p + 4 * left ≤ 512
+
+-- what the loop leaves
+abbrev Gone : ℕ → ℕ → List ℕ → List ℕ → Run → List ℕ → List ℕ → Run → List Extent → ℕ → Type 0
+Gone N k o t q o₀ t₀ r slots n =
+    (q ≡ overExtents N k r (used slots)) × (q .extents ≤ r .extents + n) × (q .blocks ≤ r .blocks + 65536 * n)
+    × Kept N o t [] o₀ t₀ (blocksFrom (r .blocks) (used slots))
+
+module _ (N k : ℕ) (X : List ℕ) where
+  pub going-start : (at n : ℕ) (o t : List ℕ) (r : Run) → at + 4 * n ≤ 512 → Going N k X o t r at n o t r (slotsIn n (drop at X)) n
+  going-start at n o t r h = record {
+    whole = refl;
+    marks = kept-start N o t (blocksFrom (r .blocks) (used (slotsIn n (drop at X)))) (blocksFrom (r .blocks) (used (slotsIn n (drop at X)))) refl;
+    few = omega arith;
+    small = omega arith;
+    room = h;
+  }
+
+  module _ (o t : List ℕ) (q : Run) (p left : ℕ) (o₀ t₀ : List ℕ) (r : Run) (slots : List Extent) (n : ℕ) (g : Going N k X o t q p left o₀ t₀ r slots n) where
+    pub going-more : (e : Extent) (u : Run) (o₁ t₁ : List ℕ) → 0 < left → e ≡ slotIn p X → 0 < e .count → e .count < 65536 → u ≡ withExtent N k q e
+        → Kept N o₁ t₁ [] o t (blocksFrom (q .blocks) (e ∷ [])) → Going N k X o₁ t₁ u (p + 4) (left - 1) o₀ t₀ r slots n
+    unfolding overExtents
+    going-more e u o₁ t₁ l ie some c iu m =
+        let es = slotsIn (left - 1) (drop (p + 4) X) in
+        let i : slotsIn left (drop p X) ≡ e ∷ es = slots-next X p left e l ie in
+        let j : used (slotsIn left (drop p X)) ≡ e ∷ used es = ap used i ∙ used-first e es some in
+        let x : u .extents ≡ q .extents + 1 = ap (λ (z : Run). z .extents) iu ∙ over-extents N k q (e ∷ []) in
+        let y : u .blocks ≡ q .blocks + counts (e ∷ []) = ap (λ (z : Run). z .blocks) iu ∙ over-blocks N k q (e ∷ []) in
+        let f = g .few in let s = g .small in let h = g .room in
+        record {
+          whole = ap (λ (z : Run). overExtents N k z (used es)) iu ∙ ap (overExtents N k q) (sym j) ∙ g .whole;
+          marks = kept-on N o t (blocksFrom (q .blocks) (used (slotsIn left (drop p X)))) o₀ t₀ (blocksFrom (r .blocks) (used slots)) (g .marks) o₁ t₁
+              (blocksFrom (q .blocks) (e ∷ [])) (blocksFrom (u .blocks) (used es)) (rw j (blocks-split (q .blocks) (u .blocks) (e ∷ []) (used es) y)) m;
+          few = omega arith;
+          small = omega arith;
+          room = omega arith;
+        }
+
+    gone : used (slotsIn left (drop p X)) ≡ [] → Gone N k o t q o₀ t₀ r slots n
+    unfolding overExtents
+    gone e = (
+      ap (overExtents N k q) (sym e) ∙ g .whole,
+      omega (arith, g .few),
+      omega (arith, g .small),
+      kept-end N o t _ o₀ t₀ _ (g .marks) _ (ap (blocksFrom (q .blocks)) e ∙ sym (blocks-none (q .blocks))) refl,
+    )
+
+    -- at a slot that is not used
+    pub going-out : (e : Extent) → 0 < left → e ≡ slotIn p X → e .count ≡ 0 → Gone N k o t q o₀ t₀ r slots n
+    going-out e l ie c = gone (ap used (slots-next X p left e l ie) ∙ unused-none e (slotsIn (left - 1) (drop (p + 4) X)) c)
+
+    -- and with none left
+    pub going-end : left ≤ 0 → Gone N k o t q o₀ t₀ r slots n
+    unfolding slotsIn
+    going-end l = let z : left ≡ 0 = omega arith in gone (rw z refl)
+
+-- ---- slots of nodes
 
 -- at the end nothing is left
 nothing-left : (X : List ℕ) (more : Bool) (p left : ℕ) → left ≡ 0 → (usedFrom more (slotsIn left (drop p X)) ≡ []) × (packedFrom more (slotsIn left (drop p X)) ≡ true)
@@ -133,55 +169,6 @@ nothing-left X false p left z = rw z (refl, refl)
 -- one slot less is packed
 packed-on : (a b c d e : Bool) → a && b ≡ e → b ≡ c && d → (a && c) && d ≡ e
 packed-on a b c d e h q = and-assoc a c d ∙ ap (λ (z : Bool). a && z) (sym q) ∙ h
-
-module _ (N k : ℕ) (X : List ℕ) where
-  pub going-start : (at n : ℕ) (o t : List ℕ) (r : Run) → at + 4 * n ≤ 512 → Going N k X o t r true true at n o t r (slotsIn n (drop at X)) n
-  unfolding usedFrom packedFrom
-  going-start at n o t r h = record {
-    whole = refl;
-    zero = refl;
-    marks = kept-start N o t (blocksFrom (r .blocks) (used (slotsIn n (drop at X)))) (blocksFrom (r .blocks) (used (slotsIn n (drop at X)))) refl;
-    few = omega arith;
-    small = omega arith;
-    room = h;
-  }
-
-  module _ (o t : List ℕ) (q : Run) (more packed : Bool) (p left : ℕ) (o₀ t₀ : List ℕ) (r : Run) (slots : List Extent) (n : ℕ)
-      (g : Going N k X o t q more packed p left o₀ t₀ r slots n) where
-    pub going-more : (e : Extent) (u : Run) (o₁ t₁ : List ℕ) → 0 < left → e ≡ slotIn p X → e .count < 65536 → u ≡ overExtents N k q (usedFrom more (e ∷ []))
-        → Kept N o₁ t₁ [] o t (blocksFrom (q .blocks) (usedFrom more (e ∷ [])))
-        → Going N k X o₁ t₁ u (more && not (eqb (e .count) 0)) (packed && ((more && not (eqb (e .count) 0)) || (eqb (e .first) 0 && eqb (e .count) 0))) (p + 4) (left - 1)
-        o₀ t₀ r slots n
-    going-more e u o₁ t₁ l ie c iu m =
-        let es = slotsIn (left - 1) (drop (p + 4) X) in
-        let A = usedFrom more (e ∷ []) in
-        let B = usedFrom (more && not (eqb (e .count) 0)) es in
-        let i : slotsIn left (drop p X) ≡ e ∷ es = slots-next X p left e l ie in
-        let j : usedFrom more (slotsIn left (drop p X)) ≡ A ++ B = ap (usedFrom more) i ∙ used-step e es more in
-        let x : u .extents ≡ q .extents + length A = ap (λ (z : Run). z .extents) iu ∙ over-extents N k q A in
-        let y : u .blocks ≡ q .blocks + counts A = ap (λ (z : Run). z .blocks) iu ∙ over-blocks N k q A in
-        let a = used-length e more in let b = used-counts e more in let f = g .few in let s = g .small in let h = g .room in
-        record {
-          whole = ap (λ (z : Run). overExtents N k z B) iu ∙ sym (over-append N k q A B) ∙ ap (overExtents N k q) (sym j) ∙ g .whole;
-          zero = packed-on packed (packedFrom more (slotsIn left (drop p X))) _ _ (slotsPacked slots) (g .zero) (ap (packedFrom more) i ∙ packed-step e es more);
-          marks = kept-on N o t (blocksFrom (q .blocks) (usedFrom more (slotsIn left (drop p X)))) o₀ t₀ (blocksFrom (r .blocks) (used slots)) (g .marks) o₁ t₁
-              (blocksFrom (q .blocks) A) (blocksFrom (u .blocks) B) (rw j (blocks-split (q .blocks) (u .blocks) A B y)) m;
-          few = omega arith;
-          small = omega arith;
-          room = omega arith;
-        }
-
-    pub going-end : left ≤ 0 → (q ≡ overExtents N k r (used slots)) × (packed ≡ slotsPacked slots) × (q .extents ≤ r .extents + n) × (q .blocks ≤ r .blocks + 65536 * n)
-        × Kept N o t [] o₀ t₀ (blocksFrom (r .blocks) (used slots))
-    unfolding overExtents
-    going-end l =
-        let e = nothing-left X more p left (omega arith) in (
-          ap (overExtents N k q) (sym (e .0)) ∙ g .whole,
-          sym (and-right packed) ∙ ap (λ (z : Bool). packed && z) (sym (e .1)) ∙ g .zero,
-          omega (arith, g .few),
-          omega (arith, g .small),
-          kept-end N o t _ o₀ t₀ _ (g .marks) _ (ap (blocksFrom (q .blocks)) (e .0) ∙ sym (blocks-none (q .blocks))) refl,
-        )
 
 -- ---- one node
 
@@ -196,6 +183,10 @@ module _ (N k : ℕ) (v : Disk) (f : Nodes) (e : Extent) (r : Run) (X : List ℕ
 
   pub node-count : r .blocks ≡ f .run .blocks + counts (used (slotsAt v (e .first)))
   node-count = ap (λ (z : Run). z .blocks) h ∙ over-blocks N k (f .run) _ ∙ ap (λ (es : List Extent). f .run .blocks + counts (used es)) node-slots
+
+  -- of the slots themselves
+  pub node-many : r .extents - f .run .extents ≡ length (used (slotsIn 128 (drop 0 X)))
+  node-many = let u = node-used in let z : r .extents - f .run .extents ≡ length (used (slotsAt v (e .first))) = omega arith in z ∙ ap (λ (es : List Extent). length (used es)) (sym node-slots)
 
   node-is : (p d : Bool) → p ≡ slotsPacked (slotsIn 128 (drop 0 X)) → d ≡ inData N (e .first)
       → record {

@@ -1,11 +1,16 @@
 -- The blocks that the walk over a file's tree marks.
 use Prim.Native.Nat.{ℕ, _-_}
-use mathlib.Core.Bool.{Bool, cond}
+use mathlib.Core.Bool.{Bool, cond, _&&_}
 use mathlib.Core.List.{List, [], _++_, map}
+use lib.Dec.{eqb}
 use lib.ListN.{take}
 use Rattle.spec.specs.declared.Extent.{Extent}
 use Rattle.spec.specs.Disk.{Disk}
 use Rattle.spec.specs.Inode.{used, below, blocksIn}
+
+-- "the others are zero"
+abbrev pub isUnused : Extent → Bool
+isUnused e = eqb (e .first) 0 && eqb (e .count) 0
 
 -- the used ones of some slots; none is used behind one that is not
 unfoldable pub usedFrom : Bool → List Extent → List Extent

@@ -9,7 +9,7 @@ use spec::Extent;
 ghost use mathlib.Core.Path.{_≡_};
 ghost use mathlib.Core.List.{[], _∷_};
 ghost use Prim.Native.Nat.{_+_, _*_, _-_, _≤_, _<_, min};
-ghost use lib.ListN.{drop};
+ghost use lib.ListN.{length, drop};
 ghost use Rattle.spec.specs.Bytes.{exactly};
 ghost use Rattle.spec.specs.Disk.{blocksOf};
 ghost use Rattle.spec.specs.Inode.{slotsIn, used};
@@ -50,12 +50,7 @@ pub struct Nodes {
     pub counts: usize,
 }
 
-// What the slots of a block tell, and whether those behind the used ones are zero.
-pub struct Extents {
-    pub run: Run,
-    pub packed: bool,
-}
-
+// What a record's four slots tell of nodes, and whether those behind the used ones are zero.
 pub struct Tops {
     pub nodes: Nodes,
     pub packed: bool,
@@ -142,23 +137,19 @@ fn to_mark(count: u32, before: usize) -> u32
     if count < room { count } else { room }
 }
 
-// One more slot, an extent if it is used: `more` tells whether all before it are.
-fn with_slot(
+// One more extent, its blocks marked.
+fn take_extent(
     once: &mut [u8; 512],
     twice: &mut [u8; 512],
     blocks: usize,
     k: usize,
     r: Run,
-    more: bool,
     e: Extent,
 ) -> Run
-    requires { ⌜ (blocks ≤ 4096) × (e .first < 65536) × (e .count < 65536) × (r .blocks < 4294967296) × (r .extents < 65536) ⌝ }
-    ensures { λ q. ⌜ (q ≡ overExtents blocks k r (usedFrom more (e ∷ [])))
-        × Kept blocks (now (once .exit)) (now (twice .exit)) [] (now (once .entry)) (now (twice .entry)) (blocksFrom (r .blocks) (usedFrom more (e ∷ []))) ⌝ }
+    requires { ⌜ (blocks ≤ 4096) × (e .first < 65536) × (0 < e .count) × (e .count < 65536) × (r .blocks < 4294967296) × (r .extents < 65536) ⌝ }
+    ensures { λ q. ⌜ (q ≡ withExtent blocks k r e)
+        × Kept blocks (now (once .exit)) (now (twice .exit)) [] (now (once .entry)) (now (twice .entry)) (blocksFrom (r .blocks) (e ∷ [])) ⌝ }
 {
-    if !more | (e.count == 0) {
-        return r;
-    }
     mark_run(once, twice, blocks, e.first, to_mark(e.count, r.blocks));
     with_extent(r, blocks, k, e)
 }
@@ -173,32 +164,42 @@ pub fn extents_over(
     at: usize,
     n: usize,
     r: Run,
-) -> Extents
+) -> Run
     requires { ⌜ (blocks ≤ 4096) × (at + 4 * n ≤ 512) × (r .extents ≤ 512) × (r .blocks ≤ 33554432) ⌝ }
-    ensures { λ q. ⌜ (q .run ≡ overExtents blocks k r (used (slotsIn n (drop at (exactly 512 (now (block .entry)))))))
-        × (q .packed ≡ slotsPacked (slotsIn n (drop at (exactly 512 (now (block .entry))))))
-        × (q .run .extents ≤ r .extents + n) × (q .run .blocks ≤ r .blocks + 65536 * n)
+    ensures { λ q. ⌜ (q ≡ overExtents blocks k r (used (slotsIn n (drop at (exactly 512 (now (block .entry)))))))
+        × (q .extents ≤ r .extents + n) × (q .blocks ≤ r .blocks + 65536 * n)
         × Kept blocks (now (once .exit)) (now (twice .exit)) [] (now (once .entry)) (now (twice .entry))
         (blocksFrom (r .blocks) (used (slotsIn n (drop at (exactly 512 (now (block .entry))))))) ⌝ }
 {
     let mut q = r;
-    let mut more = true;
-    let mut packed = true;
     let mut p = at;
     let mut left = n;
     while 0 < left {
         let e = slot_in(block, p);
-        let u = with_slot(once, twice, blocks, k, q, more, e);
+        if e.count == 0 {
+            return q;
+        }
+        let u = take_extent(once, twice, blocks, k, q, e);
         q = u;
-        more = more & (e.count != 0);
-        packed = packed & (more | ((e.first == 0) & (e.count == 0)));
         p += SLOT_SIZE;
         left -= 1;
     }
-    Extents {
-        run: q,
-        packed: packed,
+    q
+}
+
+// S4. "the others are zero": of n slots, the first so many of which are the used ones.
+pub fn are_packed(block: &[u8], at: usize, n: usize, many: usize) -> bool
+    requires { ⌜ (at + 4 * n ≤ 512) × (many ≡ length (used (slotsIn n (drop at (exactly 512 (now block)))))) ⌝ }
+    ensures { λ r. ⌜ r ≡ slotsPacked (slotsIn n (drop at (exactly 512 (now (block .entry))))) ⌝ }
+{
+    let mut unused = true;
+    let mut j = many;
+    while j < n {
+        let e = slot_in(block, at + SLOT_SIZE * j);
+        unused = unused & ((e.first == 0) & (e.count == 0));
+        j += 1;
     }
+    unused
 }
 
 // One more slot of a record, which names a node if it is used.
@@ -224,16 +225,17 @@ fn with_node(
     let old = f.run;
     mark(once, twice, blocks, e.first);
     let node = block_at(device, e.first);
-    let w = extents_over(once, twice, node, blocks, k, 0, SLOTS_PER_NODE, old);
-    let r = w.run;
+    let r = extents_over(once, twice, node, blocks, k, 0, SLOTS_PER_NODE, old);
+    let many = r.extents - old.extents;
+    let packed = are_packed(node, 0, SLOTS_PER_NODE, many);
     let inside = in_data(blocks, DiskBlock(e.first));
     let count = r.blocks - old.blocks;
     Nodes {
         run: r,
-        sound: f.sound & (inside & w.packed),
+        sound: f.sound & (inside & packed),
         agree: f.agree & (e.count as usize == count),
         filled: f.filled & f.full,
-        full: r.extents - old.extents == SLOTS_PER_NODE,
+        full: many == SLOTS_PER_NODE,
         tops: f.tops + 1,
         counts: f.counts + e.count as usize,
     }

@@ -1,6 +1,7 @@
 use mathlib.Core.Path.{ap}
 use native.Mathlib.Omega.{arith}
 use Rattle.tree.specs.declared.Run.{Run}
+use Rattle.tree.proofs.Runs.{over-many}
 use Rattle.filecheck.proofs.Shape.{flat-marked}
 use borrow.Author.Needs.{needs}
 use Rattle.filecheck.proofs.flat_sound.Statement.{statement}
@@ -18,6 +19,9 @@ no-run-requires c κs = search needs
 extents-over-requires : tie.Need-extents-over-requires
 extents-over-requires c κs = let z = c .no-run .ensures in (c .before .before .before .before .before .pre .0, omega arith, omega (arith, ap (λ (x : Run). x .extents) z), omega (arith, ap (λ (x : Run). x .blocks) z))
 
+are-packed-requires : tie.Need-are-packed-requires
+are-packed-requires c κs = (omega arith, over-many _ _ _ _ _ (c .before .no-run .ensures) (c .extents-over .ensures .0))
+
 last-clear-requires : tie.Need-last-clear-requires
 last-clear-requires c κs = search needs
 
@@ -25,8 +29,8 @@ blocks-for-requires : tie.Need-blocks-for-requires
 blocks-for-requires c κs = search needs
 
 returns : tie.Need-returns
-returns c = let p = c .before .before .before .before .before .before .before .before .before .before .before .before .before .pre in let x = c .before .before .before .before .before .before .before .extents-over .ensures in
-    flat-marked _ _ _ _ _ (p .5) (p .2) (p .3) (p .4) _ _ _ _ _ _ _ _ _ (c .before .before .before .before .before .before .before .before .no-run .ensures) (x .0) (x .1) (x .2) (x .4) (c .before .before .before .before .before .last-clear .ensures) (c .before .before .before .before .blocks-for .ensures)
+returns c = let p = c .before .before .before .before .before .before .before .before .before .before .before .before .pre in let x = c .before .before .before .before .before .before .extents-over .ensures in
+    flat-marked _ _ _ _ _ (p .5) (p .2) (p .3) (p .4) _ _ _ _ _ _ _ _ _ (c .before .before .before .before .before .before .before .no-run .ensures) (x .0) (c .before .before .before .before .before .are-packed .ensures) (x .1) (x .3) (c .before .before .before .before .last-clear .ensures) (c .before .before .before .blocks-for .ensures)
 
 pub flat-sound-spec : {M : Type 1} → statement M
 flat-sound-spec =
@@ -36,6 +40,7 @@ flat-sound-spec =
     add-at
     no-run-requires
     extents-over-requires
+    are-packed-requires
     last-clear-requires
     blocks-for-requires
     returns)

@@ -1,5 +1,6 @@
 use mathlib.Core.Path.{sym, ap, _∙_}
 use native.Mathlib.Omega.{arith}
+use Rattle.spec.specs.Bytes.{allZero}
 use Rattle.checks.specs.Checks.{resultOf}
 use Rattle.query.proofs.Laws.{block-of, none-told, record-bad, record-past, record-empty, record-file}
 use borrow.Author.Needs.{needs}
@@ -22,35 +23,35 @@ no-file-requires-2 : tie.Need-no-file-requires-2
 no-file-requires-2 c κs = search needs
 
 returns : tie.Need-returns
-returns c = λ s q. none-told s (c .before .before .before .before .before .before .before .before .args .device .now) (c .before .before .before .before .before .before .before .before .args .work .now) _ _ _ (c .no-file2 .ensures) (record-past s (c .before .before .before .before .before .before .before .before .args .device .now) (c .before .before .before .before .before .before .before .before .args .work .now) (c .before .before .before .before .before .before .before .before .args .i) (sym (ap resultOf (c .before .before .enum-told .given .1)) ∙ c .before .before .before .before .ready .ensures s (q .head)) (omega arith))
+returns c = λ s q. let a = c .before .before .before .before .before .before .before .before .args in none-told s (a .device .now) (a .work .now) _ _ _ (c .no-file2 .ensures) (record-past s (a .device .now) (a .work .now) (a .i) (sym (ap resultOf (c .before .before .enum-told .given .1)) ∙ c .before .before .before .before .ready .ensures s (q .head)) (omega arith))
 
 inode-block-in-requires : tie.Need-inode-block-in-requires
 inode-block-in-requires c κs = search needs
 
-is-empty-requires : tie.Need-is-empty-requires
-is-empty-requires c κs = search needs
+name-of-requires : tie.Need-name-of-requires
+name-of-requires c κs = search needs
+
+is-blank-requires : tie.Need-is-blank-requires
+is-blank-requires c κs = search needs
 
 no-file-requires-3 : tie.Need-no-file-requires-3
 no-file-requires-3 c κs = search needs
 
 returns-2 : tie.Need-returns-2
-returns-2 c = λ s q. none-told s (c .before .before .before .before .before .before .before .before .before .before .before .args .device .now) (c .before .before .before .before .before .before .before .before .before .before .before .args .work .now) _ _ _ (c .no-file3 .ensures)
-    (record-empty s (c .before .before .before .before .before .before .before .before .before .before .before .args .device .now) (c .before .before .before .before .before .before .before .before .before .before .before .args .work .now) (c .before .before .before .before .before .before .before .before .before .before .before .args .i) (c .before .before .before .inode-block-in .result .now) (sym (ap resultOf (c .before .before .before .before .before .enum-told .given .1)) ∙ c .before .before .before .before .before .before .before .ready .ensures s (q .head)) (omega arith)
-    (block-of s (c .before .before .before .before .before .before .before .before .before .before .before .args .device .now) (c .before .before .before .before .before .before .before .before .before .before .before .args .work .now) _ (c .before .before .before .inode-block-in .result .now) _ (q .numbers) (c .before .before .before .inode-block-in .ensures .0)) (sym (c .before .before .is-empty .ensures) ∙ c .before .if2 .taken))
-
-name-of-requires : tie.Need-name-of-requires
-name-of-requires c κs = search needs
+returns-2 c = λ s q. let a = c .before .before .before .before .before .before .before .before .before .before .before .before .args in none-told s (a .device .now) (a .work .now) _ _ _ (c .no-file3 .ensures)
+    (record-empty s (a .device .now) (a .work .now) (a .i) (c .before .before .before .before .inode-block-in .result .now) (sym (ap resultOf (c .before .before .before .before .before .before .enum-told .given .1)) ∙ c .before .before .before .before .before .before .before .before .ready .ensures s (q .head)) (omega arith)
+    (block-of s (a .device .now) (a .work .now) _ (c .before .before .before .before .inode-block-in .result .now) _ (q .numbers) (c .before .before .before .before .inode-block-in .ensures .0)) (sym (c .before .before .is-blank .ensures ∙ ap allZero (c .before .before .before .name-of .ensures)) ∙ c .before .if2 .taken))
 
 size-of-requires : tie.Need-size-of-requires
 size-of-requires c κs = search needs
 
 returns-3 : tie.Need-returns-3
-returns-3 c = λ s q. none-told s (c .before .before .before .before .before .before .before .before .args .device .now) (c .before .before .before .before .before .before .before .before .args .work .now) _ _ _ (c .no-file .ensures) (record-bad s (c .before .before .before .before .before .before .before .before .args .device .now) (c .before .before .before .before .before .before .before .before .args .work .now) (c .before .before .before .before .before .before .before .before .args .i) _ (sym (ap resultOf (c .before .before .why .given .1)) ∙ c .before .before .before .before .ready .ensures s (q .head)))
+returns-3 c = λ s q. let a = c .before .before .before .before .before .before .before .before .args in none-told s (a .device .now) (a .work .now) _ _ _ (c .no-file .ensures) (record-bad s (a .device .now) (a .work .now) (a .i) _ (sym (ap resultOf (c .before .before .why .given .1)) ∙ c .before .before .before .before .ready .ensures s (q .head)))
 
 returns-4 : tie.Need-returns-4
-returns-4 c = λ s q. (
-  record-file s (c .before .before .before .before .before .before .before .before .before .before .before .before .args .device .now) (c .before .before .before .before .before .before .before .before .before .before .before .before .args .work .now) (c .before .before .before .before .before .before .before .before .before .before .before .before .args .i) (c .before .before .before .before .inode-block-in .result .now) (sym (ap resultOf (c .before .before .before .before .before .before .enum-told .given .1)) ∙ c .before .before .before .before .before .before .before .before .ready .ensures s (q .head)) (omega arith)
-      (block-of s (c .before .before .before .before .before .before .before .before .before .before .before .before .args .device .now) (c .before .before .before .before .before .before .before .before .before .before .before .before .args .work .now) _ (c .before .before .before .before .inode-block-in .result .now) _ (q .numbers) (c .before .before .before .before .inode-block-in .ensures .0)) _ _ (sym (c .before .before .before .is-empty .ensures) ∙ c .before .before .if2 .left) (c .before .name-of .ensures) (c .size-of .ensures),
+returns-4 c = λ s q. let a = c .before .before .before .before .before .before .before .before .before .before .before .before .args in (
+  record-file s (a .device .now) (a .work .now) (a .i) (c .before .before .before .before .inode-block-in .result .now) (sym (ap resultOf (c .before .before .before .before .before .before .enum-told .given .1)) ∙ c .before .before .before .before .before .before .before .before .ready .ensures s (q .head)) (omega arith)
+      (block-of s (a .device .now) (a .work .now) _ (c .before .before .before .before .inode-block-in .result .now) _ (q .numbers) (c .before .before .before .before .inode-block-in .ensures .0)) _ _ (sym (c .before .before .is-blank .ensures ∙ ap allZero (c .before .before .before .name-of .ensures)) ∙ c .before .if2 .left) (c .before .before .before .name-of .ensures) (c .size-of .ensures),
   tt,
 )
 
@@ -65,10 +66,10 @@ record-in-spec =
     no-file-requires-2
     returns
     inode-block-in-requires
-    is-empty-requires
+    name-of-requires
+    is-blank-requires
     no-file-requires-3
     returns-2
-    name-of-requires
     size-of-requires
     returns-3
     returns-4)

@@ -125,7 +125,7 @@ fn stores(b: &mut Bench, raw: RawSession, plain: plain::Session) -> Pair {
         |s| _ = black_box(s.commit_whole()),
         |d, w, s| {
             _ = black_box(plain::commit(d, w, s));
-            while let Ok(Some(_)) = plain::advance(d, w, s) {}
+            while let Ok(Some(plain::Store { last: false, .. })) = plain::advance(d, w, s) {}
         },
     )
 }
@@ -203,6 +203,9 @@ fn main() {
     transaction(&mut table, "a sale: three writes of 8 bytes, 8 stores", &Image::even(512, 64, 600), rounds, &sale);
     let bulk = [(name(0), 512, &large[..])];
     transaction(&mut table, "a write of 29 blocks into a new stretch, 64 stores", &Image::even(512, 4, 512), rounds, &bulk);
+    // 11 and 28 have no common divisor: each card once, in no order.
+    let many: Vec<_> = (0..28).map(|i| (name(11 * i % 28), 0, &small[..])).collect();
+    transaction(&mut table, "28 writes of 8 bytes to as many cards in no order, 58 stores", &Image::even(512, 28, 512), rounds, &many);
     opens(&mut table, rounds);
     table.foot();
 }

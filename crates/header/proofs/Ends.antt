@@ -76,18 +76,19 @@ pub can-list-none : (N : ℕ) (l : List ℕ) → length l ≡ 0 → false ≡ ar
 unfolding areTargets
 can-list-none N l e = rw e
 
-pub can-list-up : (N : ℕ) (l : List ℕ) (a b : Bool) → (length l ≡ 0 → ⊥) → true ≡ ascends l → a ≡ isTarget N (getD l 0 0) → b ≡ isTarget N (getD l (length l - 1) 0)
+pub can-list-up : (N : ℕ) (l : List ℕ) (a b : Bool) → (length l ≡ 0 → ⊥) → ascends l ≡ true → a ≡ isTarget N (getD l 0 0) → b ≡ isTarget N (getD l (length l - 1) 0)
     → a && b ≡ areTargets N l
 unfolding areTargets
 can-list-up N [] a b some up ea eb = absurd (some refl)
 can-list-up N (x ∷ xs) a b some up ea eb =
     let n : length (x ∷ xs) - 1 ≡ length xs = omega arith in
-    rw (ea, eb, n, last-at x xs, ends-all N x xs (sym up), ne-eqb (length (x ∷ xs)) 0 some, ← ascends-distinct (x ∷ xs) (sym up)) (right (all (isTarget N) (x ∷ xs)))
+    rw (ea, eb, n, last-at x xs, ends-all N x xs up, ne-eqb (length (x ∷ xs)) 0 some, ← ascends-distinct (x ∷ xs) up) (right (all (isTarget N) (x ∷ xs)))
   where
     right : (c : Bool) → c ≡ c && true
     right true = refl
     right false = refl
 
-pub can-list-other : (N : ℕ) (l : List ℕ) (a d : Bool) → (length l ≡ 0 → ⊥) → a ≡ all (isTarget N) l → d ≡ distinct l → a && d ≡ areTargets N l
-unfolding areTargets
-can-list-other N l a d some ea ed = rw (ea, ed, ne-eqb (length l) 0 some)
+pub can-list-other : (N : ℕ) (l : List ℕ) (a d up : Bool) → up ≡ ascends l → up ≡ false → a ≡ all (isTarget N) l → d ≡ distinct l → a && d ≡ areTargets N l
+unfolding areTargets ascends
+can-list-other N [] a d up e other ea ed = absurd (true≢false (sym e ∙ other))
+can-list-other N (x ∷ xs) a d up e other ea ed = rw (ea, ed, ne-eqb (length (x ∷ xs)) 0 (λ z. omega arith))

@@ -6,6 +6,7 @@ use block::load2;
 use spec::Limits;
 use zeros::is_zero;
 ghost use mathlib.Core.Path.{_≡_};
+ghost use mathlib.Core.Bool.{true};
 ghost use Prim.Native.Nat.{_+_, _*_, _<_, _≤_};
 ghost use lib.ListN.{length};
 ghost use Rattle.spec.specs.Bytes.{all, allZero, part, member, distinct};
@@ -170,17 +171,24 @@ fn is_distinct(l: &[u32]) -> bool
     true
 }
 
-// Whether a log may list them: at least one, each within 33 to N-1, none twice. Where they ascend, as one call stages them, the first and the last tell.
-pub fn can_list(blocks: usize, l: &[u32], up: bool) -> bool
-    requires { ⌜ up ≡ ascends (now l) ⌝ }
+// Whether a log may list targets that ascend: at least one, the first and the last within 33 to N-1.
+pub fn can_list_up(blocks: usize, l: &[u32]) -> bool
+    requires { ⌜ ascends (now l) ≡ true ⌝ }
     ensures { λ r. ⌜ r ≡ areTargets blocks (now (l .entry)) ⌝ }
 {
     let n = l.len();
     if n == 0 {
         return false;
     }
-    if up {
-        return is_target(blocks, DiskBlock(l[0])) & is_target(blocks, DiskBlock(l[n - 1]));
+    is_target(blocks, DiskBlock(l[0])) & is_target(blocks, DiskBlock(l[n - 1]))
+}
+
+// Whether a log may list them: at least one, each within 33 to N-1, none twice.
+pub fn can_list(blocks: usize, l: &[u32]) -> bool
+    ensures { λ r. ⌜ r ≡ areTargets blocks (now (l .entry)) ⌝ }
+{
+    if is_ascending(l) {
+        return can_list_up(blocks, l);
     }
     are_inside(blocks, l) & is_distinct(l)
 }
@@ -191,6 +199,5 @@ pub fn are_targets(blocks: usize, t: Targets) -> bool
 {
     let l = t.list;
     let n = t.count;
-    let listed = &l[0..n];
-    can_list(blocks, listed, is_ascending(listed))
+    can_list(blocks, &l[0..n])
 }

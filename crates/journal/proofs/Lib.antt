@@ -1,4 +1,5 @@
 pub mod Order
+pub mod Ranks
 pub mod Listed
 pub mod Header
 pub mod Laws

@@ -1,11 +1,11 @@
 -- Targets in ascending order: the first and the last tell of all. Assumes nothing.
-use Prim.Native.Nat.{ℕ, zero, suc, _-_, _<_, _≤_}
+use Prim.Native.Nat.{ℕ, _-_, _<_, _≤_}
 use mathlib.Core.Path.{_≡_, refl, sym, ap, ap₂, _∙_}
-use mathlib.Core.Bool.{Bool, true, false, not, _&&_, and-false, true≢false}
+use mathlib.Core.Bool.{Bool, true, false, _&&_, and-false, true≢false}
 use mathlib.Core.List.{List, [], _∷_}
 use native.Mathlib.Omega.{arith}
 use borrow.Author.Tests.{ltb-true, ltb-false, lt-ltb, le-ltb, ne-eqb}
-use lib.Dec.{eqb, ltb}
+use lib.Dec.{ltb}
 use lib.ListN.{length, getD}
 use Rattle.spec.specs.Bytes.{all, distinct}
 use Rattle.spec.specs.Disk.{isTarget, isTargetArea, areaOf}

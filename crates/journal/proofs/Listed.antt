@@ -1,14 +1,14 @@
 -- What a log may list: laws of `areTargets`. Assumes nothing.
 use Prim.Native.Nat.{ℕ, _<_, _≤_}
-use mathlib.Core.Path.{_≡_, refl, sym, _∙_}
-use mathlib.Core.Bool.{Bool, true, false, not, _&&_, and-false, true≢false}
-use mathlib.Core.List.{List, [], _∷_}
+use mathlib.Core.Path.{_≡_, refl, sym}
+use mathlib.Core.Bool.{Bool, true, false, not, _&&_, true≢false}
+use mathlib.Core.List.{List}
 use native.Mathlib.Omega.{arith}
-use borrow.Author.Tests.{eqb-false, ltb-true, ltb-false, not-true}
-use lib.Dec.{eqb, ltb}
+use borrow.Author.Tests.{eqb-false, not-true}
+use lib.Dec.{eqb}
 use lib.ListN.{length, getD}
 use Rattle.spec.specs.Bytes.{all, distinct}
-use Rattle.spec.specs.Disk.{isTarget, isTargetArea, areaOf}
+use Rattle.spec.specs.Disk.{isTarget}
 use Rattle.spec.specs.Journal.{areTargets}
 use Rattle.transaction.proofs.Laws.{Listed}
 use Rattle.header.proofs.Every.{Every, every-at, all-every}

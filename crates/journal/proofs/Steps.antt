@@ -166,9 +166,6 @@ module _ (l : List ℕ) (d N : ℕ) (listed : areTargets N l ≡ true) where
 pub made : (v w : Slice) (b : ℕ) (x y : List ℕ) → v ≡ storedIn w b x → x ≡ y → v ≡ storedIn w b y
 made v w b x y e q = e ∙ ap (storedIn w b) q
 
-pub listed-distinct : (N : ℕ) (bs : List ℕ) → areTargets N bs ≡ true → distinct bs ≡ true
-listed-distinct N bs h = targets-listed N bs h .differ
-
 -- the first k cells of an array are the k targets
 pub record Held (l : List ℕ) (k : ℕ) (bs : List ℕ) : Type 0 where
   pub list : l ≡ bs

@@ -8,6 +8,7 @@ use clock::{spread, Pair, Table};
 use images::{name, Image};
 use purse::{Extent, RawSession, Store};
 use std::hint::black_box;
+use std::time::Instant;
 
 /// The two stores at the same image: `work` is lent to both in turn.
 struct Bench {
@@ -131,26 +132,42 @@ fn stores(b: &mut Bench, raw: RawSession, plain: plain::Session) -> Pair {
 }
 
 /// The same blocks copied: images to the log, log blocks to their targets, and two more for block 0.
-fn copies(b: &mut Bench, raw: RawSession) -> f64 {
-    let (k, rounds) = (raw.count as usize, b.rounds);
-    let (device, work) = (&mut b.device, &b.work);
+fn copy_blocks(device: &mut [u8], work: &[u8], raw: &RawSession) {
     let (list, zeros) = ([1u8; 512], [0u8; 512]);
-    let pair = spread(rounds, |n, _| {
-        for _ in 0..n {
-            for i in 0..k {
-                device[512 + 512 * i..1024 + 512 * i].copy_from_slice(black_box(&work[512 * i..512 * i + 512]));
-            }
-            device[..512].copy_from_slice(black_box(&list));
-            for i in 0..k {
-                let to = 512 * raw.staged[i] as usize;
-                let (log, targets) = device.split_at_mut(to);
-                targets[..512].copy_from_slice(black_box(&log[512 + 512 * i..1024 + 512 * i]));
-            }
-            device[..512].copy_from_slice(black_box(&zeros));
-            black_box(&mut *device);
-        }
-    });
+    let k = raw.count as usize;
+    for i in 0..k {
+        device[512 + 512 * i..1024 + 512 * i].copy_from_slice(black_box(&work[512 * i..512 * i + 512]));
+    }
+    device[..512].copy_from_slice(black_box(&list));
+    for i in 0..k {
+        let to = 512 * raw.staged[i] as usize;
+        let (log, targets) = device.split_at_mut(to);
+        targets[..512].copy_from_slice(black_box(&log[512 + 512 * i..1024 + 512 * i]));
+    }
+    device[..512].copy_from_slice(black_box(&zeros));
+    black_box(device);
+}
+
+fn copies(b: &mut Bench, raw: RawSession) -> f64 {
+    let (device, work, rounds) = (&mut b.device, &b.work, b.rounds);
+    let pair = spread(rounds, |n, _| (0..n).for_each(|_| copy_blocks(device, work, &raw)));
     pair.proved.min(pair.rust)
+}
+
+/// Commit with its stores, and the copies, each on the next of many boxes, so that none lies in the processor's caches.
+fn cold(b: &Bench, raw: RawSession, boxes: usize) -> (f64, f64) {
+    let mut pool: Vec<_> = (0..boxes).map(|_| (b.device.clone(), b.work.clone())).collect();
+    let mut best = (f64::MAX, f64::MAX);
+    for _ in 0..b.rounds {
+        let mut turn = |f: &mut dyn FnMut(&mut [u8], &mut [u8])| {
+            let start = Instant::now();
+            pool.iter_mut().for_each(|(d, w)| f(d, w));
+            start.elapsed().as_nanos() as f64 / boxes as f64
+        };
+        best.0 = best.0.min(turn(&mut |d, w| _ = black_box(Store::resume(d, w, raw).commit_whole())));
+        best.1 = best.1.min(turn(&mut |d, w| copy_blocks(d, w, &raw)));
+    }
+    best
 }
 
 /// What a transaction writes, alone and with its commit and all stores; and memcpy of the same blocks.
@@ -170,6 +187,9 @@ fn transaction(table: &mut Table, title: &str, image: &Image, rounds: usize, wri
     table.note(&format!("memcpy of the same {} blocks", 2 * raw.count + 2), copies);
     table.note("commit and stores against that memcpy (times)", pair.proved / copies);
     table.note("those of the plain store (times)", pair.rust / copies);
+    let (stores, copies) = cold(&b, raw, 512);
+    table.note("out of the caches: commit and stores", stores);
+    table.note("out of the caches: against that memcpy (times)", stores / copies);
 }
 
 fn opens(table: &mut Table, rounds: usize) {

@@ -4,12 +4,12 @@ use block::ByteOffset;
 use block::DiskBlock;
 use block::FileBlock;
 use block::copy_of;
-use block::key_of;
 use checks::Checked;
 use checks::ready;
 use extents::RunOf;
 use file::read_file;
 use inode::inode_block_in;
+use inode::is_empty;
 use inode::name_of;
 use inode::size_of;
 use lookup::Looked;
@@ -26,7 +26,6 @@ use transaction::view_in;
 ghost use mathlib.Core.Path.{_≡_};
 ghost use Prim.Native.Nat.{_≤_};
 ghost use lib.ListN.{length, replicate};
-ghost use Rattle.spec.specs.Bytes.{allZero};
 ghost use Rattle.spec.specs.declared.Session.{Session};
 ghost use Rattle.spec.specs.Answers.{countedOf, recordedOf, Blank, runOf};
 ghost use Rattle.spec.specs.Transaction.{stateOf};
@@ -153,13 +152,6 @@ fn no_file(answer: Recorded) -> FileRecord
     }
 }
 
-// "all zero: record empty"
-fn is_blank(name: [u8; 8]) -> bool
-    ensures { λ r. ⌜ r ≡ allZero name ⌝ }
-{
-    key_of(&name) == 0
-}
-
 // Name and size of record i, or that it is empty.
 pub fn record_in<'a>(
     device: &'a [u8],
@@ -181,10 +173,10 @@ pub fn record_in<'a>(
                 return no_file(Recorded::Empty);
             }
             let table = inode_block_in(device, work, staged, i);
-            let name = name_of(table, i);
-            if is_blank(name) {
+            if is_empty(table, i) {
                 return no_file(Recorded::Empty);
             }
+            let name = name_of(table, i);
             let size = size_of(table, i);
             FileRecord {
                 answer: Recorded::File,

@@ -1,6 +1,5 @@
 use mathlib.Core.Path.{sym, ap, _∙_}
 use native.Mathlib.Omega.{arith}
-use Rattle.spec.specs.Bytes.{allZero}
 use Rattle.checks.specs.Checks.{resultOf}
 use Rattle.query.proofs.Laws.{block-of, none-told, record-bad, record-past, record-empty, record-file}
 use borrow.Author.Needs.{needs}
@@ -28,19 +27,19 @@ returns c = λ s q. let a = c .before .before .before .before .before .before .b
 inode-block-in-requires : tie.Need-inode-block-in-requires
 inode-block-in-requires c κs = search needs
 
-name-of-requires : tie.Need-name-of-requires
-name-of-requires c κs = search needs
-
-is-blank-requires : tie.Need-is-blank-requires
-is-blank-requires c κs = search needs
+is-empty-requires : tie.Need-is-empty-requires
+is-empty-requires c κs = search needs
 
 no-file-requires-3 : tie.Need-no-file-requires-3
 no-file-requires-3 c κs = search needs
 
 returns-2 : tie.Need-returns-2
-returns-2 c = λ s q. let a = c .before .before .before .before .before .before .before .before .before .before .before .before .args in none-told s (a .device .now) (a .work .now) _ _ _ (c .no-file3 .ensures)
-    (record-empty s (a .device .now) (a .work .now) (a .i) (c .before .before .before .before .inode-block-in .result .now) (sym (ap resultOf (c .before .before .before .before .before .before .enum-told .given .1)) ∙ c .before .before .before .before .before .before .before .before .ready .ensures s (q .head)) (omega arith)
-    (block-of s (a .device .now) (a .work .now) _ (c .before .before .before .before .inode-block-in .result .now) _ (q .numbers) (c .before .before .before .before .inode-block-in .ensures .0)) (sym (c .before .before .is-blank .ensures ∙ ap allZero (c .before .before .before .name-of .ensures)) ∙ c .before .if2 .taken))
+returns-2 c = λ s q. let a = c .before .before .before .before .before .before .before .before .before .before .before .args in none-told s (a .device .now) (a .work .now) _ _ _ (c .no-file3 .ensures)
+    (record-empty s (a .device .now) (a .work .now) (a .i) (c .before .before .before .inode-block-in .result .now) (sym (ap resultOf (c .before .before .before .before .before .enum-told .given .1)) ∙ c .before .before .before .before .before .before .before .ready .ensures s (q .head)) (omega arith)
+    (block-of s (a .device .now) (a .work .now) _ (c .before .before .before .inode-block-in .result .now) _ (q .numbers) (c .before .before .before .inode-block-in .ensures .0)) (sym (c .before .before .is-empty .ensures) ∙ c .before .if2 .taken))
+
+name-of-requires : tie.Need-name-of-requires
+name-of-requires c κs = search needs
 
 size-of-requires : tie.Need-size-of-requires
 size-of-requires c κs = search needs
@@ -51,7 +50,7 @@ returns-3 c = λ s q. let a = c .before .before .before .before .before .before 
 returns-4 : tie.Need-returns-4
 returns-4 c = λ s q. let a = c .before .before .before .before .before .before .before .before .before .before .before .before .args in (
   record-file s (a .device .now) (a .work .now) (a .i) (c .before .before .before .before .inode-block-in .result .now) (sym (ap resultOf (c .before .before .before .before .before .before .enum-told .given .1)) ∙ c .before .before .before .before .before .before .before .before .ready .ensures s (q .head)) (omega arith)
-      (block-of s (a .device .now) (a .work .now) _ (c .before .before .before .before .inode-block-in .result .now) _ (q .numbers) (c .before .before .before .before .inode-block-in .ensures .0)) _ _ (sym (c .before .before .is-blank .ensures ∙ ap allZero (c .before .before .before .name-of .ensures)) ∙ c .before .if2 .left) (c .before .before .before .name-of .ensures) (c .size-of .ensures),
+      (block-of s (a .device .now) (a .work .now) _ (c .before .before .before .before .inode-block-in .result .now) _ (q .numbers) (c .before .before .before .before .inode-block-in .ensures .0)) _ _ (sym (c .before .before .before .is-empty .ensures) ∙ c .before .before .if2 .left) (c .before .name-of .ensures) (c .size-of .ensures),
   tt,
 )
 
@@ -66,10 +65,10 @@ record-in-spec =
     no-file-requires-2
     returns
     inode-block-in-requires
-    name-of-requires
-    is-blank-requires
+    is-empty-requires
     no-file-requires-3
     returns-2
+    name-of-requires
     size-of-requires
     returns-3
     returns-4)

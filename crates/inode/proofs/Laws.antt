@@ -23,7 +23,7 @@ use Rattle.transaction.specs.Places.{viewIn}
 use Rattle.transaction.proofs.Laws.{view-new}
 use Rattle.block.specs.Keys.{keyOf, Name}
 use Rattle.block.proofs.Keys.{eight, same-key}
-use Rattle.inode.specs.Records.{bytesIn, recordIn, named, foundOf, lowestTo, Committed}
+use Rattle.inode.specs.Records.{bytesIn, recordIn, named, foundOf, lowestTo, TableUnstaged}
 use Rattle.inode.specs.declared.Found.{Found}
 use Rattle.inode.specs.declared.Found.the-variants.{At, Nothing}
 
@@ -334,7 +334,7 @@ find-agree v u name h =
     (λ k p l. ap (λ (block : List ℕ). same (take 8 (part (placeOfInode k) 32 block)) name) (h (blockOfInode k) (omega arith) (omega arith)))
 
 -- where none of them is staged
-pub find-committed : (staged device work name : List ℕ) → Committed staged → find (blocksOf device) name ≡ find (viewIn staged device work) name
+pub find-committed : (staged device work name : List ℕ) → TableUnstaged staged → find (blocksOf device) name ≡ find (viewIn staged device work) name
 find-committed staged device work name h = find-agree (blocksOf device) (viewIn staged device work) name (λ b p l. sym (view-new staged device work b (h b p l)))
 
 -- a block of it, lent

@@ -34,5 +34,5 @@ unfoldable pub lowestTo : ℕ → (ℕ → Bool) → ℕ → Found
 lowestTo n f i = foundOf (lowest i (n - i) f)
 
 -- no block of the table is one of these
-abbrev pub Committed : List ℕ → Type 0
-Committed staged = (b : ℕ) → 34 ≤ b → b < 42 → foundAt (place b staged) ≡ at.Nothing
+abbrev pub TableUnstaged : List ℕ → Type 0
+TableUnstaged staged = (b : ℕ) → 34 ≤ b → b < 42 → foundAt (place b staged) ≡ at.Nothing

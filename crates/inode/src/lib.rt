@@ -21,7 +21,7 @@ ghost use Rattle.spec.specs.Inode.{inodeOf, blockOfInode, find, findEmpty};
 ghost use Rattle.spec.specs.Transaction.{view, stateOf};
 ghost use Rattle.transaction.specs.Places.{viewIn};
 ghost use Rattle.block.specs.Keys.{keyOf, Name};
-ghost use Rattle.inode.specs.Records.{recordIn, named, foundOf, lowestTo, Committed};
+ghost use Rattle.inode.specs.Records.{recordIn, named, foundOf, lowestTo, TableUnstaged};
 ghost use Rattle.inode.specs.Walk.{slotIn, Slot, live, Steps, startOf};
 
 // "file records of 32 bytes, 16 to a block"
@@ -230,7 +230,7 @@ fn find_committed(device: &[u8], key: u64) -> Found
 
 // Whether no block of the table is among these.
 fn is_table_committed(staged: &[u32]) -> bool
-    ensures { λ r. ⌜ (r ≡ true → Committed (now (staged .entry))) ⌝ }
+    ensures { λ r. ⌜ (r ≡ true → TableUnstaged (now (staged .entry))) ⌝ }
 {
     let mut i: usize = 0;
     while i < staged.len() {

@@ -162,8 +162,7 @@ fn keep<'a>(
 {
     let table = inode_block_in(device, work, staged, i);
     let mut scan = stretch_at(table, i, 0, wanted);
-    let cur = scan.at;
-    let mut block = view_in(device, work, staged, DiskBlock(cur.block));
+    let mut block = table;
     let mut end = End { len: 0, next: 0 };
     let mut n: usize = 0;
     while 0 < scan.room {
@@ -209,8 +208,7 @@ fn give_back<'a>(
     }
     let table = inode_block_in(device, work, staged, i);
     let mut scan = stretch_at(table, i, from, MAX_FILE_BLOCKS);
-    let cur = scan.at;
-    let mut block = view_in(device, work, staged, DiskBlock(cur.block));
+    let mut block = table;
     let mut count: usize = 0;
     while 0 < scan.room {
         match take_slot(block, scan) {

@@ -515,8 +515,7 @@ fn put_runs<'a>(
 {
     let table = inode_block_in(device, work, staged, i);
     let mut scan = stretch_at(table, i, from, n);
-    let cur = scan.at;
-    let mut block = view_in(device, work, staged, DiskBlock(cur.block));
+    let mut block = table;
     let mut run = Extent { first: 0, count: 0 };
     let mut k: usize = 0;
     while 0 < scan.room {

@@ -21,7 +21,7 @@ use Rattle.transaction.specs.Places.{viewIn}
 use Rattle.transaction.proofs.Laws.{staged-lent, view-of}
 use Rattle.inode.specs.declared.Cursor.{Cursor}
 use Rattle.inode.specs.Walk.{Slot, live, leaf, rest, startOf, Onward, Inward, Ended}
-use Rattle.inode.proofs.Walk.{walk-leaf, walk-node, walk-end, extents-start, slot-of, step-leaf, no-leaf, step-node, step-end}
+use Rattle.inode.proofs.Walk.{walk-leaf, walk-node, walk-end, extents-start, block-start, slot-of, step-leaf, no-leaf, step-node, step-end}
 use Rattle.extents.specs.declared.Sought.{Sought}
 use Rattle.extents.specs.declared.Sought.the-variants as sought
 use Rattle.extents.specs.declared.Scan.{Scan}
@@ -159,7 +159,7 @@ module _ (v : Disk) (i p : ℕ) where
 module _ (v : Disk) (i from n : ℕ) (c : Scan) where
   pub stretch-start : c .at ≡ startOf v i → c .skip ≡ from → c .room ≡ min n (2048 - from) → Starts v i from n c
   unfolding pending
-  stretch-start a k r = record { blocks = rw (a, k, r) (sym (data-stretch v i from n)); room = omega arith }
+  stretch-start a k r = record { blocks = rw (a, k, r) (sym (data-stretch v i from n)); room = omega arith; block = ap (λ (x : Cursor). x .block) a ∙ block-start v i }
 
 module _ (v : Disk) (tb : ℕ) (c : Scan) where
   pub on-piece : (r : Piece) (e : Extent) (d : Scan) → Pieces v tb c r → r ≡ piece.Blocks e d → NextPiece v tb c e d

@@ -58,10 +58,11 @@ Places v i p place.Nothing = drop p (dataOf v (inodeAt v i)) ≡ []
 unfoldable pub pending : Disk → ℕ → Scan → List ℕ
 pending v tb c = take (c .room) (drop (c .skip) (blocksIn (rest v tb (c .at))))
 
--- the n data blocks of record i from block `from` on
+-- the n data blocks of record i from block `from` on; the walk begins in the record's block
 pub record Starts (v : Disk) (i from n : ℕ) (c : Scan) : Type 0 where
   pub blocks : pending v (blockOfInode i) c ≡ take n (drop from (dataOf v (inodeAt v i)))
   pub room : c .room ≤ 2048
+  pub block : c .at .block ≡ blockOfInode i
 
 -- the blocks of e come first, then what is left at d
 pub record NextPiece (v : Disk) (tb : ℕ) (c : Scan) (e : Extent) (d : Scan) : Type 0 where

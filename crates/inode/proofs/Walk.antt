@@ -194,9 +194,9 @@ module _ (v : Disk) (t : List ℕ) (i tb p x : ℕ) (b : tb ≡ blockOfInode i) 
   unfolding startOf
   start-flat z = rw (eq-eqb (inodeAt v i .depth) 0 (depth-is ∙ z), b, q)
 
-  pub start-deep : (x ≡ 0 → ⊥) → record { block = 0; at = 0; left = 0; top = p + 16; tops = 4 } ≡ startOf v i
+  pub start-deep : (x ≡ 0 → ⊥) → record { block = tb; at = 0; left = 0; top = p + 16; tops = 4 } ≡ startOf v i
   unfolding startOf
-  start-deep z = rw (ne-eqb (inodeAt v i .depth) 0 (λ y. z (sym depth-is ∙ y)), q)
+  start-deep z = rw (ne-eqb (inodeAt v i .depth) 0 (λ y. z (sym depth-is ∙ y)), b, q)
 
 -- at the start nothing is passed: the extents and nodes of record i are left
 module _ (v : Disk) (i : ℕ) where
@@ -224,7 +224,7 @@ module _ (v : Disk) (i : ℕ) where
           rw (z, d, leaf-none (blockOfInode i) 0, leaf-start, append-nil)
       go false z =
           let d : treeDepth (inodeAt v i) ≡ 1 = deep (inodeAt v i .depth) (eqb-false (inodeAt v i .depth) 0 z) in
-          rw (z, d, leaf-none 0 0, leaf-start)
+          rw (z, d, leaf-none (blockOfInode i) 0, leaf-start)
 
   pub nodes-start : restNodes v (blockOfInode i) (startOf v i) ≡ nodesOf v (inodeAt v i)
   unfolding startOf restNodes levelsOf
@@ -237,6 +237,15 @@ module _ (v : Disk) (i : ℕ) where
       go false z =
           let d : treeDepth (inodeAt v i) ≡ 1 = deep (inodeAt v i .depth) (eqb-false (inodeAt v i .depth) 0 z) in
           rw (z, d, leaf-start) (sym (append-nil _))
+
+  -- the walk begins in the record's block
+  pub block-start : startOf v i .block ≡ blockOfInode i
+  unfolding startOf
+  block-start = go (eqb (inodeAt v i .depth) 0) refl
+    where
+      go : (t : Bool) → eqb (inodeAt v i .depth) 0 ≡ t → startOf v i .block ≡ blockOfInode i
+      go true z = rw z
+      go false z = rw z
 
   pub weight-start : weight (startOf v i) ≤ 516
   unfolding startOf

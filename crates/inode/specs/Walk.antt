@@ -72,4 +72,4 @@ unfoldable pub startOf : Disk → ℕ → Cursor
 startOf v i =
     cond (eqb (inodeAt v i .depth) 0)
     (record { block = blockOfInode i; at = placeOfInode i + 16; left = 4; top = 0; tops = 0 })
-    (record { block = 0; at = 0; left = 0; top = placeOfInode i + 16; tops = 4 })
+    (record { block = blockOfInode i; at = 0; left = 0; top = placeOfInode i + 16; tops = 4 })

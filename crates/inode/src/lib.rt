@@ -395,7 +395,7 @@ pub fn start_at(table: &[u8], i: usize) -> Cursor
         }
     } else {
         Cursor {
-            block: 0,
+            block: tb,
             at: 0,
             left: 0,
             top: slots,

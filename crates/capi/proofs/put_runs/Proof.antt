@@ -25,12 +25,14 @@ inode-block-in-requires c κs = search needs
 stretch-at-requires : tie.Need-stretch-at-requires Inv-loop μ-loop
 stretch-at-requires c κs = search needs
 
-view-in-requires : tie.Need-view-in-requires Inv-loop μ-loop
-view-in-requires c κs = search needs
-
 loop-holds : tie.Need-loop-holds Inv-loop μ-loop
-loop-holds c = let a = c .before .before .before .before .before .before .before .before .args in let v = viewIn (a .staged .now) (a .device .now) (a .work .now) in let tb = blockOfInode (a .i) in
-    (fill-start v (a .i) (a .from) (a .n) tb (a .list .now) _ (begin-in v (a .i) (a .from) (a .n) tb (c .before .before .stretch-at .result) _ refl (c .before .before .stretch-at .ensures v (c .before .before .before .inode-block-in .ensures .0)) refl), c .view-in .ensures .0, c .view-in .ensures .1)
+loop-holds c =
+    let a = c .before .before .before .before .before .before .args in
+    let t = c .before .inode-block-in .ensures in
+    let v = viewIn (a .staged .now) (a .device .now) (a .work .now) in
+    let tb = blockOfInode (a .i) in
+    let s = c .stretch-at .ensures v (t .0) in
+    (fill-start v (a .i) (a .from) (a .n) tb (a .list .now) _ (begin-in v (a .i) (a .from) (a .n) tb (c .stretch-at .result) _ refl s refl), t .0 ∙ ap v (sym (s .block)), t .1)
 
 take-slot-requires : tie.Need-take-slot-requires Inv-loop μ-loop
 take-slot-requires c κs = (c .before .before .loop .inv .2, c .if1 .taken)
@@ -42,7 +44,7 @@ add-if3 : tie.Need-add-if3 Inv-loop μ-loop
 add-if3 c = let f = c .before .before .before .before .before .before .before .before .before .loop .inv .0 .fits in omega (arith, f .first, f .count)
 
 add-run : tie.Need-add-run Inv-loop μ-loop
-add-run c = let a = c .before .before .before .before .before .before .before .before .before .before .before .before .before .before .before .before .before .before .before .before .before .before .args in let v = viewIn (a .staged .now) (a .device .now) (a .work .now) in let tb = blockOfInode (a .i) in
+add-run c = let a = c .before .before .before .before .before .before .before .before .before .before .before .before .before .before .before .before .before .before .before .before .args in let v = viewIn (a .staged .now) (a .device .now) (a .work .now) in let tb = blockOfInode (a .i) in
     let i = c .before .before .before .before .before .before .before .before .before .before .before .before .before .loop .inv in
     let t = on-slot-piece v tb _ _ _ _ (c .before .before .before .before .before .before .before .before .before .before .take-slot .ensures v tb (i .1)) (c .before .before .before .before .before .before .before .before .e .given .1) in
     omega (arith, i .0 .fits .count, t .piece .room)
@@ -54,37 +56,37 @@ add-k : tie.Need-add-k Inv-loop μ-loop
 add-k c = omega (arith, fill-low _ _ _ _ _ _ _ _ _ (c .before .before .before .before .before .before .before .before .before .before .before .before .before .before .before .loop .inv .0))
 
 loop-less : tie.Need-loop-less Inv-loop μ-loop
-loop-less c = let a = c .before .before .before .before .before .before .before .before .before .before .before .before .before .before .before .before .before .args in let v = viewIn (a .staged .now) (a .device .now) (a .work .now) in let tb = blockOfInode (a .i) in
+loop-less c = let a = c .before .before .before .before .before .before .before .before .before .before .before .before .before .before .before .args in let v = viewIn (a .staged .now) (a .device .now) (a .work .now) in let tb = blockOfInode (a .i) in
     let i = c .before .before .before .before .before .before .before .before .loop .inv in
     let t = on-slot-piece v tb _ _ _ _ (c .before .before .before .before .before .take-slot .ensures v tb (i .1)) (c .before .before .before .e .given .1) in
     t .less
 
 loop-again : tie.Need-loop-again Inv-loop μ-loop
-loop-again c = let a = c .before .before .before .before .before .before .before .before .before .before .before .before .before .before .before .before .before .args in let v = viewIn (a .staged .now) (a .device .now) (a .work .now) in let tb = blockOfInode (a .i) in
+loop-again c = let a = c .before .before .before .before .before .before .before .before .before .before .before .before .before .before .before .args in let v = viewIn (a .staged .now) (a .device .now) (a .work .now) in let tb = blockOfInode (a .i) in
     let i = c .before .before .before .before .before .before .before .before .loop .inv in
     let t = on-slot-piece v tb _ _ _ _ (c .before .before .before .before .before .take-slot .ensures v tb (i .1)) (c .before .before .before .e .given .1) in
     (fill-grown v (a .i) (a .from) (a .n) tb (a .list .now) _ _ _ (i .0) _ (grow-first v tb _ _ (record { runs = refl; fits = i .0 .fits }) _ _ (t .piece) (c .if2 .taken)), i .1 ∙ ap v (sym (t .block)), i .2)
 
 loop-less-2 : tie.Need-loop-less-2 Inv-loop μ-loop
-loop-less-2 c = let a = c .before .before .before .before .before .before .before .before .before .before .before .before .before .before .before .before .before .before .before .before .before .before .args in let v = viewIn (a .staged .now) (a .device .now) (a .work .now) in let tb = blockOfInode (a .i) in
+loop-less-2 c = let a = c .before .before .before .before .before .before .before .before .before .before .before .before .before .before .before .before .before .before .before .before .args in let v = viewIn (a .staged .now) (a .device .now) (a .work .now) in let tb = blockOfInode (a .i) in
     let i = c .before .before .before .before .before .before .before .before .before .before .before .before .before .loop .inv in
     let t = on-slot-piece v tb _ _ _ _ (c .before .before .before .before .before .before .before .before .before .before .take-slot .ensures v tb (i .1)) (c .before .before .before .before .before .before .before .before .e .given .1) in
     t .less
 
 loop-again-2 : tie.Need-loop-again-2 Inv-loop μ-loop
-loop-again-2 c = let a = c .before .before .before .before .before .before .before .before .before .before .before .before .before .before .before .before .before .before .before .before .before .before .args in let v = viewIn (a .staged .now) (a .device .now) (a .work .now) in let tb = blockOfInode (a .i) in
+loop-again-2 c = let a = c .before .before .before .before .before .before .before .before .before .before .before .before .before .before .before .before .before .before .before .before .args in let v = viewIn (a .staged .now) (a .device .now) (a .work .now) in let tb = blockOfInode (a .i) in
     let i = c .before .before .before .before .before .before .before .before .before .before .before .before .before .loop .inv in
     let t = on-slot-piece v tb _ _ _ _ (c .before .before .before .before .before .before .before .before .before .before .take-slot .ensures v tb (i .1)) (c .before .before .before .before .before .before .before .before .e .given .1) in
     (fill-grown v (a .i) (a .from) (a .n) tb (a .list .now) _ _ _ (i .0) _ (grow-join v tb _ _ (record { runs = refl; fits = i .0 .fits }) _ _ (t .piece) (c .before .before .if3 .taken)), i .1 ∙ ap v (sym (t .block)), i .2)
 
 loop-less-3 : tie.Need-loop-less-3 Inv-loop μ-loop
-loop-less-3 c = let a = c .before .before .before .before .before .before .before .before .before .before .before .before .before .before .before .before .before .before .before .before .before .before .before .before .args in let v = viewIn (a .staged .now) (a .device .now) (a .work .now) in let tb = blockOfInode (a .i) in
+loop-less-3 c = let a = c .before .before .before .before .before .before .before .before .before .before .before .before .before .before .before .before .before .before .before .before .before .before .args in let v = viewIn (a .staged .now) (a .device .now) (a .work .now) in let tb = blockOfInode (a .i) in
     let i = c .before .before .before .before .before .before .before .before .before .before .before .before .before .before .before .loop .inv in
     let t = on-slot-piece v tb _ _ _ _ (c .before .before .before .before .before .before .before .before .before .before .before .before .take-slot .ensures v tb (i .1)) (c .before .before .before .before .before .before .before .before .before .before .e .given .1) in
     t .less
 
 loop-again-3 : tie.Need-loop-again-3 Inv-loop μ-loop
-loop-again-3 c = let a = c .before .before .before .before .before .before .before .before .before .before .before .before .before .before .before .before .before .before .before .before .before .before .before .before .args in let v = viewIn (a .staged .now) (a .device .now) (a .work .now) in let tb = blockOfInode (a .i) in
+loop-again-3 c = let a = c .before .before .before .before .before .before .before .before .before .before .before .before .before .before .before .before .before .before .before .before .before .before .args in let v = viewIn (a .staged .now) (a .device .now) (a .work .now) in let tb = blockOfInode (a .i) in
     let i = c .before .before .before .before .before .before .before .before .before .before .before .before .before .before .before .loop .inv in
     let t = on-slot-piece v tb _ _ _ _ (c .before .before .before .before .before .before .before .before .before .before .before .before .take-slot .ensures v tb (i .1)) (c .before .before .before .before .before .before .before .before .before .before .e .given .1) in
     (fill-more v (a .i) (a .from) (a .n) tb (a .list .now) _ _ _ (i .0) _ _ (grow-apart v tb _ _ (record { runs = refl; fits = i .0 .fits }) _ _ (t .piece) (c .before .before .before .before .before .before .before .if2 .left) (c .before .before .before .before .if3 .left)) _ (c .before .before .put-run .ensures), i .1 ∙ ap v (sym (t .block)), i .2)
@@ -96,14 +98,14 @@ pass-slots-requires : tie.Need-pass-slots-requires Inv-loop μ-loop
 pass-slots-requires c κs = c .before .before .before .before .before .before .loop .inv .2
 
 loop-less-4 : tie.Need-loop-less-4 Inv-loop μ-loop
-loop-less-4 c = let a = c .before .before .before .before .before .before .before .before .before .before .before .before .before .before .before .before .args in let v = viewIn (a .staged .now) (a .device .now) (a .work .now) in let tb = blockOfInode (a .i) in
+loop-less-4 c = let a = c .before .before .before .before .before .before .before .before .before .before .before .before .before .before .args in let v = viewIn (a .staged .now) (a .device .now) (a .work .now) in let tb = blockOfInode (a .i) in
     let i = c .before .before .before .before .before .before .before .loop .inv in
     let g = on-slot-passed v tb _ _ _ (c .before .before .before .before .take-slot .ensures v tb (i .1)) (c .before .before .then .given .1) in
     let f = goes-further v tb _ _ _ g (c .pass-slots .ensures v tb (i .1 ∙ ap v (sym (g .1)))) in
     f .0 .less
 
 loop-again-4 : tie.Need-loop-again-4 Inv-loop μ-loop
-loop-again-4 c = let a = c .before .before .before .before .before .before .before .before .before .before .before .before .before .before .before .before .args in let v = viewIn (a .staged .now) (a .device .now) (a .work .now) in let tb = blockOfInode (a .i) in
+loop-again-4 c = let a = c .before .before .before .before .before .before .before .before .before .before .before .before .before .before .args in let v = viewIn (a .staged .now) (a .device .now) (a .work .now) in let tb = blockOfInode (a .i) in
     let i = c .before .before .before .before .before .before .before .loop .inv in
     let g = on-slot-passed v tb _ _ _ (c .before .before .before .before .take-slot .ensures v tb (i .1)) (c .before .before .then .given .1) in
     let f = goes-further v tb _ _ _ g (c .pass-slots .ensures v tb (i .1 ∙ ap v (sym (g .1)))) in
@@ -113,26 +115,26 @@ enum-told : tie.Need-enum-told Inv-loop μ-loop
 enum-told c = search needs
 
 take-node-requires : tie.Need-take-node-requires Inv-loop μ-loop
-take-node-requires c κs = c .before .before .before .before .before .before .before .before .before .inode-block-in .ensures .1
+take-node-requires c κs = c .before .before .before .before .before .before .before .inode-block-in .ensures .1
 
 enum-known-b : tie.Need-enum-known-b Inv-loop μ-loop
 enum-known-b c = search needs
 
-view-in-requires-2 : tie.Need-view-in-requires-2 Inv-loop μ-loop
-view-in-requires-2 c κs = c .before .before .before .before .before .before .before .before .before .before .before .before .before .before .before .before .before .before .pre .1
+view-in-requires : tie.Need-view-in-requires Inv-loop μ-loop
+view-in-requires c κs = c .before .before .before .before .before .before .before .before .before .before .before .before .before .before .before .before .pre .1
 
 loop-less-5 : tie.Need-loop-less-5 Inv-loop μ-loop
-loop-less-5 c = let a = c .before .before .before .before .before .before .before .before .before .before .before .before .before .before .before .before .before .before .before .args in let v = viewIn (a .staged .now) (a .device .now) (a .work .now) in let tb = blockOfInode (a .i) in
+loop-less-5 c = let a = c .before .before .before .before .before .before .before .before .before .before .before .before .before .before .before .before .before .args in let v = viewIn (a .staged .now) (a .device .now) (a .work .now) in let tb = blockOfInode (a .i) in
     let i = c .before .before .before .before .before .before .before .before .before .before .loop .inv in
     let n = on-slot-unused v tb _ _ (c .before .before .before .before .before .before .before .take-slot .ensures v tb (i .1)) (c .before .before .before .before .before .enum-told .given .1) in
-    on-node-next v tb _ _ _ _ (c .before .before .before .before .take-node .ensures v tb (c .before .before .before .before .before .before .before .before .before .before .before .before .before .before .inode-block-in .ensures .0) n) (c .before .before .b .given .1) .0 .less
+    on-node-next v tb _ _ _ _ (c .before .before .before .before .take-node .ensures v tb (c .before .before .before .before .before .before .before .before .before .before .before .before .inode-block-in .ensures .0) n) (c .before .before .b .given .1) .0 .less
 
 loop-again-5 : tie.Need-loop-again-5 Inv-loop μ-loop
-loop-again-5 c = let a = c .before .before .before .before .before .before .before .before .before .before .before .before .before .before .before .before .before .before .before .args in let v = viewIn (a .staged .now) (a .device .now) (a .work .now) in let tb = blockOfInode (a .i) in
+loop-again-5 c = let a = c .before .before .before .before .before .before .before .before .before .before .before .before .before .before .before .before .before .args in let v = viewIn (a .staged .now) (a .device .now) (a .work .now) in let tb = blockOfInode (a .i) in
     let i = c .before .before .before .before .before .before .before .before .before .before .loop .inv in
     let n = on-slot-unused v tb _ _ (c .before .before .before .before .before .before .before .take-slot .ensures v tb (i .1)) (c .before .before .before .before .before .enum-told .given .1) in
-    let g = on-node-next v tb _ _ _ _ (c .before .before .before .before .take-node .ensures v tb (c .before .before .before .before .before .before .before .before .before .before .before .before .before .before .inode-block-in .ensures .0) n) (c .before .before .b .given .1) in
-    (fill-on v (a .i) (a .from) (a .n) tb (a .list .now) _ _ _ (i .0) (c .before .before .before .before .before .before .before .before .before .before .loop .run) (c .before .before .before .before .before .before .before .before .before .before .loop .scan) _ refl (g .0), c .view-in2 .ensures .0 ∙ ap v (sym (g .1)), c .view-in2 .ensures .1)
+    let g = on-node-next v tb _ _ _ _ (c .before .before .before .before .take-node .ensures v tb (c .before .before .before .before .before .before .before .before .before .before .before .before .inode-block-in .ensures .0) n) (c .before .before .b .given .1) in
+    (fill-on v (a .i) (a .from) (a .n) tb (a .list .now) _ _ _ (i .0) (c .before .before .before .before .before .before .before .before .before .before .loop .run) (c .before .before .before .before .before .before .before .before .before .before .loop .scan) _ refl (g .0), c .view-in .ensures .0 ∙ ap v (sym (g .1)), c .view-in .ensures .1)
 
 enum-told-2 : tie.Need-enum-told-2 Inv-loop μ-loop
 enum-told-2 c = search needs
@@ -144,10 +146,10 @@ same-length : tie.Need-same-length Inv-loop μ-loop
 same-length c = search needs
 
 returns : tie.Need-returns Inv-loop μ-loop
-returns c = let a = c .before .before .before .before .before .before .before .before .before .before .before .before .before .before .before .before .before .before .before .before .before .args in let v = viewIn (a .staged .now) (a .device .now) (a .work .now) in let tb = blockOfInode (a .i) in
+returns c = let a = c .before .before .before .before .before .before .before .before .before .before .before .before .before .before .before .before .before .before .before .args in let v = viewIn (a .staged .now) (a .device .now) (a .work .now) in let tb = blockOfInode (a .i) in
     let i = c .before .before .before .before .before .before .before .before .before .before .before .before .loop .inv in
     let n = on-slot-unused v tb _ _ (c .before .before .before .before .before .before .before .before .before .take-slot .ensures v tb (i .1)) (c .before .before .before .before .before .before .before .enum-told .given .1) in
-    fill-last v (a .i) (a .from) (a .n) tb (a .list .now) _ _ _ _ _ _ (i .0) (on-node-none v tb _ _ (c .before .before .before .before .before .before .take-node .ensures v tb (c .before .before .before .before .before .before .before .before .before .before .before .before .before .before .before .before .inode-block-in .ensures .0) n) (c .before .before .before .before .enum-told2 .given .1)) (c .before .before .put-last .ensures)
+    fill-last v (a .i) (a .from) (a .n) tb (a .list .now) _ _ _ _ _ _ (i .0) (on-node-none v tb _ _ (c .before .before .before .before .before .before .take-node .ensures v tb (c .before .before .before .before .before .before .before .before .before .before .before .before .before .before .inode-block-in .ensures .0) n) (c .before .before .before .before .enum-told2 .given .1)) (c .before .before .put-last .ensures)
 
 put-last-requires-2 : tie.Need-put-last-requires-2 Inv-loop μ-loop
 put-last-requires-2 c κs = fill-low _ _ _ _ _ _ _ _ _ (c .before .before .before .loop .inv .0)
@@ -156,7 +158,7 @@ same-length-2 : tie.Need-same-length-2 Inv-loop μ-loop
 same-length-2 c = search needs
 
 returns-2 : tie.Need-returns-2 Inv-loop μ-loop
-returns-2 c = let a = c .before .before .before .before .before .before .before .before .before .before .before .before .before .before .before .args in let v = viewIn (a .staged .now) (a .device .now) (a .work .now) in let tb = blockOfInode (a .i) in
+returns-2 c = let a = c .before .before .before .before .before .before .before .before .before .before .before .before .before .args in let v = viewIn (a .staged .now) (a .device .now) (a .work .now) in let tb = blockOfInode (a .i) in
     fill-last v (a .i) (a .from) (a .n) tb (a .list .now) _ _ _ _ _ _ (c .before .before .before .before .before .before .loop .inv .0) (no-room v tb _ (omega arith)) (c .before .before .put-last2 .ensures)
 
 pub put-runs-spec : {M : Type 1} → statement M
@@ -167,7 +169,6 @@ put-runs-spec =
     μ-loop
     inode-block-in-requires
     stretch-at-requires
-    view-in-requires
     loop-holds
     take-slot-requires
     enum-known-e
@@ -188,7 +189,7 @@ put-runs-spec =
     enum-told
     take-node-requires
     enum-known-b
-    view-in-requires-2
+    view-in-requires
     loop-less-5
     loop-again-5
     enum-told-2

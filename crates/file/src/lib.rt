@@ -17,7 +17,7 @@ ghost use mathlib.Core.Path.{_≡_};
 ghost use Prim.Native.Nat.{_+_, _*_, _<_, _≤_, min};
 ghost use lib.ListN.{length, take, drop};
 ghost use Rattle.spec.specs.Bytes.{exactly};
-ghost use Rattle.spec.specs.Inode.{inodeAt};
+ghost use Rattle.spec.specs.Inode.{inodeAt, blockOfInode};
 ghost use Rattle.spec.specs.Map.{contentOf};
 ghost use Rattle.transaction.specs.Places.{viewIn};
 ghost use Rattle.file.specs.Bytes.{runBytes, blockBytes, Filled};
@@ -101,23 +101,23 @@ fn copy_run<'a>(
     copy_blocks(device, work, staged, run, skip, to);
 }
 
-// Bytes of record i's data blocks from byte x on, as far as they reach; how many.
+// Bytes of record i's data blocks from byte x on, as far as they reach, where `table` is the record's block; how many.
 fn read_blocks<'a>(
     device: &'a [u8],
     work: &'a [u8],
     staged: &[u32],
+    table: &'a [u8],
     i: usize,
     x: usize,
     to: &mut [u8],
 ) -> usize
-    requires { ⌜ (i < 128) × (length (now staged) ≤ 32) ⌝ }
+    requires { ⌜ (i < 128) × (length (now staged) ≤ 32) × (length (now table) ≤ 512)
+        × (exactly 512 (now table) ≡ viewIn (now staged) (now device) (now work) (blockOfInode i)) ⌝ }
     ensures { λ r. ⌜ Filled (take (length (now (to .entry))) (drop x (blockBytes (viewIn (now (staged .entry)) (now (device .entry)) (now (work .entry))) i)))
         (now (to .entry)) (now (to .exit)) r ⌝ }
 {
-    let table = inode_block_in(device, work, staged, i);
     let mut scan = stretch_at(table, i, x / 512, 2048);
-    let cur = scan.at;
-    let mut block = view_in(device, work, staged, DiskBlock(cur.block));
+    let mut block = table;
     let mut skip = x % 512;
     let mut done: usize = 0;
     while done < to.len() {
@@ -163,10 +163,11 @@ pub fn read_file<'a>(
         (inodeAt (viewIn (now (staged .entry)) (now (device .entry)) (now (work .entry))) i)))) (now (buffer .entry)) (now (buffer .exit)) r ⌝ }
 {
     let from = x.0;
-    let size = size_of(inode_block_in(device, work, staged, i), i) as usize;
+    let table = inode_block_in(device, work, staged, i);
+    let size = size_of(table, i) as usize;
     if size <= from {
         return 0;
     }
     let len = least(buffer.len(), size - from);
-    read_blocks(device, work, staged, i, from, &mut buffer[0..len])
+    read_blocks(device, work, staged, table, i, from, &mut buffer[0..len])
 }

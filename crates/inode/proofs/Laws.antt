@@ -7,8 +7,8 @@ use mathlib.Core.Option.{Option, none, some, Option·some-ne-none, Option·some-
 use native.Mathlib.Nat.{add-zero}
 use native.Mathlib.Numerals.{add-one}
 use native.Mathlib.Omega.{arith}
-use lib.Dec.{eqb, ltb}
-use borrow.Author.Tests.{eqb-true, eqb-false, eq-eqb, ne-eqb, lt-ltb}
+use lib.Dec.{eqb, ltb, leb}
+use borrow.Author.Tests.{eqb-true, eqb-false, eq-eqb, ne-eqb, lt-ltb, leb-true}
 use lib.ListN.{length, take, drop, getD, replicate, length-take, length-drop}
 use lib.Seq.{ext-getD, getD-take, getD-drop, take-take, take-nil, drop-drop}
 use Rattle.spec.specs.Bytes.{exactly, part, number2, number4, same, allZero, found, place, lowest}
@@ -18,6 +18,7 @@ use Rattle.spec.specs.Session.{stagedIn}
 use Rattle.spec.specs.Transaction.{view, stateOf}
 use Rattle.spec.specs.Inode.{slotsIn, inodeOf, inodeBytes, inodeAt, nameAt, isEmpty, blockOfInode, placeOfInode, find, findEmpty}
 use Rattle.block.proofs.Laws.{length-exactly, getD-exactly, exactly-all, block-length, block-is}
+use Rattle.lists.specs.Tests.{both-true}
 use Rattle.lists.specs.Lowest as lows
 use Rattle.transaction.specs.Places.{viewIn}
 use Rattle.transaction.proofs.Laws.{view-new}
@@ -344,6 +345,20 @@ table-part device first at end w e f =
     let z : end - at ≡ 512 = omega arith in
     let q : at ≡ 512 * blockOfInode first = omega arith in
     ap₂ (λ (n k : ℕ). exactly 512 (take n (drop k device))) z q ∙ sym (block-is device (blockOfInode first))
+
+-- the block of record i, where nothing is staged
+pub table-lent : (staged device work : List ℕ) (i at end : ℕ) → (eqb (length staged) 0 && leb 21504 (length device)) ≡ true → i < 128 → at ≡ 17408 + 512 * (i / 16) → end ≡ at + 512
+    → (end ≤ length device)
+    × (exactly 512 (take (end - at) (drop at device)) ≡ viewIn staged device work (blockOfInode i))
+    × (length (take (end - at) (drop at device)) ≤ 512)
+table-lent (x ∷ xs) device work i at end t h e f = absurd (omega (arith, eqb-true (length (x ∷ xs)) 0 (both-true (eqb (length (x ∷ xs)) 0) (leb 21504 (length device)) t .0)))
+table-lent [] device work i at end t h e f =
+    let z : end - at ≡ 512 = omega arith in
+    let q : at ≡ 512 * blockOfInode i = omega arith in (
+      omega (arith, leb-true 21504 (length device) (both-true (eqb 0 0) (leb 21504 (length device)) t .1)),
+      ap₂ (λ (n k : ℕ). exactly 512 (take n (drop k device))) z q ∙ sym (block-is device (blockOfInode i)) ∙ sym (view-new [] device work (blockOfInode i) refl),
+      rw z (simp length-take (omega arith)),
+    )
 
 -- a number that is none of the table's
 pub other-block : (x b : ℕ) → (ltb 33 x && ltb x 42) ≡ false → 34 ≤ b → b < 42 → x ≡ b → ⊥

@@ -65,11 +65,16 @@ pub fn inode_block<'a>(device: &'a [u8], work: &'a [u8], s: Session, i: usize) -
     view_block(device, work, s, DiskBlock(table_block(i)))
 }
 
-// The same where these blocks are staged; no longer than a block.
+// The same where these blocks are staged; no longer than a block. Where none is, it lies at its place on the device.
 pub fn inode_block_in<'a>(device: &'a [u8], work: &'a [u8], staged: &[u32], i: usize) -> &'a [u8]
     requires { ⌜ (i < 128) × (length (now staged) ≤ 32) ⌝ }
     ensures { λ r. ⌜ (exactly 512 (now r) ≡ viewIn (now (staged .entry)) (now (device .entry)) (now (work .entry)) (blockOfInode i)) × (length (now r) ≤ 512) ⌝ }
 {
+    if (staged.len() == 0) & (TABLE_END <= device.len()) {
+        let at = TABLE_START + Limits::BLOCK_SIZE * (i / RECORDS_PER_BLOCK);
+        let end = at + Limits::BLOCK_SIZE;
+        return &device[at..end];
+    }
     view_in(device, work, staged, DiskBlock(table_block(i)))
 }
 

@@ -25,11 +25,11 @@ ghost use Rattle.inode.specs.Records.{recordIn, named, foundOf, lowestTo
 ghost use Rattle.inode.specs.Walk.{slotIn, Slot, live, Steps, startOf};
 
 // "file records of 32 bytes, 16 to a block"
-const RECORD_SIZE: usize = 32;
+pub const RECORD_SIZE: usize = 32;
 
-const RECORDS_PER_BLOCK: usize = 16;
+pub const RECORDS_PER_BLOCK: usize = 16;
 
-const NAME_SIZE: usize = 8;
+pub const NAME_SIZE: usize = 8;
 
 // The bytes of the device that hold the table: blocks 34 to 41.
 const TABLE_START: usize = 17408;

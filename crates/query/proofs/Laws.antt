@@ -1,12 +1,12 @@
 -- The cases of the calls that only read. Assumes nothing.
-use Prim.Native.Nat.{ℕ, _<_, _≤_}
+use Prim.Native.Nat.{ℕ, _+_, _*_, _-_, _%_, _<_, _≤_}
 use mathlib.Core.Path.{_≡_, refl, sym, ap, ap₂, _∙_}
 use mathlib.Core.Bool.{true, false}
-use mathlib.Core.List.{List}
-use borrow.Author.Tests.{le-leb, lt-leb}
+use mathlib.Core.List.{List, [], _∷_}
+use borrow.Author.Tests.{le-leb, lt-leb, eq-eqb, ne-eqb}
 use native.Mathlib.Omega.{arith}
 use mathlib.Core.Option.{Option, none, some}
-use lib.ListN.{length, take, drop, getElem?, replicate}
+use lib.ListN.{length, take, drop, getD, getElem?, replicate, length-take, length-drop}
 use Rattle.spec.specs.Bytes.{exactly, allZero, found}
 use Rattle.spec.specs.Bitmap.{bitsOf, freeBits}
 use Rattle.spec.specs.Inode.{Inode, inodeOf, inodeAt, blockOfInode}
@@ -27,12 +27,37 @@ use Rattle.transaction.specs.Places.{viewIn}
 use Rattle.spec.specs.Session.{stagedIn}
 use Rattle.file.specs.Bytes.{Filled}
 use Rattle.inode.specs.Records.{recordIn}
-use Rattle.inode.proofs.Laws.{inode-at, record-at, empty-at}
+use Rattle.inode.proofs.Laws.{inode-at, record-at, empty-at, name-part}
+use Rattle.block.specs.Keys.{keyOf}
+use Rattle.block.proofs.Keys.{eight, zero-key}
 use Rattle.spec.specs.Calls.{Outcome, left, leftBuffer, outcome, withBuffer, readyOk, fileOk, read, sizeOf, freeCount, recordAt, runsOf, nthExtent}
 
 -- a session's blocks are those of the numbers that it has staged
 pub block-of : (s : Session) (d w l block : List ℕ) (b : ℕ) → stagedIn s ≡ l → exactly 512 block ≡ viewIn l d w b → exactly 512 block ≡ view (stateOf s d w) b
 block-of s d w l block b e f = f ∙ ap (λ (v : Disk). v b) (view-of s d w l e)
+
+-- ---- the name of record i, in a whole block of the table
+
+module _ (t : List ℕ) (i : ℕ) (full : length t ≡ 512) where
+  abbrev own : List ℕ
+  own = take (32 * (i % 16) + 8 - 32 * (i % 16)) (drop (32 * (i % 16)) t)
+
+  own-is : own ≡ take 8 (recordIn t i)
+  own-is = name-part t i (32 * (i % 16)) refl (omega arith)
+
+  pub own-length : length own ≡ 8
+  own-length = simp (length-take, length-drop) (omega arith)
+
+  -- by its number
+  pub own-blank : (k : ℕ) → k ≡ keyOf own → k ≡ 0 → allZero (take 8 (recordIn t i)) ≡ true
+  own-blank k e z = ap allZero (sym own-is) ∙ sym (zero-key own k e) ∙ eq-eqb k 0 z
+
+  pub own-used : (k : ℕ) → k ≡ keyOf own → (k ≡ 0 → ⊥) → allZero (take 8 (recordIn t i)) ≡ false
+  own-used k e z = ap allZero (sym own-is) ∙ sym (zero-key own k e) ∙ ne-eqb k 0 z
+
+  -- byte by byte
+  pub own-bytes : getD own 0 0 ∷ getD own 1 0 ∷ getD own 2 0 ∷ getD own 3 0 ∷ getD own 4 0 ∷ getD own 5 0 ∷ getD own 6 0 ∷ getD own 7 0 ∷ [] ≡ take 8 (recordIn t i)
+  own-bytes = sym (eight own own-length) ∙ own-is
 
 module _ (s : Session) (d w : List ℕ) where
   -- ---- size

@@ -4,13 +4,15 @@ use block::ByteOffset;
 use block::DiskBlock;
 use block::FileBlock;
 use block::copy_of;
+use block::key_of;
 use checks::Checked;
 use checks::ready;
 use extents::RunOf;
 use file::read_file;
+use inode::NAME_SIZE;
+use inode::RECORD_SIZE;
+use inode::RECORDS_PER_BLOCK;
 use inode::inode_block_in;
-use inode::is_empty;
-use inode::name_of;
 use inode::size_of;
 use lookup::Looked;
 use lookup::look_up;
@@ -24,13 +26,16 @@ use spec::Session;
 use transaction::staged_count;
 use transaction::view_in;
 ghost use mathlib.Core.Path.{_≡_};
-ghost use Prim.Native.Nat.{_≤_};
+ghost use mathlib.Core.Bool.{true};
+ghost use mathlib.Core.List.{List};
+ghost use Prim.Native.Nat.{ℕ, _<_, _≤_};
 ghost use lib.ListN.{length, replicate};
 ghost use Rattle.spec.specs.declared.Session.{Session};
-ghost use Rattle.spec.specs.Answers.{countedOf, recordedOf, Blank, runOf};
-ghost use Rattle.spec.specs.Transaction.{stateOf};
+ghost use Rattle.spec.specs.Answers.{countedOf, recordedOf, Blank, runOf, accept};
+ghost use Rattle.spec.specs.Inode.{blockOfInode};
+ghost use Rattle.spec.specs.Transaction.{stateOf, view};
 ghost use Rattle.checks.specs.Checks.{Seen};
-ghost use Rattle.spec.specs.Calls.{left, leftBuffer, read, sizeOf, freeCount, recordAt, nthExtent};
+ghost use Rattle.spec.specs.Calls.{left, leftBuffer, readyOk, read, sizeOf, freeCount, recordAt, nthExtent};
 
 // Bytes of a file from byte x on, as many as the buffer takes and the file has; how many. Of every session with these parts.
 pub fn read_in<'a>(
@@ -152,7 +157,38 @@ fn no_file(answer: Recorded) -> FileRecord
     }
 }
 
-// Name and size of record i, or that it is empty.
+// What is told of record i by its block of the table.
+fn record_of(table: &[u8], i: usize) -> FileRecord
+    requires { ⌜ length (now table) ≡ 512 ⌝ }
+    ensures { λ r. ⌜ ((s : Session) (device work : List ℕ) → accept true ≡ readyOk (stateOf s device work) → i < 128
+        → now (table .entry) ≡ view (stateOf s device work) (blockOfInode i)
+        → (left s device work (recordedOf (r .answer) (r .name) (r .size)) ≡ recordAt (stateOf s device work) i) × Blank (r .answer) (r .name) (r .size)) ⌝ }
+{
+    let at = RECORD_SIZE * (i % RECORDS_PER_BLOCK);
+    let end = at + NAME_SIZE;
+    let own = &table[at..end];
+    if key_of(own) == 0 {
+        return no_file(Recorded::Empty);
+    }
+    let name = [
+        own[0],
+        own[1],
+        own[2],
+        own[3],
+        own[4],
+        own[5],
+        own[6],
+        own[7],
+    ];
+    let size = size_of(table, i);
+    FileRecord {
+        answer: Recorded::File,
+        name: name,
+        size: size,
+    }
+}
+
+// Name and size of record i, or that it is empty. A block of the table that ends early is read from a copy.
 pub fn record_in<'a>(
     device: &'a [u8],
     work: &'a [u8],
@@ -173,16 +209,11 @@ pub fn record_in<'a>(
                 return no_file(Recorded::Empty);
             }
             let table = inode_block_in(device, work, staged, i);
-            if is_empty(table, i) {
-                return no_file(Recorded::Empty);
+            if table.len() == Limits::BLOCK_SIZE {
+                return record_of(table, i);
             }
-            let name = name_of(table, i);
-            let size = size_of(table, i);
-            FileRecord {
-                answer: Recorded::File,
-                name: name,
-                size: size,
-            }
+            let whole = copy_of(table);
+            record_of(&whole, i)
         }
     }
 }

@@ -1,7 +1,8 @@
 use mathlib.Core.Path.{sym, ap, _∙_}
 use native.Mathlib.Omega.{arith}
 use Rattle.checks.specs.Checks.{resultOf}
-use Rattle.query.proofs.Laws.{block-of, none-told, record-bad, record-past, record-empty, record-file}
+use Rattle.block.proofs.Laws.{exactly-all}
+use Rattle.query.proofs.Laws.{block-of, none-told, record-bad, record-past}
 use borrow.Author.Needs.{needs}
 use Rattle.query.proofs.record_in.Statement.{statement}
 use Rattle.query.proofs.record_in.Tie as tie
@@ -27,32 +28,26 @@ returns c = λ s q. let a = c .before .before .before .before .before .before .b
 inode-block-in-requires : tie.Need-inode-block-in-requires
 inode-block-in-requires c κs = search needs
 
-is-empty-requires : tie.Need-is-empty-requires
-is-empty-requires c κs = search needs
-
-no-file-requires-3 : tie.Need-no-file-requires-3
-no-file-requires-3 c κs = search needs
+record-of-requires : tie.Need-record-of-requires
+record-of-requires c κs = search needs
 
 returns-2 : tie.Need-returns-2
-returns-2 c = λ s q. let a = c .before .before .before .before .before .before .before .before .before .before .before .args in none-told s (a .device .now) (a .work .now) _ _ _ (c .no-file3 .ensures)
-    (record-empty s (a .device .now) (a .work .now) (a .i) (c .before .before .before .inode-block-in .result .now) (sym (ap resultOf (c .before .before .before .before .before .enum-told .given .1)) ∙ c .before .before .before .before .before .before .before .ready .ensures s (q .head)) (omega arith)
-    (block-of s (a .device .now) (a .work .now) _ (c .before .before .before .inode-block-in .result .now) _ (q .numbers) (c .before .before .before .inode-block-in .ensures .0)) (sym (c .before .before .is-empty .ensures) ∙ c .before .if2 .taken))
+returns-2 c = λ s q. let a = c .before .before .before .before .before .before .before .before .before .before .args in let t = c .before .before .inode-block-in in c .record-of .ensures s (a .device .now) (a .work .now) (sym (ap resultOf (c .before .before .before .before .enum-told .given .1)) ∙ c .before .before .before .before .before .before .ready .ensures s (q .head)) (omega arith) (sym (exactly-all 512 (t .result .now) (c .before .if2 .taken)) ∙ block-of s (a .device .now) (a .work .now) _ (t .result .now) _ (q .numbers) (t .ensures .0))
 
-name-of-requires : tie.Need-name-of-requires
-name-of-requires c κs = search needs
+copy-of-requires : tie.Need-copy-of-requires
+copy-of-requires c κs = search needs
 
-size-of-requires : tie.Need-size-of-requires
-size-of-requires c κs = search needs
+slice-aggregate-record-of : tie.Need-slice-aggregate-record-of
+slice-aggregate-record-of c = search needs
+
+record-of-requires-2 : tie.Need-record-of-requires-2
+record-of-requires-2 c κs = search needs
 
 returns-3 : tie.Need-returns-3
 returns-3 c = λ s q. let a = c .before .before .before .before .before .before .before .before .args in none-told s (a .device .now) (a .work .now) _ _ _ (c .no-file .ensures) (record-bad s (a .device .now) (a .work .now) (a .i) _ (sym (ap resultOf (c .before .before .why .given .1)) ∙ c .before .before .before .before .ready .ensures s (q .head)))
 
 returns-4 : tie.Need-returns-4
-returns-4 c = λ s q. let a = c .before .before .before .before .before .before .before .before .before .before .before .before .args in (
-  record-file s (a .device .now) (a .work .now) (a .i) (c .before .before .before .before .inode-block-in .result .now) (sym (ap resultOf (c .before .before .before .before .before .before .enum-told .given .1)) ∙ c .before .before .before .before .before .before .before .before .ready .ensures s (q .head)) (omega arith)
-      (block-of s (a .device .now) (a .work .now) _ (c .before .before .before .before .inode-block-in .result .now) _ (q .numbers) (c .before .before .before .before .inode-block-in .ensures .0)) _ _ (sym (c .before .before .before .is-empty .ensures) ∙ c .before .before .if2 .left) (c .before .name-of .ensures) (c .size-of .ensures),
-  tt,
-)
+returns-4 c = λ s q. let a = c .before .before .before .before .before .before .before .before .before .before .before .before .args in let t = c .before .before .before .before .inode-block-in in c .record-of2 .ensures s (a .device .now) (a .work .now) (sym (ap resultOf (c .before .before .before .before .before .before .enum-told .given .1)) ∙ c .before .before .before .before .before .before .before .before .ready .ensures s (q .head)) (omega arith) (c .before .before .copy-of .ensures ∙ block-of s (a .device .now) (a .work .now) _ (t .result .now) _ (q .numbers) (t .ensures .0))
 
 pub record-in-spec : {M : Type 1} → statement M
 record-in-spec =
@@ -65,10 +60,10 @@ record-in-spec =
     no-file-requires-2
     returns
     inode-block-in-requires
-    is-empty-requires
-    no-file-requires-3
+    record-of-requires
     returns-2
-    name-of-requires
-    size-of-requires
+    copy-of-requires
+    slice-aggregate-record-of
+    record-of-requires-2
     returns-3
     returns-4)

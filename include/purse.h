@@ -151,8 +151,8 @@ purse_counted purse_read_v(const uint8_t *device, size_t len, const uint8_t *wor
 purse_counted purse_size_v(const uint8_t *device, size_t len, const uint8_t *work, size_t work_len, const uint64_t *numbers,
     const uint8_t *name, size_t name_len, const uint32_t *staged);
 purse_counted purse_free_count_v(const uint8_t *device, size_t len, const uint8_t *work, size_t work_len, const uint64_t *numbers, const uint32_t *staged);
-purse_recorded purse_record_v(const uint8_t *device, size_t len, const uint8_t *work, size_t work_len, const uint64_t *numbers, const uint32_t *staged,
-    uint64_t i, uint8_t *name);
+purse_recorded purse_record_v(const uint8_t *device, size_t len, const uint8_t *work, size_t work_len, const uint64_t *numbers, uint64_t i,
+    const uint32_t *staged, uint8_t *name);
 purse_run purse_nth_extent_v(const uint8_t *device, size_t len, const uint8_t *work, size_t work_len, const uint64_t *numbers,
     const uint8_t *name, size_t name_len, const uint32_t *staged, uint64_t from, uint64_t n, uint64_t k);
 purse_counted purse_run_list_v(const uint8_t *device, size_t len, const uint8_t *work, size_t work_len, const uint64_t *numbers,
@@ -277,7 +277,7 @@ static inline uint32_t purse_free_count(const uint8_t *device, size_t len, const
 static inline uint32_t purse_record(const uint8_t *device, size_t len, const uint8_t *work, size_t work_len, const purse_session *s, uint64_t i,
     purse_file *out)
 {
-    purse_recorded r = purse_record_v(device, len, work, work_len, purse_numbers_of(s), s->staged, i, out->name);
+    purse_recorded r = purse_record_v(device, len, work, work_len, purse_numbers_of(s), i, s->staged, out->name);
     out->used = r.used;
     out->size = r.size;
     return r.refusal;

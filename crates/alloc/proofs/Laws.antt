@@ -27,7 +27,7 @@ use Rattle.extents.proofs.Laws.{length-up}
 use Rattle.runs.specs.Tree.{Runs}
 use Rattle.runs.specs.Push.{Holds, Small, Pushed}
 use Rattle.runs.proofs.Laws.{pushed-blocks}
-use Rattle.lists.specs.Bits.{length-picks, mark-append}
+use Rattle.lists.specs.Bits.{mark-append}
 use Rattle.alloc.specs.declared.Nodes.{Nodes}
 use Rattle.alloc.specs.Parts.{dataAt, nodesAt, Picked, KeptOf, GaveBack, HeldNodes, TookNodes}
 

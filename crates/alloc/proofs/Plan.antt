@@ -31,7 +31,7 @@ use Rattle.runs.proofs.Laws.{listed-is}
 use Rattle.alloc.specs.declared.Draft.{Draft}
 use Rattle.alloc.specs.declared.Nodes.{Nodes}
 use Rattle.alloc.specs.Parts.{dataAt, nodesAt, KeptOf, TookData, HeldNodes, TookNodes, GaveBack, nodesHeld}
-use Rattle.alloc.specs.Draft.{resizedAt, tableOf, treeIn, Drafted}
+use Rattle.alloc.specs.Draft.{resizedAt, tableOf, Drafted}
 
 -- ---- at most one level
 

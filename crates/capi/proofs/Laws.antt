@@ -1,5 +1,5 @@
 -- The run list in cells. Assumes nothing.
-use Prim.Native.Nat.{ℕ, zero, suc, _+_, _*_, _-_, _/_, _<_, _≤_, min}
+use Prim.Native.Nat.{ℕ, zero, suc, _+_, _-_, _/_, _<_, _≤_, min}
 use native.Mathlib.Omega.{arith}
 use native.Mathlib.Numerals.{add-one}
 use mathlib.Core.Path.{_≡_, refl, sym, ap, _∙_, subst}
@@ -16,10 +16,10 @@ use Rattle.spec.specs.declared.Counted.the-variants.{Refused, Count}
 use Rattle.spec.specs.declared.Refusal.{Refusal}
 use Rattle.spec.specs.declared.Refusal.the-variants.{ListShort}
 use Rattle.spec.specs.declared.Phase.{Phase}
-use Rattle.spec.specs.Inode.{extent, blockOfInode}
+use Rattle.spec.specs.Inode.{extent}
 use Rattle.spec.specs.declared.Session.{Session}
 use Rattle.spec.specs.Answers.{Answer, refuse, accept, countedOf as answerOf}
-use Rattle.spec.specs.Transaction.{State, stateOf, view}
+use Rattle.spec.specs.Transaction.{State}
 use Rattle.spec.specs.Calls.{Outcome, left, fileOk, runsOf, runList}
 use Rattle.spec.specs.Disk.{Disk}
 use Rattle.block.proofs.Laws.{lt-or-le}

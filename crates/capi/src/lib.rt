@@ -430,8 +430,8 @@ pub extern "C" fn purse_record_v<'a>(
     device: &'a [u8],
     work: &'a [u8],
     numbers: &[u64; 4],
-    staged: &[u32; 32],
     i: u64,
+    staged: &[u32; 32],
     name: &mut [u8; 8],
 ) -> CRecord
     ensures { λ r. ⌜ Names r (now (name .exit)) (recordAt (stateOf (decode (headIn (now (numbers .entry))) (now (staged .entry))) (now (device .entry)) (now (work .entry))) i .answer) ⌝ }

@@ -1,14 +1,13 @@
 -- Laws of copying stretches. Assumes nothing.
 use Prim.Native.Nat.{ℕ, zero, suc, _+_, _*_, _-_, _/_, _%_, _<_, _≤_}
 use mathlib.Core.Path.{_≡_, refl, sym, ap, _∙_}
-use mathlib.Core.List.{List, [], _∷_, _++_, map, append-assoc, append-nil}
-use native.Mathlib.Numerals.{add-one}
+use mathlib.Core.List.{List, [], _∷_, _++_, append-assoc, append-nil}
 use native.Mathlib.Omega.{arith}
-use lib.ListN.{length, take, drop, getD, set, length-append, length-take, length-drop, length-set, drop-of-length-le}
-use lib.Seq.{ext-getD, getD-take, take-suc, take-suc-set, take-all, getD-drop, drop-append-add, drop-append-le, take-append-le, take-at, take-take, drop-at, drop-drop, take-add}
-use Rattle.spec.specs.Bytes.{exactly, concat, upFrom}
+use lib.ListN.{length, take, drop, getD, length-append, length-take, length-drop, drop-of-length-le}
+use lib.Seq.{ext-getD, getD-take, take-all, getD-drop, drop-append-add, drop-append-le, take-append-le, take-at, take-take, drop-at, drop-drop, take-add}
+use Rattle.spec.specs.Bytes.{exactly}
 use Rattle.spec.specs.Disk.{Disk}
-use Rattle.block.proofs.Laws.{getD-exactly, length-exactly, exactly-take, exactly-all, block-byte}
+use Rattle.block.proofs.Laws.{getD-exactly, length-exactly, block-byte}
 use Rattle.transaction.specs.Places.{viewIn}
 use Rattle.transaction.proofs.Laws.{view-in-length}
 use Rattle.inode.proofs.Laws.{drop-take}

@@ -8,7 +8,7 @@ use native.Mathlib.Nat.{add-zero}
 use native.Mathlib.Numerals.{add-one}
 use native.Mathlib.Omega.{arith}
 use lib.Dec.{eqb, ltb, leb}
-use borrow.Author.Tests.{eqb-true, eqb-false, eq-eqb, ne-eqb, lt-ltb, leb-true}
+use borrow.Author.Tests.{eqb-true, eq-eqb, ne-eqb, lt-ltb, leb-true}
 use lib.ListN.{length, take, drop, getD, replicate, length-take, length-drop}
 use lib.Seq.{ext-getD, getD-take, getD-drop, take-take, take-nil, drop-drop}
 use Rattle.spec.specs.Bytes.{exactly, part, number2, number4, same, allZero, found, place, lowest}

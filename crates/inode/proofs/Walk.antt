@@ -1,6 +1,6 @@
 -- Laws of the walk over a file's tree. Assumes nothing.
-use Prim.Native.Nat.{ℕ, zero, suc, _+_, _*_, _-_, _<_, _≤_, min}
-use mathlib.Core.Path.{_≡_, refl, sym, ap, ap₂, _∙_}
+use Prim.Native.Nat.{ℕ, zero, suc, _+_, _-_, _<_, _≤_, min}
+use mathlib.Core.Path.{_≡_, refl, sym, ap, _∙_}
 use mathlib.Core.Bool.{Bool, true, false, not, true≢false}
 use mathlib.Core.List.{List, [], _∷_, append-nil}
 use native.Mathlib.Omega.{arith}
@@ -10,7 +10,7 @@ use lib.Dec.{eqb, ltb}
 use borrow.Author.Tests.{eqb-true, eqb-false, ltb-true, eq-eqb, ne-eqb, lt-ltb, not-true}
 use Rattle.lists.specs.Tests.{both-true}
 use Rattle.spec.specs.declared.Extent.{Extent}
-use Rattle.spec.specs.Bytes.{exactly, number2}
+use Rattle.spec.specs.Bytes.{exactly}
 use Rattle.spec.specs.Disk.{Disk}
 use Rattle.spec.specs.Inode.{extent, slotsIn, slotsAt, used, inodeOf, inodeBytes, inodeAt, blockOfInode, placeOfInode, treeDepth, extentsOf, levelsOf, nodesOf}
 use Rattle.block.proofs.Laws.{exactly-byte}

@@ -114,7 +114,7 @@ extern "C" {
     pub fn purse_size_v(device: Bytes, len: usize, work: Bytes, work_len: usize, numbers: Numbers,
         name: Bytes, name_len: usize, staged: Cells) -> Counted;
     pub fn purse_free_count_v(device: Bytes, len: usize, work: Bytes, work_len: usize, numbers: Numbers, staged: Cells) -> Counted;
-    pub fn purse_record_v(device: Bytes, len: usize, work: Bytes, work_len: usize, numbers: Numbers, staged: Cells, i: u64, name: *mut [u8; 8]) -> Recorded;
+    pub fn purse_record_v(device: Bytes, len: usize, work: Bytes, work_len: usize, numbers: Numbers, i: u64, staged: Cells, name: *mut [u8; 8]) -> Recorded;
     pub fn purse_nth_extent_v(device: Bytes, len: usize, work: Bytes, work_len: usize, numbers: Numbers,
         name: Bytes, name_len: usize, staged: Cells, from: u64, n: u64, k: u64) -> Run;
     pub fn purse_run_list_v(device: Bytes, len: usize, work: Bytes, work_len: usize, numbers: Numbers,

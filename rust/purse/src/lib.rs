@@ -313,7 +313,7 @@ impl Store<'_> {
         let mut name = [0; 8];
         let ((d, n), (w, m)) = (lend(self.device), lend(self.work));
         let (s, c) = self.session.parts();
-        let answer = unsafe { ffi::purse_record_v(d, n, w, m, s, c, i, &mut name) };
+        let answer = unsafe { ffi::purse_record_v(d, n, w, m, s, i, c, &mut name) };
         let file = File { name, size: answer.size };
         settle(answer.refusal, 0, (answer.used != 0).then_some(file))
     }

@@ -1,13 +1,11 @@
 use Rattle.transaction.specs.Places.{viewIn}
 use borrow.Author.Needs.{needs}
-use Prim.Native.Nat.{_-_, _≤_}
-use mathlib.Core.Path.{_≡_, refl, sym, subst, _∙_}
+use Prim.Native.Nat.{_-_}
+use mathlib.Core.Path.{refl}
 use native.Mathlib.Omega.{arith}
-use lib.ListN.{length, take, drop}
+use lib.ListN.{drop}
 use Rattle.spec.specs.Disk.{Disk}
-use Rattle.spec.specs.Transaction.{view, stateOf}
 use Rattle.runs.specs.Push.{columns}
-use Rattle.transaction.proofs.Laws.{view-lent, lent-few}
 use Rattle.alloc.specs.Parts.{dataAt, KeptOf, GaveBack}
 use Rattle.alloc.proofs.Plan.{Begun, Chosen, kept-few, held-few, no-space, no-space-nodes, too-many, drafted}
 use Rattle.alloc.proofs.draft_of.Statement.{statement}

@@ -1,6 +1,5 @@
 use borrow.Author.Tests.{ltb-true}
 use mathlib.Core.Bool.{false≢true}
-use native.Mathlib.Omega.{arith}
 use borrow.Author.Needs.{needs}
 use Rattle.alloc.proofs.is_span.Statement.{statement}
 use Rattle.alloc.proofs.is_span.Tie as tie

@@ -1,7 +1,7 @@
 use Prim.Native.Nat.{_-_, _≤_}
 use mathlib.Core.Path.{_≡_, refl, sym, ap, _∙_}
 use native.Mathlib.Omega.{arith}
-use lib.ListN.{length, take, drop}
+use lib.ListN.{length, take}
 use Rattle.spec.specs.Bytes.{exactly}
 use Rattle.spec.specs.Inode.{blockOfInode}
 use Rattle.inode.specs.Walk.{weight}

@@ -1,9 +1,8 @@
 use borrow.Author.Needs.{needs}
-use mathlib.Core.Path.{_≡_, ap, _∙_, subst}
+use mathlib.Core.Path.{_≡_, subst}
 use native.Mathlib.Omega.{arith}
 use lib.ListN.{length}
 use Rattle.spec.specs.Disk.{Disk}
-use Rattle.spec.specs.Transaction.{view, stateOf}
 use Rattle.transaction.proofs.Laws.{view-lent, lent-few}
 use Rattle.extents.specs.Stretches.{RunSteps}
 use Rattle.extents.proofs.next_run.Statement.{statement}

@@ -1,7 +1,6 @@
 use Prim.Native.Nat.{_+_}
-use mathlib.Core.Path.{sym}
 use Prim.Native.Nat.{_≤_, _-_}
-use mathlib.Core.Path.{_≡_, refl, _∙_}
+use mathlib.Core.Path.{_≡_, _∙_}
 use native.Mathlib.Omega.{arith}
 use lib.ListN.{length, take, drop, length-set}
 use Rattle.spec.specs.Bytes.{exactly}

@@ -1,8 +1,6 @@
 use mathlib.Core.Bool.{true≢false}
 use Prim.Native.Nat.{ℕ, _-_, _<_, _≤_}
 use mathlib.Core.Path.{_≡_, sym, _∙_}
-use mathlib.Core.List.{List}
-use native.Mathlib.Omega.{arith}
 use lib.ListN.{length}
 use Rattle.spec.specs.Bytes.{place}
 use Rattle.transaction.specs.Places.{foundAt}

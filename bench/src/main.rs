@@ -154,7 +154,7 @@ fn copies(b: &mut Bench, raw: RawSession) -> f64 {
     pair.proved.min(pair.rust)
 }
 
-/// Commit with its stores, and the copies, each on the next of many boxes, so that none lies in the processor's caches.
+/// Commit with its stores, and the copies, each on the next of many boxes, so that none lies in the nearest caches.
 fn cold(b: &Bench, raw: RawSession, boxes: usize) -> (f64, f64) {
     let mut pool: Vec<_> = (0..boxes).map(|_| (b.device.clone(), b.work.clone())).collect();
     let mut best = (f64::MAX, f64::MAX);
@@ -188,8 +188,8 @@ fn transaction(table: &mut Table, title: &str, image: &Image, rounds: usize, wri
     table.note("commit and stores against that memcpy (times)", pair.proved / copies);
     table.note("those of the plain store (times)", pair.rust / copies);
     let (stores, copies) = cold(&b, raw, 512);
-    table.note("out of the caches: commit and stores", stores);
-    table.note("out of the caches: against that memcpy (times)", stores / copies);
+    table.note("on 512 boxes in turn: commit and stores", stores);
+    table.note("on 512 boxes in turn: against that memcpy (times)", stores / copies);
 }
 
 fn opens(table: &mut Table, rounds: usize) {

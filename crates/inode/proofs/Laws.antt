@@ -339,12 +339,12 @@ pub find-committed : (staged device work name : List ℕ) → TableUnstaged stag
 find-committed staged device work name h = find-agree (blocksOf device) (viewIn staged device work) name (λ b p l. sym (view-new staged device work b (h b p l)))
 
 -- a block of it, lent
+block-lent : (device : List ℕ) (b at end : ℕ) → at ≡ 512 * b → end ≡ at + 512 → exactly 512 (take (end - at) (drop at device)) ≡ blocksOf device b
+block-lent device b at end e f = let z : end - at ≡ 512 = omega arith in ap₂ (λ (n k : ℕ). exactly 512 (take n (drop k device))) z e ∙ sym (block-is device b)
+
 pub table-part : (device : List ℕ) (first at end : ℕ) → first % 16 ≡ 0 → at ≡ 17408 + 32 * first → end ≡ at + 512
     → exactly 512 (take (end - at) (drop at device)) ≡ blocksOf device (blockOfInode first)
-table-part device first at end w e f =
-    let z : end - at ≡ 512 = omega arith in
-    let q : at ≡ 512 * blockOfInode first = omega arith in
-    ap₂ (λ (n k : ℕ). exactly 512 (take n (drop k device))) z q ∙ sym (block-is device (blockOfInode first))
+table-part device first at end w e f = block-lent device (blockOfInode first) at end (omega arith) f
 
 -- the block of record i, where nothing is staged
 pub table-lent : (staged device work : List ℕ) (i at end : ℕ) → (eqb (length staged) 0 && leb 21504 (length device)) ≡ true → i < 128 → at ≡ 17408 + 512 * (i / 16) → end ≡ at + 512
@@ -353,10 +353,9 @@ pub table-lent : (staged device work : List ℕ) (i at end : ℕ) → (eqb (leng
     × (length (take (end - at) (drop at device)) ≤ 512)
 table-lent (x ∷ xs) device work i at end t h e f = absurd (omega (arith, eqb-true (length (x ∷ xs)) 0 (both-true (eqb (length (x ∷ xs)) 0) (leb 21504 (length device)) t .0)))
 table-lent [] device work i at end t h e f =
-    let z : end - at ≡ 512 = omega arith in
-    let q : at ≡ 512 * blockOfInode i = omega arith in (
+    let z : end - at ≡ 512 = omega arith in (
       omega (arith, leb-true 21504 (length device) (both-true (eqb 0 0) (leb 21504 (length device)) t .1)),
-      ap₂ (λ (n k : ℕ). exactly 512 (take n (drop k device))) z q ∙ sym (block-is device (blockOfInode i)) ∙ sym (view-new [] device work (blockOfInode i) refl),
+      block-lent device (blockOfInode i) at end (omega arith) f ∙ sym (view-new [] device work (blockOfInode i) refl),
       rw z (simp length-take (omega arith)),
     )
 

@@ -1,7 +1,7 @@
 -- What a log may list: laws of `areTargets`. Assumes nothing.
 use Prim.Native.Nat.{ℕ, _<_, _≤_}
-use mathlib.Core.Path.{_≡_, refl, sym}
-use mathlib.Core.Bool.{Bool, true, false, not, _&&_, true≢false}
+use mathlib.Core.Path.{_≡_}
+use mathlib.Core.Bool.{true, not, _&&_}
 use mathlib.Core.List.{List}
 use native.Mathlib.Omega.{arith}
 use borrow.Author.Tests.{eqb-false, not-true}
@@ -10,6 +10,7 @@ use lib.ListN.{length, getD}
 use Rattle.spec.specs.Bytes.{all, distinct}
 use Rattle.spec.specs.Disk.{isTarget}
 use Rattle.spec.specs.Journal.{areTargets}
+use Rattle.lists.specs.Tests.{both-true}
 use Rattle.transaction.proofs.Laws.{Listed}
 use Rattle.header.proofs.Every.{Every, every-at, all-every}
 use Rattle.header.proofs.Ends.{target-within}
@@ -23,16 +24,12 @@ module _ (N : ℕ) (ts : List ℕ) (l : Listed N ts) where
 
 -- ---- the test apart
 
-both : (a b : Bool) → (a && b) ≡ true → (a ≡ true) × (b ≡ true)
-both true b h = (refl, h)
-both false b h = absurd (true≢false (sym h))
-
 module _ (N : ℕ) (ts : List ℕ) where
   parts : areTargets N ts ≡ true → (not (eqb (length ts) 0) ≡ true) × Listed N ts
   unfolding areTargets
   parts h =
-      let p = both (not (eqb (length ts) 0) && all (isTarget N) ts) (distinct ts) h in
-      let q = both (not (eqb (length ts) 0)) (all (isTarget N) ts) (p .0) in
+      let p = both-true (not (eqb (length ts) 0) && all (isTarget N) ts) (distinct ts) h in
+      let q = both-true (not (eqb (length ts) 0)) (all (isTarget N) ts) (p .0) in
       (q .0, record { targets = q .1; differ = p .1 })
 
   pub targets-listed : areTargets N ts ≡ true → Listed N ts

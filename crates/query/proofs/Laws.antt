@@ -45,7 +45,7 @@ module _ (t : List ℕ) (i : ℕ) (full : length t ≡ 512) where
   own-is : own ≡ take 8 (recordIn t i)
   own-is = name-part t i (32 * (i % 16)) refl (omega arith)
 
-  pub own-length : length own ≡ 8
+  own-length : length own ≡ 8
   own-length = simp (length-take, length-drop) (omega arith)
 
   -- by its number

@@ -5,7 +5,6 @@ use bitmap::free_count;
 use bitmap::known;
 use bitmap::lowest_free_from;
 use bitmap::set_bit;
-use block::DiskBlock;
 use checks::Checked;
 use extents::AtNode;
 use extents::AtSlot;
@@ -19,6 +18,7 @@ use inode::slot_in;
 use inode::start_at;
 use runs::End;
 use runs::push;
+use spec::DiskBlock;
 use spec::Limits;
 use spec::Refusal;
 use transaction::view_in;
@@ -37,8 +37,6 @@ ghost use Rattle.alloc.specs.Parts.{dataAt, nodesAt, Picked, KeptOf, Gav
 ghost use Rattle.alloc.specs.Draft.{Drafted};
 
 // "a file size of at most 1,048,576"
-const MAX_FILE_BLOCKS: usize = 2048;
-
 // 16, 17, or the tree after the change: its extents and the bitmap stand in what was lent.
 pub struct Draft {
     pub verdict: Checked,
@@ -62,7 +60,7 @@ pub struct Nodes {
 }
 
 // The lowest free block taken, where no bit below word `from` is 0.
-fn pick(t: &mut [u8; 512], from: usize) -> u32
+fn pick(t: &mut [u8; Limits::BLOCK_SIZE], from: usize) -> u32
     requires { ⌜ (freeBits (take (64 * from) (bitsOf (now t))) ≡ 0) × (0 < freeBits (bitsOf (now t))) ⌝ }
     ensures { λ b. ⌜ Picked (now (t .entry)) (now (t .exit)) b ⌝ }
 {
@@ -76,17 +74,17 @@ fn pick(t: &mut [u8; 512], from: usize) -> u32
 }
 
 // Block b given back; one past the table's end changes nothing.
-fn release(t: &mut [u8; 512], b: u32)
+fn release(t: &mut [u8; Limits::BLOCK_SIZE], b: u32)
     ensures { λ _. ⌜ bitsOf (now (t .exit)) ≡ set (bitsOf (now (t .entry))) b 0 ⌝ }
 {
     known(*t);
-    if b < 4096 {
+    if b < Limits::BITMAP_BITS {
         clear_bit(t, b);
     }
 }
 
 // The eight blocks of byte i of the table given back.
-fn release_byte(t: &mut [u8; 512], i: usize)
+fn release_byte(t: &mut [u8; Limits::BLOCK_SIZE], i: usize)
     requires { ⌜ i < 512 ⌝ }
     ensures { λ _. ⌜ bitsOf (now (t .exit)) ≡ mark 0 (upFrom (8 * i) 8) (bitsOf (now (t .entry))) ⌝ }
 {
@@ -95,7 +93,7 @@ fn release_byte(t: &mut [u8; 512], i: usize)
 }
 
 // The 64 blocks of eight bytes of the table given back.
-fn release_word(t: &mut [u8; 512], w: usize)
+fn release_word(t: &mut [u8; Limits::BLOCK_SIZE], w: usize)
     requires { ⌜ w < 64 ⌝ }
     ensures { λ _. ⌜ bitsOf (now (t .exit)) ≡ mark 0 (upFrom (64 * w) 64) (bitsOf (now (t .entry))) ⌝ }
 {
@@ -121,11 +119,11 @@ fn is_span(b: u32, left: u32, m: u32) -> bool
     if left < m {
         return false;
     }
-    b < 4096
+    b < Limits::BITMAP_BITS
 }
 
 // n blocks from b on given back.
-fn release_run(t: &mut [u8; 512], b: u32, n: u32)
+fn release_run(t: &mut [u8; Limits::BLOCK_SIZE], b: u32, n: u32)
     requires { ⌜ (b < 131072) × (n ≤ 2048) ⌝ }
     ensures { λ _. ⌜ bitsOf (now (t .exit)) ≡ mark 0 (upFrom b n) (bitsOf (now (t .entry))) ⌝ }
 {
@@ -148,8 +146,8 @@ fn release_run(t: &mut [u8; 512], b: u32, n: u32)
 
 // The extents of the first `wanted` data blocks of record i, into two columns.
 fn keep<'a>(
-    first: &mut [u32; 512],
-    count: &mut [u32; 512],
+    first: &mut [u32; Limits::MAX_EXTENTS],
+    count: &mut [u32; Limits::MAX_EXTENTS],
     device: &'a [u8],
     work: &'a [u8],
     staged: &[u32],
@@ -192,7 +190,7 @@ fn keep<'a>(
 
 // The data blocks of record i from block `from` on given back, where so many of those before are kept; how many.
 fn give_back<'a>(
-    t: &mut [u8; 512],
+    t: &mut [u8; Limits::BLOCK_SIZE],
     device: &'a [u8],
     work: &'a [u8],
     staged: &[u32],
@@ -207,7 +205,7 @@ fn give_back<'a>(
         return 0;
     }
     let table = inode_block_in(device, work, staged, i);
-    let mut scan = stretch_at(table, i, from, MAX_FILE_BLOCKS);
+    let mut scan = stretch_at(table, i, from, Limits::MAX_FILE_BLOCKS);
     let mut block = table;
     let mut count: usize = 0;
     while 0 < scan.room {
@@ -236,9 +234,9 @@ fn give_back<'a>(
 
 // n blocks picked in turn, behind those that the file keeps.
 fn take_data(
-    t: &mut [u8; 512],
-    first: &mut [u32; 512],
-    count: &mut [u32; 512],
+    t: &mut [u8; Limits::BLOCK_SIZE],
+    first: &mut [u32; Limits::MAX_EXTENTS],
+    count: &mut [u32; Limits::MAX_EXTENTS],
     kept: Kept,
     n: usize,
 ) -> End
@@ -292,11 +290,11 @@ fn nodes_for(extents: usize) -> usize
     if extents <= 4 {
         return 0;
     }
-    (extents + 127) / 128
+    (extents + (Limits::SLOTS_PER_NODE - 1)) / Limits::SLOTS_PER_NODE
 }
 
 // The first `wanted` of the nodes held, and behind them those that they lack, picked in turn.
-fn take_nodes(t: &mut [u8; 512], held: Nodes, wanted: usize) -> [u32; 4]
+fn take_nodes(t: &mut [u8; Limits::BLOCK_SIZE], held: Nodes, wanted: usize) -> [u32; 4]
     requires { ⌜ (wanted ≤ 4) × (held .len ≤ 4) × (wanted - held .len ≤ freeBits (bitsOf (now t))) ⌝ }
     ensures { λ q. ⌜ TookNodes (now (t .entry)) (now (t .exit)) held wanted q ⌝ }
 {
@@ -311,7 +309,7 @@ fn take_nodes(t: &mut [u8; 512], held: Nodes, wanted: usize) -> [u32; 4]
 }
 
 // The nodes held behind the first `wanted` given back.
-fn give_nodes(t: &mut [u8; 512], held: Nodes, wanted: usize)
+fn give_nodes(t: &mut [u8; Limits::BLOCK_SIZE], held: Nodes, wanted: usize)
     requires { ⌜ held .len ≤ 4 ⌝ }
     ensures { λ _. ⌜ bitsOf (now (t .exit)) ≡ mark 0 (drop wanted (take (held .len) (held .node))) (bitsOf (now (t .entry))) ⌝ }
 {
@@ -346,9 +344,9 @@ fn refused(why: Refusal) -> Draft
 
 // The tree of record i with so many data blocks, or 16 or 17.
 pub fn draft_of<'a>(
-    table: &mut [u8; 512],
-    first: &mut [u32; 512],
-    count: &mut [u32; 512],
+    table: &mut [u8; Limits::BLOCK_SIZE],
+    first: &mut [u32; Limits::MAX_EXTENTS],
+    count: &mut [u32; Limits::MAX_EXTENTS],
     device: &'a [u8],
     work: &'a [u8],
     staged: &[u32],

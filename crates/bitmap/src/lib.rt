@@ -1,4 +1,5 @@
 // The bitmap (document 01: bit table): 512 bytes, one bit to a block, read by whole words.
+use spec::Limits;
 ghost use mathlib.Core.Path.{_≡_};
 ghost use Prim.Native.Nat.{_*_, _<_, _≤_};
 ghost use lib.ListN.{length, take, set};
@@ -12,7 +13,7 @@ pub enum Found {
 }
 
 // What owning a table tells and borrowing one does not: it has 512 entries, each a byte. The copy is never read, so the compiler drops it.
-pub fn known(t: [u8; 512])
+pub fn known(t: [u8; Limits::BLOCK_SIZE])
     ensures { λ _. ⌜ Table t ⌝ }
 {}
 
@@ -39,7 +40,7 @@ fn word_in(t: &[u8], w: usize) -> u64
 }
 
 // The same of an array.
-fn word_at(t: &[u8; 512], w: usize) -> u64
+fn word_at(t: &[u8; Limits::BLOCK_SIZE], w: usize) -> u64
     requires { ⌜ w < 64 ⌝ }
     ensures { λ r. ⌜ (r ≡ wordOf (now (t .entry)) w) × Bytes (now (t .entry)) w ⌝ }
 {
@@ -63,7 +64,7 @@ pub fn free_in(t: &[u8]) -> usize
 }
 
 // The same of an array.
-pub fn free_count(t: &[u8; 512]) -> usize
+pub fn free_count(t: &[u8; Limits::BLOCK_SIZE]) -> usize
     ensures { λ r. ⌜ (r ≡ freeBits (bitsOf (now (t .entry)))) × (r ≤ 4096) ⌝ }
 {
     let bytes: &[u8] = t;
@@ -71,7 +72,7 @@ pub fn free_count(t: &[u8; 512]) -> usize
 }
 
 // The lowest bit that is 0, where no bit below word `from` is: "trailing zeros of the complemented word".
-pub fn lowest_free_from(t: &[u8; 512], from: usize) -> Found
+pub fn lowest_free_from(t: &[u8; Limits::BLOCK_SIZE], from: usize) -> Found
     requires { ⌜ freeBits (take (64 * from) (bitsOf (now t))) ≡ 0 ⌝ }
     ensures { λ r. ⌜ (r ≡ foundOf (place 0 (bitsOf (now (t .entry))))) × Table (now (t .entry)) ⌝ }
 {
@@ -89,14 +90,14 @@ pub fn lowest_free_from(t: &[u8; 512], from: usize) -> Found
 }
 
 // The lowest bit that is 0.
-pub fn lowest_free(t: &[u8; 512]) -> Found
+pub fn lowest_free(t: &[u8; Limits::BLOCK_SIZE]) -> Found
     ensures { λ r. ⌜ (r ≡ foundOf (place 0 (bitsOf (now (t .entry))))) × Table (now (t .entry)) ⌝ }
 {
     lowest_free_from(t, 0)
 }
 
 // Bit b becomes 1.
-pub fn set_bit(t: &mut [u8; 512], b: u32)
+pub fn set_bit(t: &mut [u8; Limits::BLOCK_SIZE], b: u32)
     requires { ⌜ b < 4096 ⌝ }
     ensures { λ _. ⌜ bitsOf (now (t .exit)) ≡ set (bitsOf (now (t .entry))) b 1 ⌝ }
 {
@@ -106,7 +107,7 @@ pub fn set_bit(t: &mut [u8; 512], b: u32)
 }
 
 // Bit b becomes 0.
-pub fn clear_bit(t: &mut [u8; 512], b: u32)
+pub fn clear_bit(t: &mut [u8; Limits::BLOCK_SIZE], b: u32)
     requires { ⌜ b < 4096 ⌝ }
     ensures { λ _. ⌜ bitsOf (now (t .exit)) ≡ set (bitsOf (now (t .entry))) b 0 ⌝ }
 {

@@ -1,6 +1,7 @@
 // Runs the bitmap's functions on a few tables, and prints of each how many bits are 0 and which is the lowest.
 use bitmap::Found;
 use libc::STDOUT_FILENO;
+use spec::Limits;
 ghost use mathlib.Core.Path.{_≡_};
 ghost use Prim.Native.Nat.{_<_};
 ghost use Rattle.spec.specs.Bitmap.{bitsOf, freeBits};
@@ -10,7 +11,7 @@ fn number(n: u64) {
     io::print_decimal(STDOUT_FILENO, n);
 }
 
-fn show(name: &[u8], t: &[u8; 512]) {
+fn show(name: &[u8], t: &[u8; Limits::BLOCK_SIZE]) {
     io::write_all(STDOUT_FILENO, name);
     number(bitmap::free_count(t) as u64);
     match bitmap::lowest_free(t) {
@@ -23,7 +24,7 @@ fn show(name: &[u8], t: &[u8; 512]) {
 }
 
 // Takes the lowest free bit until there is none, searching each time from the word of the last, and answers how many it took.
-fn take_all(table: [u8; 512]) -> usize
+fn take_all(table: [u8; Limits::BLOCK_SIZE]) -> usize
     ensures { λ r. ⌜ r ≡ freeBits (bitsOf table) ⌝ }
 {
     let mut t = table;
@@ -47,7 +48,7 @@ fn take_all(table: [u8; 512]) -> usize
 fn border(name: &[u8], b: u32)
     requires { ⌜ b < 4095 ⌝ }
 {
-    let mut t = [255u8; 512];
+    let mut t = [255u8; Limits::BLOCK_SIZE];
     bitmap::clear_bit(&mut t, b);
     bitmap::clear_bit(&mut t, b + 1);
     show(name, &t);
@@ -56,9 +57,9 @@ fn border(name: &[u8], b: u32)
 }
 
 fn main() {
-    let empty = [0u8; 512];
+    let empty = [0u8; Limits::BLOCK_SIZE];
     show(b"empty", &empty);
-    let mut t = [255u8; 512];
+    let mut t = [255u8; Limits::BLOCK_SIZE];
     show(b"full", &t);
     bitmap::clear_bit(&mut t, 4095);
     show(b"last", &t);

@@ -1,5 +1,6 @@
 // One block of a lent byte slice: its area, the numbers in it, reading and storing it.
 use spec::Area;
+use spec::DiskBlock;
 use spec::Limits;
 ghost use mathlib.Core.Path.{_≡_};
 ghost use Prim.Native.Nat.{_+_, _*_, _<_, _≤_, min};
@@ -8,13 +9,6 @@ ghost use Rattle.spec.specs.Bytes.{zeros, exactly, patch, number2, number4, byt
 ghost use Rattle.spec.specs.Disk.{areaOf, inData, isTarget, sliceOf};
 ghost use Rattle.block.specs.Stores.{storedIn};
 ghost use Rattle.block.specs.Keys.{keyOf, Name};
-
-// "Byte places in a file, block places in a file and block numbers on the device are three separate counts"
-pub struct ByteOffset(pub usize);
-
-pub struct FileBlock(pub usize);
-
-pub struct DiskBlock(pub u32);
 
 // "A block number's area decides its use".
 pub fn area_of(b: DiskBlock) -> Area
@@ -136,11 +130,11 @@ pub fn block_in(bytes: &[u8], b: DiskBlock) -> &[u8]
 }
 
 // The first 512 of some bytes, zeros past their end.
-pub fn copy_of(bytes: &[u8]) -> [u8; 512]
+pub fn copy_of(bytes: &[u8]) -> [u8; Limits::BLOCK_SIZE]
     ensures { λ q. ⌜ q ≡ exactly 512 (now (bytes .entry)) ⌝ }
 {
     let n = at_most_block(bytes.len());
-    let mut out = [0u8; 512];
+    let mut out = [0u8; Limits::BLOCK_SIZE];
     let mut k: usize = 0;
     while k < n {
         out[k] = bytes[k];
@@ -162,7 +156,7 @@ pub fn copy(from: &[u8], to: &mut [u8])
 }
 
 // Block b stored.
-pub fn store_block(bytes: &mut [u8], b: DiskBlock, x: &[u8; 512])
+pub fn store_block(bytes: &mut [u8], b: DiskBlock, x: &[u8; Limits::BLOCK_SIZE])
     requires { ⌜ 512 * b .0 + 512 ≤ length (now bytes) ⌝ }
     ensures { λ _. ⌜ sliceOf (now (bytes .exit)) ≡ storedIn (sliceOf (now (bytes .entry))) (b .0) (now (x .entry)) ⌝ }
 {
@@ -192,12 +186,12 @@ pub fn clear_block(bytes: &mut [u8], b: DiskBlock)
     requires { ⌜ 512 * b .0 + 512 ≤ length (now bytes) ⌝ }
     ensures { λ _. ⌜ sliceOf (now (bytes .exit)) ≡ storedIn (sliceOf (now (bytes .entry))) (b .0) (zeros 512) ⌝ }
 {
-    let x = [0u8; 512];
+    let x = [0u8; Limits::BLOCK_SIZE];
     store_block(bytes, b, &x);
 }
 
 // Whether two blocks hold the same bytes. No byte ends the loop early, so it compiles to vector code.
-pub fn same_block(x: &[u8; 512], y: &[u8; 512]) -> bool
+pub fn same_block(x: &[u8; Limits::BLOCK_SIZE], y: &[u8; Limits::BLOCK_SIZE]) -> bool
     ensures { λ r. ⌜ r ≡ same (now (x .entry)) (now (y .entry)) ⌝ }
 {
     // A slice made of an array tells the proof its length.

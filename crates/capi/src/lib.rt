@@ -2,9 +2,6 @@
 // A session is lent: its four numbers and its 32 cells. Each promise: all that is returned and left is the call's outcome, in numbers, at the
 // session that the numbers and the cells given stand for.
 // A refusal hands back that session in its own numbers: phase 0 where the number given was none, place 0 where the phase has none.
-use block::ByteOffset;
-use block::DiskBlock;
-use block::FileBlock;
 use checks::Changed;
 use extents::AtNode;
 use extents::AtSlot;
@@ -45,9 +42,13 @@ use query::nth_extent_in;
 use query::read_in;
 use query::record_in;
 use query::size_in;
+use spec::ByteOffset;
 use spec::Counted;
+use spec::DiskBlock;
 use spec::Extent;
+use spec::FileBlock;
 use spec::Finished;
+use spec::Limits;
 use spec::Phase;
 use spec::Refusal;
 use spec::Stored;
@@ -78,7 +79,7 @@ ghost use Rattle.capi.specs.Cells.{Put, Last, Listed};
 ghost use Rattle.mirror.specs.Mirror.{phaseOf, headIn, numbersOf, headOf, decode, encode, finishedOf, committedOf, advancedOf, countedOf, runOf, Ends, Reads, Names, Lists, extentsOf};
 
 // What a call of a session by value leaves, in numbers.
-fn settled(numbers: &mut [u64; 4], staged: &mut [u32; 32], f: Finished) -> CFinished
+fn settled(numbers: &mut [u64; 4], staged: &mut [u32; Limits::LOG_LENGTH], f: Finished) -> CFinished
     ensures { λ r. ⌜ (r ≡ finishedOf (doneOf (f .answer))) × (now (numbers .exit) ≡ numbersOf (encode (f .session))) × (now (staged .exit) ≡ f .session .staged) ⌝ }
 {
     let s = f.session;
@@ -94,7 +95,7 @@ fn settled(numbers: &mut [u64; 4], staged: &mut [u32; 32], f: Finished) -> CFini
 pub extern "C" fn purse_format_v(
     device: &mut [u8],
     numbers: &mut [u64; 4],
-    staged: &mut [u32; 32],
+    staged: &mut [u32; Limits::LOG_LENGTH],
 ) -> CFinished
     ensures { λ r. ⌜ ((work : List ℕ) → Ends finishedOf r (now (numbers .exit)) (now (staged .exit)) (now (device .exit)) work
         (format (stateOf (decode (headIn (now (numbers .entry))) (now (staged .entry))) (now (device .entry)) work))) ⌝ }
@@ -109,7 +110,7 @@ pub extern "C" fn purse_format_v(
 pub extern "C" fn purse_open_v(
     device: &[u8],
     numbers: &mut [u64; 4],
-    staged: &mut [u32; 32],
+    staged: &mut [u32; Limits::LOG_LENGTH],
 ) -> CFinished
     ensures { λ r. ⌜ ((work : List ℕ) → Ends finishedOf r (now (numbers .exit)) (now (staged .exit)) (now (device .entry)) work
         (openStore (stateOf (decode (headIn (now (numbers .entry))) (now (staged .entry))) (now (device .entry)) work))) ⌝ }
@@ -140,7 +141,7 @@ fn head_behind(h: Head, phase: Phase, answer: Stored) -> Head
 }
 
 // The cells behind it: none is in use behind the last store.
-fn forget(staged: &mut [u32; 32], answer: Stored)
+fn forget(staged: &mut [u32; Limits::LOG_LENGTH], answer: Stored)
     ensures { λ _. ⌜ ((p : Phase) (h : Head) → now (staged .exit) ≡ behind p (decode h (now (staged .entry))) answer .staged) ⌝ }
 {
     match answer {
@@ -151,7 +152,7 @@ fn forget(staged: &mut [u32; 32], answer: Stored)
             number: _,
         } => {
             if last {
-                let none = [0u32; 32];
+                let none = [0u32; Limits::LOG_LENGTH];
                 *staged = none;
             }
         }
@@ -165,7 +166,7 @@ pub extern "C" fn purse_advance_v(
     device: &mut [u8],
     work: &[u8],
     numbers: &mut [u64; 4],
-    staged: &mut [u32; 32],
+    staged: &mut [u32; Limits::LOG_LENGTH],
 ) -> CAdvanced
     ensures { λ r. ⌜ Ends advancedOf r (now (numbers .exit)) (now (staged .exit)) (now (device .exit)) (now (work .entry))
         (advance (stateOf (decode (headIn (now (numbers .entry))) (now (staged .entry))) (now (device .entry)) (now (work .entry)))) ⌝ }
@@ -187,7 +188,7 @@ pub extern "C" fn purse_commit_v(
     device: &[u8],
     work: &[u8],
     numbers: &mut [u64; 4],
-    staged: &[u32; 32],
+    staged: &[u32; Limits::LOG_LENGTH],
 ) -> CCommitted
     ensures { λ r. ⌜ Ends committedOf r (now (numbers .exit)) (now (staged .entry)) (now (device .entry)) (now (work .entry))
         (commit (stateOf (decode (headIn (now (numbers .entry))) (now (staged .entry))) (now (device .entry)) (now (work .entry)))) ⌝ }
@@ -211,7 +212,7 @@ pub extern "C" fn purse_abort_v(
     device: &[u8],
     work: &[u8],
     numbers: &mut [u64; 4],
-    staged: &mut [u32; 32],
+    staged: &mut [u32; Limits::LOG_LENGTH],
 ) -> CFinished
     ensures { λ r. ⌜ Ends finishedOf r (now (numbers .exit)) (now (staged .exit)) (now (device .entry)) (now (work .entry))
         (abort (stateOf (decode (headIn (now (numbers .entry))) (now (staged .entry))) (now (device .entry)) (now (work .entry)))) ⌝ }
@@ -236,7 +237,7 @@ pub extern "C" fn purse_create_v(
     device: &[u8],
     work: &mut [u8],
     numbers: &mut [u64; 4],
-    staged: &mut [u32; 32],
+    staged: &mut [u32; Limits::LOG_LENGTH],
     name: &[u8],
 ) -> CFinished
     ensures { λ r. ⌜ Ends finishedOf r (now (numbers .exit)) (now (staged .exit)) (now (device .entry)) (now (work .exit))
@@ -256,7 +257,7 @@ pub extern "C" fn purse_remove_v(
     device: &[u8],
     work: &mut [u8],
     numbers: &mut [u64; 4],
-    staged: &mut [u32; 32],
+    staged: &mut [u32; Limits::LOG_LENGTH],
     name: &[u8],
 ) -> CFinished
     ensures { λ r. ⌜ Ends finishedOf r (now (numbers .exit)) (now (staged .exit)) (now (device .entry)) (now (work .exit))
@@ -276,7 +277,7 @@ pub extern "C" fn purse_rename_v(
     device: &[u8],
     work: &mut [u8],
     numbers: &mut [u64; 4],
-    staged: &mut [u32; 32],
+    staged: &mut [u32; Limits::LOG_LENGTH],
     name: &[u8],
     new: &[u8],
 ) -> CFinished
@@ -297,7 +298,7 @@ pub extern "C" fn purse_write_v(
     device: &[u8],
     work: &mut [u8],
     numbers: &mut [u64; 4],
-    staged: &mut [u32; 32],
+    staged: &mut [u32; Limits::LOG_LENGTH],
     name: &[u8],
     x: u64,
     bytes: &[u8],
@@ -329,7 +330,7 @@ pub extern "C" fn purse_set_size_v(
     device: &[u8],
     work: &mut [u8],
     numbers: &mut [u64; 4],
-    staged: &mut [u32; 32],
+    staged: &mut [u32; Limits::LOG_LENGTH],
     name: &[u8],
     size: u64,
 ) -> CFinished
@@ -360,7 +361,7 @@ pub extern "C" fn purse_read_v<'a>(
     work: &'a [u8],
     numbers: &[u64; 4],
     name: &[u8],
-    staged: &[u32; 32],
+    staged: &[u32; Limits::LOG_LENGTH],
     x: u64,
     buffer: &mut [u8],
 ) -> CCounted
@@ -392,7 +393,7 @@ pub extern "C" fn purse_size_v<'a>(
     work: &'a [u8],
     numbers: &[u64; 4],
     name: &[u8],
-    staged: &[u32; 32],
+    staged: &[u32; Limits::LOG_LENGTH],
 ) -> CCounted
     ensures { λ r. ⌜ r ≡ countedOf (sizeOf (stateOf (decode (headIn (now (numbers .entry))) (now (staged .entry))) (now (device .entry)) (now (work .entry))) (now (name .entry)) .answer) ⌝ }
 {
@@ -411,7 +412,7 @@ pub extern "C" fn purse_free_count_v<'a>(
     device: &'a [u8],
     work: &'a [u8],
     numbers: &[u64; 4],
-    staged: &[u32; 32],
+    staged: &[u32; Limits::LOG_LENGTH],
 ) -> CCounted
     ensures { λ r. ⌜ r ≡ countedOf (freeCount (stateOf (decode (headIn (now (numbers .entry))) (now (staged .entry))) (now (device .entry)) (now (work .entry))) .answer) ⌝ }
 {
@@ -431,7 +432,7 @@ pub extern "C" fn purse_record_v<'a>(
     work: &'a [u8],
     numbers: &[u64; 4],
     i: u64,
-    staged: &[u32; 32],
+    staged: &[u32; Limits::LOG_LENGTH],
     name: &mut [u8; 8],
 ) -> CRecord
     ensures { λ r. ⌜ Names r (now (name .exit)) (recordAt (stateOf (decode (headIn (now (numbers .entry))) (now (staged .entry))) (now (device .entry)) (now (work .entry))) i .answer) ⌝ }
@@ -452,7 +453,7 @@ pub extern "C" fn purse_nth_extent_v<'a>(
     work: &'a [u8],
     numbers: &[u64; 4],
     name: &[u8],
-    staged: &[u32; 32],
+    staged: &[u32; Limits::LOG_LENGTH],
     from: u64,
     n: u64,
     k: u64,
@@ -602,7 +603,7 @@ pub extern "C" fn purse_run_list_v<'a>(
     work: &'a [u8],
     numbers: &[u64; 4],
     name: &[u8],
-    staged: &[u32; 32],
+    staged: &[u32; Limits::LOG_LENGTH],
     from: u64,
     n: u64,
     list: &mut [u32],

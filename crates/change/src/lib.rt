@@ -1,7 +1,6 @@
 // A change staged: which blocks, with which content, in ascending order.
 use agenda::fits;
 use agenda::insert;
-use block::DiskBlock;
 use block::block_in;
 use block::copy;
 use block::copy_of;
@@ -16,6 +15,7 @@ use content::node_content;
 use inode::inode_block_in;
 use inode::table_block;
 use runs::End;
+use spec::DiskBlock;
 use spec::Limits;
 use spec::Refusal;
 use transaction::spot;
@@ -52,7 +52,7 @@ pub struct Outline {
     pub nodes: usize,
     pub before: usize,
     pub held: usize,
-    pub bytes: [u8; 32],
+    pub bytes: [u8; Limits::INODE_SIZE],
     pub old: usize,
     pub size: usize,
 }
@@ -66,15 +66,13 @@ const FIRST_NODE: u32 = 2;
 
 const FIRST_DATA: u32 = 6;
 
-const BITMAP_BLOCK: u32 = 33;
-
 // A block's content by its tag, from its old content.
 fn edit_block<'a>(
     block: &mut [u8],
     i: usize,
-    table: &'a [u8; 512],
-    first: &'a [u32; 512],
-    count: &'a [u32; 512],
+    table: &'a [u8; Limits::BLOCK_SIZE],
+    first: &'a [u32; Limits::MAX_EXTENTS],
+    count: &'a [u32; Limits::MAX_EXTENTS],
     o: Outline,
     x: usize,
     bytes: &[u8],
@@ -138,12 +136,12 @@ fn add_block<'a>(
     device: &'a [u8],
     work: &'a [u8],
     staged: &[u32],
-    blocks: &mut [u32; 32],
-    tags: &mut [u32; 32],
+    blocks: &mut [u32; Limits::LOG_LENGTH],
+    tags: &mut [u32; Limits::LOG_LENGTH],
     len: usize,
     b: u32,
     tag: u32,
-    new: &[u8; 512],
+    new: &[u8; Limits::BLOCK_SIZE],
 ) -> usize
     requires { ⌜ Room (agenda (now blocks) (now tags) len) × (length (now staged) ≤ 32) ⌝ }
     ensures { λ q. ⌜ ((f : ℕ → ℕ → List ℕ) (ws : List BlockStore) → f b tag ≡ now (new .entry) → Lists f (agenda (now (blocks .entry)) (now (tags .entry)) len) (ascending ws)
@@ -161,11 +159,11 @@ fn add_record<'a>(
     device: &'a [u8],
     work: &'a [u8],
     staged: &[u32],
-    blocks: &mut [u32; 32],
-    tags: &mut [u32; 32],
+    blocks: &mut [u32; Limits::LOG_LENGTH],
+    tags: &mut [u32; Limits::LOG_LENGTH],
     len: usize,
     i: usize,
-    new: [u8; 32],
+    new: [u8; Limits::INODE_SIZE],
 ) -> usize
     requires { ⌜ Room (agenda (now blocks) (now tags) len) × (i < 128) × (length (now staged) ≤ 32) ⌝ }
     ensures { λ q. ⌜ ((f : ℕ → ℕ → List ℕ) (ws : List BlockStore)
@@ -174,7 +172,11 @@ fn add_record<'a>(
 {
     let bytes: &[u8] = &new;
     let table = inode_block_in(device, work, staged, i);
-    if same_at(table, 32 * (i % 16), bytes) {
+    if same_at(
+        table,
+        Limits::INODE_SIZE * (i % Limits::INODES_PER_BLOCK),
+        bytes,
+    ) {
         return len;
     }
     insert(blocks, tags, len, table_block(i), RECORD)
@@ -253,8 +255,8 @@ fn window_of(held: usize, old: usize, size: usize, x: usize, bytes: &[u8]) -> Wi
 
 // Data block p of the file, which is block b, on the agenda where it is staged.
 fn add_place(
-    blocks: &mut [u32; 32],
-    tags: &mut [u32; 32],
+    blocks: &mut [u32; Limits::LOG_LENGTH],
+    tags: &mut [u32; Limits::LOG_LENGTH],
     len: usize,
     held: usize,
     old: usize,
@@ -288,8 +290,8 @@ fn down_to(high: usize, at: usize, j: u32) -> u32
 
 // n blocks of the file, from the last to the first; the first is block `first` and data block `at` of the file.
 fn add_run(
-    blocks: &mut [u32; 32],
-    tags: &mut [u32; 32],
+    blocks: &mut [u32; Limits::LOG_LENGTH],
+    tags: &mut [u32; Limits::LOG_LENGTH],
     len: usize,
     w: Window,
     held: usize,
@@ -334,7 +336,7 @@ fn wide(n: u32) -> usize
 }
 
 // How many blocks the extents have.
-fn total(count: &[u32; 512], end: End) -> usize
+fn total(count: &[u32; Limits::MAX_EXTENTS], end: End) -> usize
     requires { ⌜ (end .len ≤ 512) × (counts (listed (columns [] (now count) end)) ≤ 8192) ⌝ }
     ensures { λ n. ⌜ n ≡ placeOf (columns [] (now (count .entry)) end) (end .len) ⌝ }
 {
@@ -349,11 +351,11 @@ fn total(count: &[u32; 512], end: End) -> usize
 
 // The data blocks of a change, from the last to the first.
 fn add_data<'a>(
-    blocks: &mut [u32; 32],
-    tags: &mut [u32; 32],
-    table: &'a [u8; 512],
-    first: &'a [u32; 512],
-    count: &'a [u32; 512],
+    blocks: &mut [u32; Limits::LOG_LENGTH],
+    tags: &mut [u32; Limits::LOG_LENGTH],
+    table: &'a [u8; Limits::BLOCK_SIZE],
+    first: &'a [u32; Limits::MAX_EXTENTS],
+    count: &'a [u32; Limits::MAX_EXTENTS],
     o: Outline,
     x: usize,
     bytes: &[u8],
@@ -406,13 +408,13 @@ fn add_node<'a>(
     device: &'a [u8],
     work: &'a [u8],
     staged: &[u32],
-    blocks: &mut [u32; 32],
-    tags: &mut [u32; 32],
+    blocks: &mut [u32; Limits::LOG_LENGTH],
+    tags: &mut [u32; Limits::LOG_LENGTH],
     len: usize,
     i: usize,
-    table: &'a [u8; 512],
-    first: &'a [u32; 512],
-    count: &'a [u32; 512],
+    table: &'a [u8; Limits::BLOCK_SIZE],
+    first: &'a [u32; Limits::MAX_EXTENTS],
+    count: &'a [u32; Limits::MAX_EXTENTS],
     o: Outline,
     x: usize,
     bytes: &[u8],
@@ -441,13 +443,13 @@ fn add_nodes<'a>(
     device: &'a [u8],
     work: &'a [u8],
     staged: &[u32],
-    blocks: &mut [u32; 32],
-    tags: &mut [u32; 32],
+    blocks: &mut [u32; Limits::LOG_LENGTH],
+    tags: &mut [u32; Limits::LOG_LENGTH],
     len: usize,
     i: usize,
-    table: &'a [u8; 512],
-    first: &'a [u32; 512],
-    count: &'a [u32; 512],
+    table: &'a [u8; Limits::BLOCK_SIZE],
+    first: &'a [u32; Limits::MAX_EXTENTS],
+    count: &'a [u32; Limits::MAX_EXTENTS],
     o: Outline,
     x: usize,
     bytes: &[u8],
@@ -485,15 +487,15 @@ fn add_nodes<'a>(
 
 // All that a change stages.
 fn agenda_of<'a>(
-    blocks: &mut [u32; 32],
-    tags: &mut [u32; 32],
+    blocks: &mut [u32; Limits::LOG_LENGTH],
+    tags: &mut [u32; Limits::LOG_LENGTH],
     device: &'a [u8],
     work: &'a [u8],
     staged: &[u32],
     i: usize,
-    table: &'a [u8; 512],
-    first: &'a [u32; 512],
-    count: &'a [u32; 512],
+    table: &'a [u8; Limits::BLOCK_SIZE],
+    first: &'a [u32; Limits::MAX_EXTENTS],
+    count: &'a [u32; Limits::MAX_EXTENTS],
     o: Outline,
     x: usize,
     bytes: &[u8],
@@ -527,7 +529,7 @@ fn agenda_of<'a>(
         blocks,
         tags,
         record,
-        BITMAP_BLOCK,
+        Limits::BITMAP_BLOCK,
         BITMAP,
         table,
     )
@@ -579,12 +581,12 @@ fn ready_image(
 fn stage_block<'a>(
     device: &'a [u8],
     work: &mut [u8],
-    cells: &mut [u32; 32],
+    cells: &mut [u32; Limits::LOG_LENGTH],
     many: usize,
     i: usize,
-    table: &'a [u8; 512],
-    first: &'a [u32; 512],
-    count: &'a [u32; 512],
+    table: &'a [u8; Limits::BLOCK_SIZE],
+    first: &'a [u32; Limits::MAX_EXTENTS],
+    count: &'a [u32; Limits::MAX_EXTENTS],
     o: Outline,
     x: usize,
     bytes: &[u8],
@@ -612,7 +614,7 @@ fn stage_block<'a>(
 pub fn stage_record(
     device: &[u8],
     work: &mut [u8],
-    cells: &mut [u32; 32],
+    cells: &mut [u32; Limits::LOG_LENGTH],
     many: usize,
     i: usize,
     k: usize,
@@ -638,15 +640,15 @@ pub fn stage_record(
 fn stage_all<'a>(
     device: &'a [u8],
     work: &mut [u8],
-    cells: &mut [u32; 32],
+    cells: &mut [u32; Limits::LOG_LENGTH],
     many: usize,
-    blocks: &'a [u32; 32],
-    tags: &'a [u32; 32],
+    blocks: &'a [u32; Limits::LOG_LENGTH],
+    tags: &'a [u32; Limits::LOG_LENGTH],
     n: usize,
     i: usize,
-    table: &'a [u8; 512],
-    first: &'a [u32; 512],
-    count: &'a [u32; 512],
+    table: &'a [u8; Limits::BLOCK_SIZE],
+    first: &'a [u32; Limits::MAX_EXTENTS],
+    count: &'a [u32; Limits::MAX_EXTENTS],
     o: Outline,
     x: usize,
     bytes: &[u8],
@@ -685,12 +687,12 @@ fn stage_all<'a>(
 pub fn apply<'a>(
     device: &'a [u8],
     work: &mut [u8],
-    cells: &mut [u32; 32],
+    cells: &mut [u32; Limits::LOG_LENGTH],
     many: usize,
     i: usize,
-    table: &'a [u8; 512],
-    first: &'a [u32; 512],
-    count: &'a [u32; 512],
+    table: &'a [u8; Limits::BLOCK_SIZE],
+    first: &'a [u32; Limits::MAX_EXTENTS],
+    count: &'a [u32; Limits::MAX_EXTENTS],
     o: Outline,
     x: usize,
     bytes: &[u8],
@@ -704,8 +706,8 @@ pub fn apply<'a>(
 {
     let l: &[u32] = cells;
     let staged = &l[0..staged_in(many)];
-    let mut blocks = [0u32; 32];
-    let mut tags = [0u32; 32];
+    let mut blocks = [0u32; Limits::LOG_LENGTH];
+    let mut tags = [0u32; Limits::LOG_LENGTH];
     let n = agenda_of(
         &mut blocks,
         &mut tags,

@@ -1,14 +1,15 @@
 // Runs the calls on concrete values: the examples of document 01 on changes, then full devices, blocks used again, and the limits on records and extents.
 // File k has the name k 02 03 04 05 06 07 08, so file 1 is A and file 2 is B.
-use block::ByteOffset;
-use block::FileBlock;
 use block::load;
 use block::load2;
 use block::load4;
 use libc::STDOUT_FILENO;
+use spec::ByteOffset;
 use spec::Counted;
 use spec::Done;
+use spec::FileBlock;
 use spec::Finished;
+use spec::Limits;
 use spec::Recorded;
 use spec::Refusal;
 use spec::Run;
@@ -217,7 +218,7 @@ fn stored(a: Stored) {
             last: _,
             number: _,
         } => {
-            number(block as usize);
+            number(block.0 as usize);
         }
         Stored::Idle => {
             say(b" idle");
@@ -377,7 +378,7 @@ fn in_turn(device: &[u8], work: &mut [u8], s: Session, n: usize) -> Session {
 // What is lent to the calls. Each call is told, and hands the box on.
 struct Till {
     device: [u8; 32768],
-    work: [u8; 16384],
+    work: [u8; Limits::WORK_SIZE],
     session: Session,
 }
 
@@ -387,13 +388,13 @@ impl Till {
         let s = begin(title, &mut device);
         Till {
             device: device,
-            work: [9; 16384],
+            work: [9; Limits::WORK_SIZE],
             session: s,
         }
     }
 
     // The same device with what a call leaves of the rest.
-    fn with(self, work: [u8; 16384], session: Session) -> Till {
+    fn with(self, work: [u8; Limits::WORK_SIZE], session: Session) -> Till {
         let device = self.device;
         Till {
             device: device,
@@ -516,7 +517,7 @@ impl Till {
     fn reopen(self) -> Till {
         let device = self.device;
         let s = reopen(&device);
-        self.with([8; 16384], s)
+        self.with([8; Limits::WORK_SIZE], s)
     }
 
     fn size(self, k: u8) -> Till {
@@ -652,7 +653,7 @@ fn e7() {
 // On 128 blocks.
 fn e8() {
     let mut device = [0u8; 65536];
-    let mut work = [9u8; 16384];
+    let mut work = [9u8; Limits::WORK_SIZE];
     let s = begin(b"E8", &mut device);
     let one = create(&device, &mut work, s, 1);
     let two = set_size(&device, &mut work, one, 1, 15361);
@@ -800,7 +801,7 @@ fn in_turn_committed(device: &mut [u8], work: &mut [u8], s: Session, n: usize) -
 // 512 extents are the most. File 2 was grown last, so its next block follows on and makes no extent.
 fn many_extents() {
     let mut device = [0u8; 563200];
-    let mut work = [9u8; 16384];
+    let mut work = [9u8; Limits::WORK_SIZE];
     let s = begin(b"extents", &mut device);
     let one = create(&device, &mut work, s, 1);
     let two = create(&device, &mut work, one, 2);

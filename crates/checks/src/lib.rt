@@ -217,16 +217,16 @@ pub fn done_with(count: usize) -> Changed
 }
 
 // The same of a session by value: its other numbers are kept.
-pub fn finished(blocks: usize, phase: Phase, cells: [u32; 32], c: Changed) -> Finished
+pub fn finished(
+    blocks: usize,
+    phase: Phase,
+    cells: [u32; Limits::LOG_LENGTH],
+    c: Changed,
+) -> Finished
     ensures { λ r. ⌜ (r .session ≡ record { blocks = blocks; phase = phase; staged = cells; count = c .count }) × (r .answer ≡ c .answer) ⌝ }
 {
     let answer = c.answer;
-    let session = Session {
-        blocks: blocks,
-        phase: phase,
-        staged: cells,
-        count: c.count,
-    };
+    let session = Session::with_cells(blocks, phase, cells, c.count);
     Finished {
         session: session,
         answer: answer,

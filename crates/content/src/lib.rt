@@ -22,7 +22,7 @@ pub fn lay_record(block: &mut [u8], i: usize, new: &[u8])
     requires { ⌜ (length (now block) ≡ 512) × (length (now new) ≤ 32) ⌝ }
     ensures { λ _. ⌜ now (block .exit) ≡ withRecord i (now (new .entry)) (now (block .entry)) ⌝ }
 {
-    let at = 32 * (i % 16);
+    let at = Limits::INODE_SIZE * (i % Limits::INODES_PER_BLOCK);
     let mut k: usize = 0;
     while k < new.len() {
         block[at + k] = new[k];
@@ -35,29 +35,29 @@ fn slots_in(len: usize, j: usize) -> usize
     requires { ⌜ j < 4 ⌝ }
     ensures { λ n. ⌜ n ≡ min 128 (len - 128 * j) ⌝ }
 {
-    let start = 128 * j;
+    let start = Limits::SLOTS_PER_NODE * j;
     if len <= start {
         return 0;
     }
-    if 128 < len - start {
-        return 128;
+    if Limits::SLOTS_PER_NODE < len - start {
+        return Limits::SLOTS_PER_NODE;
     }
     len - start
 }
 
 // The content of node j.
 pub fn node_content<'a>(
-    first: &'a [u32; 512],
-    count: &'a [u32; 512],
+    first: &'a [u32; Limits::MAX_EXTENTS],
+    count: &'a [u32; Limits::MAX_EXTENTS],
     end: End,
     j: usize,
-) -> [u8; 512]
+) -> [u8; Limits::BLOCK_SIZE]
     requires { ⌜ (end .len ≤ 512) × (j < 4) ⌝ }
     ensures { λ q. ⌜ q ≡ nodeContent (columns (now (first .entry)) (now (count .entry)) end) j ⌝ }
 {
-    let start = 128 * j;
+    let start = Limits::SLOTS_PER_NODE * j;
     let n = slots_in(end.len, j);
-    let mut out = [0u8; 512];
+    let mut out = [0u8; Limits::BLOCK_SIZE];
     let mut k: usize = 0;
     while k < n {
         let f = first[start + k];
@@ -73,7 +73,12 @@ pub fn node_content<'a>(
 }
 
 // The extent at place k, of no blocks past the last one.
-fn extent_at<'a>(first: &'a [u32; 512], count: &'a [u32; 512], end: End, k: usize) -> Extent
+fn extent_at<'a>(
+    first: &'a [u32; Limits::MAX_EXTENTS],
+    count: &'a [u32; Limits::MAX_EXTENTS],
+    end: End,
+    k: usize,
+) -> Extent
     requires { ⌜ k < 512 ⌝ }
     ensures { λ e. ⌜ e ≡ getD (listed (columns (now (first .entry)) (now (count .entry)) end)) k (extent 0 0) ⌝ }
 {
@@ -86,11 +91,11 @@ fn extent_at<'a>(first: &'a [u32; 512], count: &'a [u32; 512], end: End, k: usiz
 }
 
 // How many data blocks are below node j.
-fn blocks_below(count: &[u32; 512], end: End, j: usize) -> u32
+fn blocks_below(count: &[u32; Limits::MAX_EXTENTS], end: End, j: usize) -> u32
     requires { ⌜ (end .len ≤ 512) × (j < 4) × ((k : ℕ) → getD (now count) k 0 ≤ 8192) ⌝ }
     ensures { λ n. ⌜ ((first : List ℕ) → n ≡ countsBelow (columns first (now (count .entry)) end) j) ⌝ }
 {
-    let start = 128 * j;
+    let start = Limits::SLOTS_PER_NODE * j;
     let m = slots_in(end.len, j);
     let mut n: u32 = 0;
     let mut k: usize = 0;
@@ -103,8 +108,8 @@ fn blocks_below(count: &[u32; 512], end: End, j: usize) -> u32
 
 // Slot k of the record: an extent, or a node with the data blocks below it.
 fn top_slot<'a>(
-    first: &'a [u32; 512],
-    count: &'a [u32; 512],
+    first: &'a [u32; Limits::MAX_EXTENTS],
+    count: &'a [u32; Limits::MAX_EXTENTS],
     end: End,
     node: [u32; 4],
     nodes: usize,
@@ -162,7 +167,15 @@ fn depth_of(nodes: usize) -> u8
 }
 
 // The fields of a record, one after the other.
-fn joined(n: [u8; 8], z: [u8; 4], d: u8, a: [u8; 4], b: [u8; 4], c: [u8; 4], e: [u8; 4]) -> [u8; 32]
+fn joined(
+    n: [u8; 8],
+    z: [u8; 4],
+    d: u8,
+    a: [u8; 4],
+    b: [u8; 4],
+    c: [u8; 4],
+    e: [u8; 4],
+) -> [u8; Limits::INODE_SIZE]
     ensures { λ q. ⌜ q ≡ n ++ (z ++ (d ∷ 0 ∷ 0 ∷ 0 ∷ (a ++ (b ++ (c ++ (e ++ [])))))) ⌝ }
 {
     [
@@ -205,12 +218,12 @@ fn joined(n: [u8; 8], z: [u8; 4], d: u8, a: [u8; 4], b: [u8; 4], c: [u8; 4], e: 
 pub fn record_bytes<'a>(
     name: [u8; 8],
     size: usize,
-    first: &'a [u32; 512],
-    count: &'a [u32; 512],
+    first: &'a [u32; Limits::MAX_EXTENTS],
+    count: &'a [u32; Limits::MAX_EXTENTS],
     end: End,
     node: [u32; 4],
     nodes: usize,
-) -> [u8; 32]
+) -> [u8; Limits::INODE_SIZE]
     requires { ⌜ Bounded (treeOf (now first) (now count) end node nodes) × (size < 4294967296) ⌝ }
     ensures { λ q. ⌜ q ≡ bytesOfInode (inodeWith name size (listed (columns (now (first .entry)) (now (count .entry)) end)) (levelsIn (treeOf (now (first .entry)) (now (count .entry)) end node nodes))) ⌝ }
 {

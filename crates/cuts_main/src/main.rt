@@ -1,10 +1,11 @@
 // Runs a commit of three blocks on a 64-block device with a cut behind each number of stores, a second cut behind each number of stores of the recovery,
 // and a third in the recovery of that, then recovers to the end and looks whether all three blocks are new, or none.
-use block::DiskBlock;
 use block::block_in;
 use block::load;
 use block::load2;
 use libc::STDOUT_FILENO;
+use spec::DiskBlock;
+use spec::Limits;
 use spec::Phase;
 use spec::Session;
 use trial::number;
@@ -71,7 +72,7 @@ fn cut(device: &mut [u8], work: &[u8], n: usize) {
 // The blocks that are new after cuts behind i stores of the commit, j of a recovery and m of the next one, and a recovery to the end.
 fn after_cuts(i: usize, j: usize, m: usize) -> u32 {
     let mut device = [0u8; 32768];
-    let mut work = [9u8; 16384];
+    let mut work = [9u8; Limits::WORK_SIZE];
     cut_thrice(&mut device, &mut work, i, j, m)
 }
 

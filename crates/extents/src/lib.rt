@@ -1,5 +1,4 @@
 // Stretches of a file's data blocks: the extent that holds a block of a file, and the maximal runs of a stretch.
-use block::DiskBlock;
 use inode::Cursor;
 use inode::Step;
 use inode::inode_block_in;
@@ -9,7 +8,9 @@ use inode::slot_in;
 use inode::start;
 use inode::start_at;
 use inode::table_block;
+use spec::DiskBlock;
 use spec::Extent;
+use spec::Limits;
 use spec::Session;
 use transaction::staged_count;
 use transaction::view_in;
@@ -24,9 +25,6 @@ ghost use Rattle.spec.specs.Transaction.{view, stateOf};
 ghost use Rattle.transaction.specs.Places.{viewIn};
 ghost use Rattle.inode.specs.Walk.{leaf};
 ghost use Rattle.extents.specs.Stretches.{Seeks, Places, Fits, Pieces, Starts, SlotSteps, NodeSteps, Passes, moved, RunSteps, growingFrom, runOf, runsIn};
-
-// "a file size of at most 1,048,576"
-const MAX_FILE_BLOCKS: usize = 2048;
 
 // Where a block of a file stands: so far into an extent.
 pub enum Place {
@@ -78,7 +76,7 @@ pub fn extent_at<'a>(device: &'a [u8], work: &'a [u8], s: Session, i: usize, pla
     requires { ⌜ i < 128 ⌝ }
     ensures { λ r. ⌜ Places (view (stateOf s (now (device .entry)) (now (work .entry)))) i place r ⌝ }
 {
-    if MAX_FILE_BLOCKS <= place {
+    if Limits::MAX_FILE_BLOCKS <= place {
         return Place::Nothing;
     }
     let cur = start(device, work, s, i);
@@ -107,10 +105,10 @@ pub enum Piece {
 fn room_from(from: usize, n: usize) -> usize
     ensures { λ r. ⌜ r ≡ min n (2048 - from) ⌝ }
 {
-    if MAX_FILE_BLOCKS <= from {
+    if Limits::MAX_FILE_BLOCKS <= from {
         return 0;
     }
-    let left = MAX_FILE_BLOCKS - from;
+    let left = Limits::MAX_FILE_BLOCKS - from;
     if n < left { n } else { left }
 }
 
@@ -262,7 +260,7 @@ pub fn take_node(table: &[u8], scan: Scan) -> AtNode
     let then = Cursor {
         block: t.first,
         at: 0,
-        left: 128,
+        left: Limits::SLOTS_PER_NODE,
         top: cur.top + 4,
         tops: cur.tops - 1,
     };

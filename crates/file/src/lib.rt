@@ -1,6 +1,4 @@
 // Files read by stretches.
-use block::ByteOffset;
-use block::DiskBlock;
 use block::copy;
 use block::load;
 use extents::AtNode;
@@ -11,7 +9,10 @@ use extents::take_node;
 use extents::take_slot;
 use inode::inode_block_in;
 use inode::size_of;
+use spec::ByteOffset;
+use spec::DiskBlock;
 use spec::Extent;
+use spec::Limits;
 use transaction::view_in;
 ghost use mathlib.Core.Path.{_≡_};
 ghost use Prim.Native.Nat.{_+_, _*_, _<_, _≤_, min};
@@ -72,9 +73,14 @@ fn copy_blocks<'a>(
     let mut done: usize = 0;
     while done < to.len() {
         let at = skip + done;
-        let off = at % 512;
-        let end = done + least(512 - off, to.len() - done);
-        let block = view_in(device, work, staged, DiskBlock(first + (at / 512) as u32));
+        let off = at % Limits::BLOCK_SIZE;
+        let end = done + least(Limits::BLOCK_SIZE - off, to.len() - done);
+        let block = view_in(
+            device,
+            work,
+            staged,
+            DiskBlock(first + (at / Limits::BLOCK_SIZE) as u32),
+        );
         copy_part(block, off, &mut to[done..end]);
         done = end;
     }
@@ -92,7 +98,7 @@ fn copy_run<'a>(
     requires { ⌜ (skip + length (now to) ≤ 512 * run .count) × (run .first < 131072) × (run .count ≤ 2048) × (length (now staged) ≤ 32) ⌝ }
     ensures { λ _. ⌜ now (to .exit) ≡ take (length (now (to .entry))) (drop skip (runBytes (viewIn (now (staged .entry)) (now (device .entry)) (now (work .entry))) (run .first) (run .count))) ⌝ }
 {
-    let from = 512 * (run.first as usize) + skip;
+    let from = Limits::BLOCK_SIZE * (run.first as usize) + skip;
     let end = from + to.len();
     if (staged.len() == 0) & (end <= device.len()) {
         copy(&device[from..end], to);
@@ -116,9 +122,9 @@ fn read_blocks<'a>(
     ensures { λ r. ⌜ Filled (take (length (now (to .entry))) (drop x (blockBytes (viewIn (now (staged .entry)) (now (device .entry)) (now (work .entry))) i)))
         (now (to .entry)) (now (to .exit)) r ⌝ }
 {
-    let mut scan = stretch_at(table, i, x / 512, 2048);
+    let mut scan = stretch_at(table, i, x / Limits::BLOCK_SIZE, Limits::MAX_FILE_BLOCKS);
     let mut block = table;
-    let mut skip = x % 512;
+    let mut skip = x % Limits::BLOCK_SIZE;
     let mut done: usize = 0;
     while done < to.len() {
         if scan.room == 0 {
@@ -126,7 +132,11 @@ fn read_blocks<'a>(
         }
         match take_slot(block, scan) {
             AtSlot::Piece(run, then) => {
-                let end = done + least(512 * (run.count as usize) - skip, to.len() - done);
+                let end = done
+                    + least(
+                        Limits::BLOCK_SIZE * (run.count as usize) - skip,
+                        to.len() - done,
+                    );
                 copy_run(device, work, staged, run, skip, &mut to[done..end]);
                 done = end;
                 skip = 0;

@@ -2,8 +2,6 @@
 use inode::depth_of;
 use inode::size_of;
 use spec::Limits;
-use tree::SLOTS_PER_INODE;
-use tree::SLOTS_PER_NODE;
 use tree::are_packed;
 use tree::block_at;
 use tree::extents_over;
@@ -38,7 +36,7 @@ fn limits_hold(table: &[u8], i: usize, size: usize, depth: u32) -> bool
     requires { ⌜ (size ≡ inodeOf (recordIn (now table) i) .size) × (depth ≡ inodeOf (recordIn (now table) i) .depth) ⌝ }
     ensures { λ r. ⌜ r ≡ limitsHold (recordIn (now (table .entry)) i) ⌝ }
 {
-    let at = 32 * (i % 16);
+    let at = Limits::INODE_SIZE * (i % Limits::INODES_PER_BLOCK);
     (size <= Limits::MAX_FILE_SIZE) & (depth <= 1) & clear_in(table, at + 13, at + 16)
 }
 
@@ -65,16 +63,16 @@ fn blocks_for(size: usize) -> usize
 fn nodes_for(extents: usize) -> usize
     ensures { λ r. ⌜ r ≡ nodesFor extents ⌝ }
 {
-    if extents <= SLOTS_PER_INODE {
+    if extents <= Limits::SLOTS_PER_INODE {
         return 0;
     }
-    (extents - 1) / SLOTS_PER_NODE + 1
+    (extents - 1) / Limits::SLOTS_PER_NODE + 1
 }
 
 // S4 to S6 and S8 of file i, of depth 0.
 fn flat_sound(
-    once: &mut [u8; 512],
-    twice: &mut [u8; 512],
+    once: &mut [u8; Limits::BLOCK_SIZE],
+    twice: &mut [u8; Limits::BLOCK_SIZE],
     device: &[u8],
     table: &[u8],
     blocks: usize,
@@ -87,10 +85,19 @@ fn flat_sound(
     ensures { λ r. ⌜ Marked blocks r (treeSound blocks (blocksOf (now (device .entry))) (inodeAt (blocksOf (now (device .entry))) i))
         (now (once .exit)) (now (twice .exit)) (now (once .entry)) (now (twice .entry)) (fileBlocks (blocksOf (now (device .entry))) i) ⌝ }
 {
-    let at = 32 * (i % 16) + 16;
+    let at = Limits::INODE_SIZE * (i % Limits::INODES_PER_BLOCK) + 16;
     let k = size / Limits::BLOCK_SIZE;
-    let r = extents_over(once, twice, table, blocks, k, at, SLOTS_PER_INODE, no_run());
-    let packed = are_packed(table, at, SLOTS_PER_INODE, r.extents);
+    let r = extents_over(
+        once,
+        twice,
+        table,
+        blocks,
+        k,
+        at,
+        Limits::SLOTS_PER_INODE,
+        no_run(),
+    );
+    let packed = are_packed(table, at, Limits::SLOTS_PER_INODE, r.extents);
     let clear = last_clear(device, size, r.tail);
     let want = blocks_for(size);
     packed & r.inside & (r.blocks == want) & r.apart & clear
@@ -98,8 +105,8 @@ fn flat_sound(
 
 // S4 to S6 and S8 of file i, of depth 1.
 fn deep_sound(
-    once: &mut [u8; 512],
-    twice: &mut [u8; 512],
+    once: &mut [u8; Limits::BLOCK_SIZE],
+    twice: &mut [u8; Limits::BLOCK_SIZE],
     device: &[u8],
     table: &[u8],
     blocks: usize,
@@ -112,7 +119,7 @@ fn deep_sound(
     ensures { λ r. ⌜ Marked blocks r (treeSound blocks (blocksOf (now (device .entry))) (inodeAt (blocksOf (now (device .entry))) i))
         (now (once .exit)) (now (twice .exit)) (now (once .entry)) (now (twice .entry)) (fileBlocks (blocksOf (now (device .entry))) i) ⌝ }
 {
-    let at = 32 * (i % 16) + 16;
+    let at = Limits::INODE_SIZE * (i % Limits::INODES_PER_BLOCK) + 16;
     let k = size / Limits::BLOCK_SIZE;
     let w = nodes_over(once, twice, device, table, blocks, k, at);
     let f = w.nodes;
@@ -121,13 +128,13 @@ fn deep_sound(
     let want = blocks_for(size);
     let nodes = nodes_for(r.extents);
     let shape = w.packed & f.sound & r.inside & f.agree & (f.counts == want);
-    shape & r.apart & (SLOTS_PER_INODE < r.extents) & (f.tops == nodes) & f.filled & clear
+    shape & r.apart & (Limits::SLOTS_PER_INODE < r.extents) & (f.tops == nodes) & f.filled & clear
 }
 
 // S3 to S6 and S8 of file i.
 pub fn file_sound(
-    once: &mut [u8; 512],
-    twice: &mut [u8; 512],
+    once: &mut [u8; Limits::BLOCK_SIZE],
+    twice: &mut [u8; Limits::BLOCK_SIZE],
     device: &[u8],
     table: &[u8],
     blocks: usize,

@@ -40,14 +40,14 @@ pub enum Damage {
 fn number_in(table: &[u8], i: usize) -> u64
     ensures { λ r. ⌜ (r ≡ wordOf (take 8 (recordIn (now (table .entry)) i)) 0) × Below 256 (take 8 (recordIn (now (table .entry)) i)) ⌝ }
 {
-    let at = 32 * (i % 16);
+    let at = Limits::INODE_SIZE * (i % Limits::INODES_PER_BLOCK);
     let low = load4(table, at) as u64;
     let high = load4(table, at + 4) as u64;
     low + 4294967296 * high
 }
 
 // Whether one of the numbers before number i is the same.
-fn is_among(numbers: &[u64; 128], i: usize) -> bool
+fn is_among(numbers: &[u64; Limits::INODE_COUNT], i: usize) -> bool
     requires { ⌜ i < 128 ⌝ }
     ensures { λ r. ⌜ r ≡ seenTo i (getD (now (numbers .entry)) i 0) (now (numbers .entry)) ⌝ }
 {
@@ -62,7 +62,7 @@ fn is_among(numbers: &[u64; 128], i: usize) -> bool
 }
 
 // "Names differ pairwise": whether a record before i has the name of i. The search is needed only where its remainder was seen.
-fn is_repeated(numbers: &[u64; 128], seen: &[u8; 1021], i: usize) -> bool
+fn is_repeated(numbers: &[u64; Limits::INODE_COUNT], seen: &[u8; 1021], i: usize) -> bool
     requires { ⌜ (i < 128) × Seen (now numbers) (now seen) i × (getD (now numbers) i 0 ≡ 0 → ⊥) ⌝ }
     ensures { λ r. ⌜ r ≡ seenTo i (getD (now (numbers .entry)) i 0) (now (numbers .entry)) ⌝ }
 {
@@ -75,9 +75,9 @@ fn is_repeated(numbers: &[u64; 128], seen: &[u8; 1021], i: usize) -> bool
 
 // S2 to S6 and S8 of record i; `numbers` has the names up to it.
 fn inode_sound(
-    once: &mut [u8; 512],
-    twice: &mut [u8; 512],
-    numbers: &[u64; 128],
+    once: &mut [u8; Limits::BLOCK_SIZE],
+    twice: &mut [u8; Limits::BLOCK_SIZE],
+    numbers: &[u64; Limits::INODE_COUNT],
     seen: &[u8; 1021],
     device: &[u8],
     table: &[u8],
@@ -90,8 +90,8 @@ fn inode_sound(
         (now (once .exit)) (now (twice .exit)) (now (once .entry)) (now (twice .entry)) (reachedFrom (blocksOf (now (device .entry))) i) ⌝ }
 {
     if numbers[i] == 0 {
-        let at = 32 * (i % 16);
-        return clear_in(table, at + 8, at + 32);
+        let at = Limits::INODE_SIZE * (i % Limits::INODES_PER_BLOCK);
+        return clear_in(table, at + Limits::NAME_SIZE, at + Limits::INODE_SIZE);
     }
     if is_repeated(numbers, seen, i) {
         return false;
@@ -101,9 +101,9 @@ fn inode_sound(
 
 // The lowest of the 16 records from `first` on, those of one block of the table, that is not sound. If all are, every block that they reach is marked.
 fn records_fault(
-    once: &mut [u8; 512],
-    twice: &mut [u8; 512],
-    numbers: &mut [u64; 128],
+    once: &mut [u8; Limits::BLOCK_SIZE],
+    twice: &mut [u8; Limits::BLOCK_SIZE],
+    numbers: &mut [u64; Limits::INODE_COUNT],
     seen: &mut [u8; 1021],
     device: &[u8],
     blocks: usize,
@@ -119,7 +119,7 @@ fn records_fault(
     if is_zero(&table) {
         return Found::Nothing;
     }
-    let end = first + 16;
+    let end = first + Limits::INODES_PER_BLOCK;
     let mut i = first;
     while i < end {
         let number = number_in(&table, i);
@@ -134,12 +134,17 @@ fn records_fault(
 }
 
 // The lowest record that is not sound: S2 to S6 and S8. If all are, every block that they reach is marked.
-fn inode_fault(once: &mut [u8; 512], twice: &mut [u8; 512], device: &[u8], blocks: usize) -> Found
+fn inode_fault(
+    once: &mut [u8; Limits::BLOCK_SIZE],
+    twice: &mut [u8; Limits::BLOCK_SIZE],
+    device: &[u8],
+    blocks: usize,
+) -> Found
     requires { ⌜ blocks ≤ 4096 ⌝ }
     ensures { λ r. ⌜ (r ≡ foundOf (inodeFault blocks (blocksOf (now (device .entry)))))
         × (r ≡ foundOf none → Kept blocks (now (once .exit)) (now (twice .exit)) [] (now (once .entry)) (now (twice .entry)) (reached (blocksOf (now (device .entry))))) ⌝ }
 {
-    let mut numbers = [0u64; 128];
+    let mut numbers = [0u64; Limits::INODE_COUNT];
     let mut seen = [0u8; 1021];
     let mut first: usize = 0;
     while first < Limits::INODE_COUNT {
@@ -154,7 +159,7 @@ fn inode_fault(once: &mut [u8; 512], twice: &mut [u8; 512], device: &[u8], block
         ) {
             return Found::At(i);
         }
-        first += 16;
+        first += Limits::INODES_PER_BLOCK;
     }
     Found::Nothing
 }
@@ -165,11 +170,11 @@ pub fn find_damage(device: &[u8], blocks: usize) -> Damage
     ensures { λ r. ⌜ r ≡ damageOf (inodeFault blocks (blocksOf (now (device .entry)))) (blockFault blocks (blocksOf (now (device .entry)))) ⌝ }
 {
     let mut once = no_marks(blocks);
-    let mut twice = [0u8; 512];
+    let mut twice = [0u8; Limits::BLOCK_SIZE];
     match inode_fault(&mut once, &mut twice, device, blocks) {
         Found::At(i) => Damage::Inode(i),
         Found::Nothing => {
-            let bitmap = copy_of(block_at(device, 33));
+            let bitmap = copy_of(block_at(device, Limits::BITMAP_BLOCK));
             match lowest_wrong(&once, &twice, &bitmap) {
                 Found::At(b) => Damage::Block(b),
                 Found::Nothing => Damage::Nothing,

@@ -1,8 +1,8 @@
 // The header read and checked, and what a log may list.
-use block::DiskBlock;
 use block::is_target;
 use block::load;
 use block::load2;
+use spec::DiskBlock;
 use spec::Limits;
 use zeros::is_zero;
 ghost use mathlib.Core.Path.{_≡_};
@@ -26,9 +26,6 @@ pub struct Targets {
     pub count: usize,
 }
 
-// A record: two bytes of a target, and 14 that are zero.
-pub const RECORD_SIZE: usize = 16;
-
 const PADDING: usize = 14;
 
 // ---- the records
@@ -40,7 +37,7 @@ fn record_targets(head: &[u8]) -> [u32; Limits::LOG_LENGTH]
     let mut q = [0u32; Limits::LOG_LENGTH];
     let mut i: usize = 0;
     while i < Limits::LOG_LENGTH {
-        q[i] = load2(head, RECORD_SIZE * i);
+        q[i] = load2(head, Limits::LOG_RECORD_SIZE * i);
         i += 1;
     }
     q
@@ -66,7 +63,7 @@ fn is_blank(head: &[u8], i: usize) -> bool
 {
     let mut k: usize = 0;
     while k < PADDING {
-        if load(head, RECORD_SIZE * i + 2 + k) != 0 {
+        if load(head, Limits::LOG_RECORD_SIZE * i + 2 + k) != 0 {
             return false;
         }
         k += 1;

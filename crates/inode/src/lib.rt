@@ -1,9 +1,9 @@
 // File records and the walk over a file's tree of extents, in the working copy.
-use block::DiskBlock;
 use block::key_of;
 use block::load;
 use block::load4;
 use block::low;
+use spec::DiskBlock;
 use spec::Extent;
 use spec::Limits;
 use spec::Session;
@@ -24,17 +24,10 @@ ghost use Rattle.block.specs.Keys.{keyOf, Name};
 ghost use Rattle.inode.specs.Records.{recordIn, named, foundOf, lowestTo, TableUnstaged};
 ghost use Rattle.inode.specs.Walk.{slotIn, Slot, live, Steps, startOf};
 
-// "file records of 32 bytes, 16 to a block"
-pub const RECORD_SIZE: usize = 32;
-
-pub const RECORDS_PER_BLOCK: usize = 16;
-
-pub const NAME_SIZE: usize = 8;
-
 // The bytes of the device that hold the table: blocks 34 to 41.
-const TABLE_START: usize = 17408;
+const TABLE_START: usize = Limits::BLOCK_SIZE * (Limits::INODE_START as usize);
 
-const TABLE_END: usize = 21504;
+const TABLE_END: usize = TABLE_START + Limits::INODE_SIZE * Limits::INODE_COUNT;
 
 // A record that was looked for.
 pub enum Found {
@@ -47,14 +40,14 @@ pub fn table_block(i: usize) -> u32
     requires { ⌜ i < 128 ⌝ }
     ensures { λ r. ⌜ r ≡ blockOfInode i ⌝ }
 {
-    34 + (i / RECORDS_PER_BLOCK) as u32
+    Limits::INODE_START + (i / Limits::INODES_PER_BLOCK) as u32
 }
 
 // Where record i begins in its block.
 fn place_in_block(i: usize) -> usize
     ensures { λ r. ⌜ (r ≡ 32 * (i % 16)) × (r + 32 ≤ 512) ⌝ }
 {
-    RECORD_SIZE * (i % RECORDS_PER_BLOCK)
+    Limits::INODE_SIZE * (i % Limits::INODES_PER_BLOCK)
 }
 
 // The working copy of the table's block that holds record i.
@@ -71,7 +64,7 @@ pub fn inode_block_in<'a>(device: &'a [u8], work: &'a [u8], staged: &[u32], i: u
     ensures { λ r. ⌜ (exactly 512 (now r) ≡ viewIn (now (staged .entry)) (now (device .entry)) (now (work .entry)) (blockOfInode i)) × (length (now r) ≤ 512) ⌝ }
 {
     if (staged.len() == 0) & (TABLE_END <= device.len()) {
-        let at = TABLE_START + Limits::BLOCK_SIZE * (i / RECORDS_PER_BLOCK);
+        let at = TABLE_START + Limits::BLOCK_SIZE * (i / Limits::INODES_PER_BLOCK);
         let end = at + Limits::BLOCK_SIZE;
         return &device[at..end];
     }
@@ -103,7 +96,7 @@ pub fn name_of(table: &[u8], i: usize) -> [u8; 8]
     ensures { λ q. ⌜ q ≡ take 8 (recordIn (now (table .entry)) i) ⌝ }
 {
     let p = place_in_block(i);
-    if p + NAME_SIZE <= table.len() {
+    if p + Limits::NAME_SIZE <= table.len() {
         return [
             table[p],
             table[p + 1],
@@ -132,7 +125,7 @@ fn key_at(table: &[u8], i: usize) -> u64
     ensures { λ r. ⌜ (r ≡ keyOf (take 8 (recordIn (now (table .entry)) i))) × Name (take 8 (recordIn (now (table .entry)) i)) ⌝ }
 {
     let at = place_in_block(i);
-    let end = at + NAME_SIZE;
+    let end = at + Limits::NAME_SIZE;
     if end <= table.len() {
         return key_of(&table[at..end]);
     }
@@ -152,11 +145,11 @@ fn find_whole(table: &[u8], first: usize, key: u64) -> Found
     requires { ⌜ (first < 128) × (512 ≤ length (now table)) ⌝ }
     ensures { λ r. ⌜ ((name : List ℕ) → Name name → key ≡ keyOf name → r ≡ lowestTo (first + 16) (named (now (table .entry)) name) first) ⌝ }
 {
-    let end = first + RECORDS_PER_BLOCK;
+    let end = first + Limits::INODES_PER_BLOCK;
     let mut i = first;
     while i < end {
         let at = place_in_block(i);
-        let name_end = at + NAME_SIZE;
+        let name_end = at + Limits::NAME_SIZE;
         if key_of(&table[at..name_end]) == key {
             return Found::At(i);
         }
@@ -170,7 +163,7 @@ fn find_short(table: &[u8], first: usize, key: u64) -> Found
     requires { ⌜ first < 128 ⌝ }
     ensures { λ r. ⌜ ((name : List ℕ) → Name name → key ≡ keyOf name → r ≡ lowestTo (first + 16) (named (now (table .entry)) name) first) ⌝ }
 {
-    let end = first + RECORDS_PER_BLOCK;
+    let end = first + Limits::INODES_PER_BLOCK;
     let mut i = first;
     while i < end {
         if key_at(table, i) == key {
@@ -205,7 +198,7 @@ fn find_blocks<'a>(device: &'a [u8], work: &'a [u8], staged: &[u32], key: u64) -
                 return Found::At(i);
             }
             Found::Nothing => {
-                first += RECORDS_PER_BLOCK;
+                first += Limits::INODES_PER_BLOCK;
             }
         }
     }
@@ -219,14 +212,14 @@ fn find_committed(device: &[u8], key: u64) -> Found
 {
     let mut first: usize = 0;
     while first < Limits::INODE_COUNT {
-        let at = TABLE_START + RECORD_SIZE * first;
+        let at = TABLE_START + Limits::INODE_SIZE * first;
         let end = at + Limits::BLOCK_SIZE;
         match find_whole(&device[at..end], first, key) {
             Found::At(i) => {
                 return Found::At(i);
             }
             Found::Nothing => {
-                first += RECORDS_PER_BLOCK;
+                first += Limits::INODES_PER_BLOCK;
             }
         }
     }
@@ -252,7 +245,7 @@ pub fn find<'a>(device: &'a [u8], work: &'a [u8], staged: &[u32], name: &[u8]) -
     requires { ⌜ length (now staged) ≤ 32 ⌝ }
     ensures { λ r. ⌜ r ≡ foundOf (find (viewIn (now (staged .entry)) (now (device .entry)) (now (work .entry))) (now (name .entry))) ⌝ }
 {
-    if name.len() != NAME_SIZE {
+    if name.len() != Limits::NAME_SIZE {
         return Found::Nothing;
     }
     let key = key_of(name);
@@ -365,7 +358,7 @@ pub fn next<'a>(device: &'a [u8], work: &'a [u8], s: Session, tb: u32, cur: Curs
             Cursor {
                 block: t.first,
                 at: 0,
-                left: 128,
+                left: Limits::SLOTS_PER_NODE,
                 top: top + 4,
                 tops: tops - 1,
             },

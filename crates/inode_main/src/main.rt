@@ -6,6 +6,7 @@ use inode::Found;
 use inode::Step;
 use libc::STDOUT_FILENO;
 use spec::Extent;
+use spec::Limits;
 use spec::Phase;
 use spec::Session;
 
@@ -259,18 +260,13 @@ fn show_places<'a>(device: &'a [u8], work: &'a [u8], s: Session) {
 
 fn main() {
     let mut device = [0u8; 32768];
-    let work = [0u8; 16384];
+    let work = [0u8; Limits::WORK_SIZE];
     let s = Session::opened(64, Phase::Ready);
     fill_flat(&mut device);
     fill_deep(&mut device);
     show_all(&device, &work, s);
     show_places(&device, &work, s);
     text(b"table block 34 staged as zeros\n");
-    let t = Session {
-        blocks: 64,
-        phase: Phase::Ready,
-        staged: [34; 32],
-        count: 1,
-    };
+    let t = Session::with_cells(64, Phase::Ready, [34; Limits::LOG_LENGTH], 1);
     show_all(&device, &work, t);
 }

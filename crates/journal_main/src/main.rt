@@ -1,8 +1,9 @@
 // Runs the journal: headers with each fault, a commit and a recovery store by store, and what is not a log's to list.
-use block::DiskBlock;
 use header::Fault;
 use libc::STDOUT_FILENO;
 use spec::Advanced;
+use spec::DiskBlock;
+use spec::Limits;
 use spec::Phase;
 use spec::Session;
 use spec::Stored;
@@ -40,7 +41,7 @@ fn show_header(head: &[u8]) {
 fn show_target(i: usize, t: u32)
     requires { ⌜ i < 32 ⌝ }
 {
-    let mut head = [0u8; 512];
+    let mut head = [0u8; Limits::BLOCK_SIZE];
     block::store2(&mut head, 0, 40);
     block::store2(&mut head, 16, 33);
     block::store2(&mut head, 32, 63);
@@ -52,14 +53,14 @@ fn show_target(i: usize, t: u32)
 fn show_byte(at: usize)
     requires { ⌜ at < 512 ⌝ }
 {
-    let mut head = [0u8; 512];
+    let mut head = [0u8; Limits::BLOCK_SIZE];
     block::store2(&mut head, 0, 40);
     head[at] = 1;
     show_header(&head);
 }
 
 fn headers() {
-    let clear = [0u8; 512];
+    let clear = [0u8; Limits::BLOCK_SIZE];
     show_header(&clear);
     show_target(2, 63);
     show_target(1, 32);
@@ -93,11 +94,11 @@ fn show_answer(a: Stored) {
     }
 }
 
-fn show_store(block: u32, last: bool, place: usize) {
+fn show_store(block: DiskBlock, last: bool, place: usize) {
     io::write_all(STDOUT_FILENO, b"store");
     number(place as u64);
     io::write_all(STDOUT_FILENO, b" to");
-    number(block as u64);
+    number(block.0 as u64);
     if last {
         io::write_all(STDOUT_FILENO, b" last");
     }
@@ -187,7 +188,7 @@ fn run(device: &mut [u8], work: &[u8], s: Session, steps: usize) {
 // Blocks 63, 33 and 34 staged and committed, and one step more.
 fn commit() {
     let mut device = [7u8; 32768];
-    let mut work = [9u8; 16384];
+    let mut work = [9u8; Limits::WORK_SIZE];
     let fresh = Session::opened(64, Phase::Ready);
     let one = stage(&mut work, fresh, 63, 1);
     let two = stage(&mut work, one, 33, 2);
@@ -199,7 +200,7 @@ fn commit() {
 // A block staged that no log may list; nothing staged; a place past the end.
 fn commit_nothing() {
     let mut device = [7u8; 32768];
-    let mut work = [9u8; 16384];
+    let mut work = [9u8; Limits::WORK_SIZE];
     let fresh = Session::opened(64, Phase::Committing(0));
     run(&mut device, &work, fresh, 1);
     let low = stage(&mut work, fresh, 32, 1);
@@ -214,7 +215,7 @@ fn commit_nothing() {
 // Two targets listed, in no order; then one outside the device.
 fn recover() {
     let mut device = [7u8; 32768];
-    let work = [9u8; 16384];
+    let work = [9u8; Limits::WORK_SIZE];
     block::clear_block(&mut device, DiskBlock(0));
     block::store2(&mut device, 0, 63);
     block::store2(&mut device, 16, 33);

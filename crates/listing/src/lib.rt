@@ -1,5 +1,4 @@
 // The listing of a device image: what the program purselist prints.
-use block::DiskBlock;
 use block::block_in;
 use block::copy_of;
 use extents::Growing;
@@ -13,6 +12,7 @@ use inode::is_empty;
 use inode::name_of;
 use inode::size_of;
 use inode::table_block;
+use spec::DiskBlock;
 use spec::Done;
 use spec::Extent;
 use spec::Limits;
@@ -42,9 +42,6 @@ const LONGEST_IMAGE: usize = 65536;
 
 // Bytes enough for any text: listing-few in proofs/Length.antt.
 pub const LISTING_SIZE: usize = 8785;
-
-// All blocks of a file.
-const MAX_FILE_BLOCKS: usize = 2048;
 
 // Records and trees are read through a session with nothing staged. The image stands in the place of the work space, of which nothing is read then.
 
@@ -84,7 +81,7 @@ fn put_runs(image: &[u8], s: Session, i: usize, out: &mut [u8], at: usize) -> us
     ensures { λ p. ⌜ Written (now (out .entry)) at (runsText (view (stateOf s (now (image .entry)) (now (image .entry)))) i) (now (out .exit)) p ⌝ }
 {
     let tb = table_block(i);
-    let all = growing_from(stretch(image, image, s, i, 0, MAX_FILE_BLOCKS));
+    let all = growing_from(stretch(image, image, s, i, 0, Limits::MAX_FILE_BLOCKS));
     match next_run(image, image, s, tb, all) {
         RunStep::Run(e, then) => {
             let p = put_extent(out, at, e);
@@ -152,7 +149,7 @@ fn count_files(image: &[u8], s: Session) -> usize
 fn count_free(image: &[u8], s: Session) -> usize
     ensures { λ r. ⌜ r ≡ freeBits (bitsOf (view (stateOf s (now (image .entry)) (now (image .entry))) 33)) ⌝ }
 {
-    let table = copy_of(view_block(image, image, s, DiskBlock(33)));
+    let table = copy_of(view_block(image, image, s, DiskBlock(Limits::BITMAP_BLOCK)));
     bitmap::free_count(&table)
 }
 

@@ -1,9 +1,10 @@
 // S1 and S7: the blocks that files reach are marked in two tables, one bit to a block, and compared with the bitmap.
 use bitmap::known;
-use block::DiskBlock;
 use block::in_data;
 use inode::Found;
 use mkfs::empty_table;
+use spec::DiskBlock;
+use spec::Limits;
 ghost use mathlib.Core.Path.{_≡_};
 ghost use mathlib.Core.List.{[], _∷_};
 ghost use Prim.Native.Nat.{ℕ, _+_, _%_, _≤_, _<_, min, max};
@@ -13,13 +14,8 @@ ghost use Rattle.mkfs.specs.Table.{Cleared};
 ghost use Rattle.inode.specs.Records.{lowestTo};
 ghost use Rattle.marks.specs.Marks.{bit, Kept, wrong, rightTo};
 
-// The bits of a table, one to a block; a byte holds eight.
-const BITS: u32 = 4096;
-
-const BYTES: usize = 512;
-
 // Whether bit b is 1.
-fn bit_is(t: &[u8; 512], b: u32) -> bool
+fn bit_is(t: &[u8; Limits::BLOCK_SIZE], b: u32) -> bool
     requires { ⌜ b < 4096 ⌝ }
     ensures { λ r. ⌜ r ≡ eqb (bit (now (t .entry)) b) 1 ⌝ }
 {
@@ -42,15 +38,20 @@ fn most(a: u32, b: u32) -> u32
 }
 
 // No block marked yet: ones outside 42 to N-1, where the bitmap has them.
-pub fn no_marks(blocks: usize) -> [u8; 512]
+pub fn no_marks(blocks: usize) -> [u8; Limits::BLOCK_SIZE]
     requires { ⌜ blocks ≤ 4096 ⌝ }
     ensures { λ t. ⌜ Cleared t (max 42 blocks) ⌝ }
 {
-    empty_table(most(42, blocks as u32))
+    empty_table(most(Limits::DATA_START, blocks as u32))
 }
 
 // `n` blocks from b on reached, whose bits lie in one byte: marked in `once`, and in `twice` where they were marked before.
-fn mark_byte(once: &mut [u8; 512], twice: &mut [u8; 512], b: u32, n: u32)
+fn mark_byte(
+    once: &mut [u8; Limits::BLOCK_SIZE],
+    twice: &mut [u8; Limits::BLOCK_SIZE],
+    b: u32,
+    n: u32,
+)
     requires { ⌜ (42 ≤ b) × (0 < n) × (b % 8 + n ≤ 8) × (b < 4096) ⌝ }
     ensures { λ _. ⌜ ((N : ℕ) → b + n ≤ N → Kept N (now (once .exit)) (now (twice .exit)) [] (now (once .entry)) (now (twice .entry)) (upFrom b n)) ⌝ }
 {
@@ -64,7 +65,12 @@ fn mark_byte(once: &mut [u8; 512], twice: &mut [u8; 512], b: u32, n: u32)
 }
 
 // Block b reached. A block outside 42 to N-1 does not count.
-pub fn mark(once: &mut [u8; 512], twice: &mut [u8; 512], blocks: usize, b: u32)
+pub fn mark(
+    once: &mut [u8; Limits::BLOCK_SIZE],
+    twice: &mut [u8; Limits::BLOCK_SIZE],
+    blocks: usize,
+    b: u32,
+)
     requires { ⌜ blocks ≤ 4096 ⌝ }
     ensures { λ _. ⌜ Kept blocks (now (once .exit)) (now (twice .exit)) [] (now (once .entry)) (now (twice .entry)) (b ∷ []) ⌝ }
 {
@@ -75,12 +81,18 @@ pub fn mark(once: &mut [u8; 512], twice: &mut [u8; 512], blocks: usize, b: u32)
 }
 
 // `count` blocks from `first` on reached: those within 42 to N-1, by whole bytes.
-pub fn mark_run(once: &mut [u8; 512], twice: &mut [u8; 512], blocks: usize, first: u32, count: u32)
+pub fn mark_run(
+    once: &mut [u8; Limits::BLOCK_SIZE],
+    twice: &mut [u8; Limits::BLOCK_SIZE],
+    blocks: usize,
+    first: u32,
+    count: u32,
+)
     requires { ⌜ (blocks ≤ 4096) × (first < 65536) × (count < 65536) ⌝ }
     ensures { λ _. ⌜ Kept blocks (now (once .exit)) (now (twice .exit)) [] (now (once .entry)) (now (twice .entry)) (upFrom first count) ⌝ }
 {
     let end = least(first + count, blocks as u32);
-    let mut b = most(first, 42);
+    let mut b = most(first, Limits::DATA_START);
     while b < end {
         let n = least(8 - b % 8, end - b);
         mark_byte(once, twice, b, n);
@@ -89,7 +101,12 @@ pub fn mark_run(once: &mut [u8; 512], twice: &mut [u8; 512], blocks: usize, firs
 }
 
 // Whether the bit of block b is wrong, by the marks.
-fn is_wrong(once: &[u8; 512], twice: &[u8; 512], bitmap: &[u8; 512], b: u32) -> bool
+fn is_wrong(
+    once: &[u8; Limits::BLOCK_SIZE],
+    twice: &[u8; Limits::BLOCK_SIZE],
+    bitmap: &[u8; Limits::BLOCK_SIZE],
+    b: u32,
+) -> bool
     requires { ⌜ b < 4096 ⌝ }
     ensures { λ r. ⌜ r ≡ wrong (now (once .entry)) (now (twice .entry)) (now (bitmap .entry)) b ⌝ }
 {
@@ -97,7 +114,11 @@ fn is_wrong(once: &[u8; 512], twice: &[u8; 512], bitmap: &[u8; 512], b: u32) -> 
 }
 
 // Whether all bits are right, told by whole bytes. No byte ends the loop early, so it compiles to vector code.
-fn are_right(once: &[u8; 512], twice: &[u8; 512], bitmap: &[u8; 512]) -> bool
+fn are_right(
+    once: &[u8; Limits::BLOCK_SIZE],
+    twice: &[u8; Limits::BLOCK_SIZE],
+    bitmap: &[u8; Limits::BLOCK_SIZE],
+) -> bool
     ensures { λ r. ⌜ r ≡ rightTo 512 (now (once .entry)) (now (twice .entry)) (now (bitmap .entry)) ⌝ }
 {
     // A slice made of an array tells the proof its length.
@@ -106,7 +127,7 @@ fn are_right(once: &[u8; 512], twice: &[u8; 512], bitmap: &[u8; 512]) -> bool
     let bits: &[u8] = bitmap;
     let mut right = true;
     let mut k: usize = 0;
-    while k < BYTES {
+    while k < Limits::BLOCK_SIZE {
         right = right & ((o[k] == bits[k]) & (t[k] == 0));
         k += 1;
     }
@@ -114,7 +135,11 @@ fn are_right(once: &[u8; 512], twice: &[u8; 512], bitmap: &[u8; 512]) -> bool
 }
 
 // The lowest block whose bit is wrong.
-pub fn lowest_wrong(once: &[u8; 512], twice: &[u8; 512], bitmap: &[u8; 512]) -> Found
+pub fn lowest_wrong(
+    once: &[u8; Limits::BLOCK_SIZE],
+    twice: &[u8; Limits::BLOCK_SIZE],
+    bitmap: &[u8; Limits::BLOCK_SIZE],
+) -> Found
     ensures { λ r. ⌜ r ≡ lowestTo 4096 (wrong (now (once .entry)) (now (twice .entry)) (now (bitmap .entry))) 0 ⌝ }
 {
     known(*once);
@@ -124,7 +149,7 @@ pub fn lowest_wrong(once: &[u8; 512], twice: &[u8; 512], bitmap: &[u8; 512]) -> 
         return Found::Nothing;
     }
     let mut b: u32 = 0;
-    while b < BITS {
+    while b < Limits::BITMAP_BITS {
         if is_wrong(once, twice, bitmap, b) {
             return Found::At(b as usize);
         }

@@ -144,16 +144,11 @@ pub fn staged_in(h: Head) -> usize
 }
 
 // The session that numbers and cells stand for: any stand for one.
-pub fn decode(h: Head, staged: [u32; 32]) -> Session
+pub fn decode(h: Head, staged: [u32; Limits::LOG_LENGTH]) -> Session
     ensures { λ s. ⌜ s ≡ decode h staged ⌝ }
 {
     let phase = phase_in(h);
-    Session {
-        blocks: h.blocks as usize,
-        phase: phase,
-        staged: staged,
-        count: h.count as usize,
-    }
+    Session::with_cells(h.blocks as usize, phase, staged, h.count as usize)
 }
 
 // The numbers of a session on so many blocks, in this phase, with so many cells in use.
@@ -272,7 +267,7 @@ pub fn advanced(answer: Stored) -> CAdvanced
             number,
         } => CAdvanced {
             refusal: 0,
-            block: block as u64,
+            block: block.0 as u64,
             last: flag(last),
             number: number as u64,
         },

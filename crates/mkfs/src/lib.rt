@@ -1,8 +1,8 @@
 // An empty store: all zero but the bitmap.
 use bitmap::clear_bit;
 use bitmap::known;
-use block::DiskBlock;
 use block::store_block;
+use spec::DiskBlock;
 use spec::Limits;
 ghost use mathlib.Core.Path.{_≡_};
 ghost use mathlib.Core.Bool.{true};
@@ -28,7 +28,7 @@ fn clear(bytes: &mut [u8])
 }
 
 // Bits up to `end` become 0, one at a time.
-fn clear_bits(t: &mut [u8; 512], from: u32, end: u32)
+fn clear_bits(t: &mut [u8; Limits::BLOCK_SIZE], from: u32, end: u32)
     requires { ⌜ (42 ≤ from) × (from ≤ end) × (end ≤ 4096) × Cleared (now t) from ⌝ }
     ensures { λ _. ⌜ Cleared (now (t .exit)) end ⌝ }
 {
@@ -41,7 +41,7 @@ fn clear_bits(t: &mut [u8; 512], from: u32, end: u32)
 }
 
 // And whole bytes up to one.
-fn clear_bytes(t: &mut [u8; 512], from: usize, end: usize)
+fn clear_bytes(t: &mut [u8; Limits::BLOCK_SIZE], from: usize, end: usize)
     requires { ⌜ (6 ≤ from) × (from ≤ end) × (end ≤ 512) × Cleared (now t) (8 * from) ⌝ }
     ensures { λ _. ⌜ Cleared (now (t .exit)) (8 * end) ⌝ }
 {
@@ -53,17 +53,17 @@ fn clear_bytes(t: &mut [u8; 512], from: usize, end: usize)
 }
 
 // The bitmap of an empty store of n blocks: zeros from 42 to n-1, ones elsewhere.
-pub fn empty_table(n: u32) -> [u8; 512]
+pub fn empty_table(n: u32) -> [u8; Limits::BLOCK_SIZE]
     requires { ⌜ (42 ≤ n) × (n ≤ 4096) ⌝ }
     ensures { λ t. ⌜ (t ≡ bytesOf (emptyBits n)) × Cleared t n ⌝ }
 {
-    let mut t = [255u8; 512];
+    let mut t = [255u8; Limits::BLOCK_SIZE];
     if n < WHOLE {
-        clear_bits(&mut t, 42, n);
+        clear_bits(&mut t, Limits::DATA_START, n);
         known(t);
         return t;
     }
-    clear_bits(&mut t, 42, WHOLE);
+    clear_bits(&mut t, Limits::DATA_START, WHOLE);
     let bytes = n / 8;
     clear_bytes(&mut t, 6, bytes as usize);
     clear_bits(&mut t, 8 * bytes, n);
@@ -79,5 +79,5 @@ pub fn make_empty(device: &mut [u8])
     let n = device.len() / Limits::BLOCK_SIZE;
     clear(device);
     let table = empty_table(n as u32);
-    store_block(device, DiskBlock(33), &table);
+    store_block(device, DiskBlock(Limits::BITMAP_BLOCK), &table);
 }

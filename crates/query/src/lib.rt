@@ -1,22 +1,19 @@
 // The public calls that only read: session, device and work space stay as they were.
 use bitmap::free_in;
-use block::ByteOffset;
-use block::DiskBlock;
-use block::FileBlock;
 use block::copy_of;
 use block::key_of;
 use checks::Checked;
 use checks::ready;
 use extents::RunOf;
 use file::read_file;
-use inode::NAME_SIZE;
-use inode::RECORD_SIZE;
-use inode::RECORDS_PER_BLOCK;
 use inode::inode_block_in;
 use inode::size_of;
 use lookup::Looked;
 use lookup::look_up;
+use spec::ByteOffset;
 use spec::Counted;
+use spec::DiskBlock;
+use spec::FileBlock;
 use spec::FileRecord;
 use spec::Limits;
 use spec::Phase;
@@ -126,7 +123,7 @@ pub fn free_count_in<'a>(
     match ready(device, work, blocks, phase) {
         Checked::Bad(why) => Counted::Refused(why),
         Checked::Fine => {
-            let table = view_in(device, work, staged, DiskBlock(33));
+            let table = view_in(device, work, staged, DiskBlock(Limits::BITMAP_BLOCK));
             if table.len() == Limits::BLOCK_SIZE {
                 return Counted::Count(free_in(table));
             }
@@ -164,8 +161,8 @@ fn record_of(table: &[u8], i: usize) -> FileRecord
         → now (table .entry) ≡ view (stateOf s device work) (blockOfInode i)
         → (left s device work (recordedOf (r .answer) (r .name) (r .size)) ≡ recordAt (stateOf s device work) i) × Blank (r .answer) (r .name) (r .size)) ⌝ }
 {
-    let at = RECORD_SIZE * (i % RECORDS_PER_BLOCK);
-    let end = at + NAME_SIZE;
+    let at = Limits::INODE_SIZE * (i % Limits::INODES_PER_BLOCK);
+    let end = at + Limits::NAME_SIZE;
     let own = &table[at..end];
     if key_of(own) == 0 {
         return no_file(Recorded::Empty);

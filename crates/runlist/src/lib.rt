@@ -1,5 +1,4 @@
 // The public call that puts the run list of a stretch into a lent list of extents.
-use block::FileBlock;
 use extents::RunOf;
 use extents::count_runs;
 use extents::nth_extent;
@@ -7,6 +6,7 @@ use lookup::Looked;
 use lookup::look_up;
 use spec::Counted;
 use spec::Extent;
+use spec::FileBlock;
 use spec::Refusal;
 use spec::Session;
 use transaction::staged_count;

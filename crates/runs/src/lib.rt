@@ -1,4 +1,5 @@
 // A file's extents in two columns.
+use spec::Limits;
 ghost use mathlib.Core.Path.{_≡_};
 ghost use Prim.Native.Nat.{_+_, _<_};
 ghost use lib.ListN.{length};
@@ -11,7 +12,13 @@ pub struct End {
 }
 
 // c blocks from b on, behind the others: joined to the last extent where that ends at b.
-pub fn push(first: &mut [u32; 512], count: &mut [u32; 512], end: End, b: u32, c: u32) -> End
+pub fn push(
+    first: &mut [u32; Limits::MAX_EXTENTS],
+    count: &mut [u32; Limits::MAX_EXTENTS],
+    end: End,
+    b: u32,
+    c: u32,
+) -> End
     requires { ⌜ (lastCount (columns (now first) (now count) end) + c < 4294967296) × (end .len < 1000000) × (end .next < 1000000000000)
         × (length (now first) ≡ 512) × (length (now count) ≡ 512) ⌝ }
     ensures { λ q. ⌜ Pushed (columns (now (first .entry)) (now (count .entry)) end) b c (columns (now (first .exit)) (now (count .exit)) q) ⌝ }
@@ -23,7 +30,7 @@ pub fn push(first: &mut [u32; 512], count: &mut [u32; 512], end: End, b: u32, c:
             len: at,
             next: next + (c as usize),
         };
-        if at <= 512 {
+        if at <= Limits::MAX_EXTENTS {
             let k = at - 1;
             let n = count[k];
             count[k] = n + c;
@@ -35,7 +42,7 @@ pub fn push(first: &mut [u32; 512], count: &mut [u32; 512], end: End, b: u32, c:
         len: at + 1,
         next: (b as usize) + (c as usize),
     };
-    if at < 512 {
+    if at < Limits::MAX_EXTENTS {
         first[at] = b;
         count[at] = c;
         return then;

@@ -69,7 +69,7 @@ startedOf (started-cases.Stores n) = started n
 
 abbrev pub storedOf : Stored → Answer
 storedOf (stored-cases.Refused r) = refusalOf r
-storedOf (stored-cases.Stored b l n) = stored b l n
+storedOf (stored-cases.Stored b l n) = stored (b .0) l n
 storedOf stored-cases.Idle = idle
 
 abbrev pub countedOf : Counted → Answer

@@ -18,6 +18,10 @@ closedOn N = opened N Closed
 abbrev pub neverOpened : Session
 neverOpened = closedOn 0
 
+-- of these parts: the first `count` of the cells are in use
+abbrev pub withCells : ℕ → Phase → List ℕ → ℕ → Session
+withCells N p cells count = record { blocks = N; phase = p; staged = cells; count = count }
+
 -- the same session in another phase
 abbrev pub inPhase : Session → Phase → Session
 inPhase s p = record { blocks = s .blocks; phase = p; staged = s .staged; count = s .count }

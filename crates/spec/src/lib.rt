@@ -3,7 +3,7 @@ ghost use mathlib.Core.Path.{_≡_};
 ghost use mathlib.Core.List.{[], _∷_, _++_};
 ghost use Prim.Native.Nat.{_<_};
 ghost use lib.ListN.{length};
-ghost use Rattle.spec.specs.Session.{opened, closedOn, neverOpened, inPhase, withStaged, stagedIn};
+ghost use Rattle.spec.specs.Session.{opened, closedOn, neverOpened, withCells, inPhase, withStaged, stagedIn};
 
 // "These limits belong to the store as a whole".
 pub struct Limits;
@@ -15,16 +15,52 @@ impl Limits {
 
     pub const MOST_BLOCKS: usize = 4096;
 
+    // The log: 32 records of 16 bytes in block 0, and as many images.
     pub const LOG_LENGTH: usize = 32;
+
+    pub const LOG_RECORD_SIZE: usize = 16;
 
     pub const WORK_SIZE: usize = 16384;
 
+    // Where the areas begin: "33, 34 to 41, or 42 and up".
+    pub const BITMAP_BLOCK: u32 = 33;
+
+    pub const INODE_START: u32 = 34;
+
+    pub const DATA_START: u32 = 42;
+
+    // The bits of the bitmap, one to a block.
+    pub const BITMAP_BITS: u32 = 4096;
+
+    // "128 file records of 32 bytes, 16 to a block. Bytes 0 to 7 name"
     pub const INODE_COUNT: usize = 128;
+
+    pub const INODE_SIZE: usize = 32;
+
+    pub const INODES_PER_BLOCK: usize = 16;
+
+    pub const NAME_SIZE: usize = 8;
+
+    // "four slots"; "An extent block is 128 slots."
+    pub const SLOT_SIZE: usize = 4;
+
+    pub const SLOTS_PER_INODE: usize = 4;
+
+    pub const SLOTS_PER_NODE: usize = 128;
 
     pub const MAX_FILE_SIZE: usize = 1048576;
 
+    pub const MAX_FILE_BLOCKS: usize = 2048;
+
     pub const MAX_EXTENTS: usize = 512;
 }
+
+// "Byte places in a file, block places in a file and block numbers on the device are three separate counts"
+pub struct ByteOffset(pub usize);
+
+pub struct FileBlock(pub usize);
+
+pub struct DiskBlock(pub u32);
 
 // "A block number's area decides its use: 0, 1 to 32, 33, 34 to 41, or 42 and up."
 pub enum Area {
@@ -83,18 +119,28 @@ impl Session {
         Session::closed_on(0)
     }
 
-    pub fn in_phase(self, phase: Phase) -> Session
-        ensures { λ r. ⌜ r ≡ inPhase self phase ⌝ }
+    // Of these parts: the first `count` of the cells are in use.
+    pub fn with_cells(
+        blocks: usize,
+        phase: Phase,
+        cells: [u32; Limits::LOG_LENGTH],
+        count: usize,
+    ) -> Session
+        ensures { λ r. ⌜ r ≡ withCells blocks phase cells count ⌝ }
     {
-        let blocks = self.blocks;
-        let staged = self.staged;
-        let count = self.count;
         Session {
             blocks: blocks,
             phase: phase,
-            staged: staged,
+            staged: cells,
             count: count,
         }
+    }
+
+    pub fn in_phase(self, phase: Phase) -> Session
+        ensures { λ r. ⌜ r ≡ inPhase self phase ⌝ }
+    {
+        let staged = self.staged;
+        Session::with_cells(self.blocks, phase, staged, self.count)
     }
 }
 
@@ -132,7 +178,7 @@ pub enum Started {
 pub enum Stored {
     Refused(Refusal),
     Stored {
-        block: u32,
+        block: DiskBlock,
         last: bool,
         number: usize,
     },

@@ -1,5 +1,4 @@
 // The public calls of the purse store. Each promise is one equation: what is answered and left is the call's outcome at what was given.
-use block::DiskBlock;
 use block::block_in;
 use checks::Checked;
 use checks::done;
@@ -23,6 +22,7 @@ pub use query::size;
 pub use runlist::run_list;
 use spec::Advanced;
 use spec::Committed;
+use spec::DiskBlock;
 use spec::Finished;
 use spec::Limits;
 use spec::Phase;

@@ -1,7 +1,7 @@
 // The transaction: staged blocks, the working copy of a block, staging.
-use block::DiskBlock;
 use block::block_in;
 use block::store_block;
+use spec::DiskBlock;
 use spec::Limits;
 use spec::Session;
 ghost use mathlib.Core.Path.{_≡_};
@@ -92,7 +92,12 @@ pub fn spot(staged: &[u32], b: DiskBlock) -> usize
 }
 
 // Block b among the staged ones, at its place i: how many cells are in use then. Of every session with these cells.
-pub fn with_block(cells: &mut [u32; 32], count: usize, b: DiskBlock, i: usize) -> usize
+pub fn with_block(
+    cells: &mut [u32; Limits::LOG_LENGTH],
+    count: usize,
+    b: DiskBlock,
+    i: usize,
+) -> usize
     requires { ⌜ (length (now cells) ≡ 32) × (i ≡ spot (take count (now cells)) (b .0)) × (i < 32) ⌝ }
     ensures { λ n. ⌜ ((N : ℕ) (p : Phase) → sessionOf N p (now (cells .exit)) n
         ≡ withStaged (sessionOf N p (now (cells .entry)) count) (blocksWith (take count (now (cells .entry))) (b .0))) × (length (now (cells .exit)) ≡ 32) ⌝ }
@@ -106,7 +111,7 @@ pub fn with_block(cells: &mut [u32; 32], count: usize, b: DiskBlock, i: usize) -
 }
 
 // Block b staged with content x: appended, or its image overwritten; the rest of the work space is unchanged.
-pub fn stage(work: &mut [u8], s: Session, b: DiskBlock, x: &[u8; 512]) -> Session
+pub fn stage(work: &mut [u8], s: Session, b: DiskBlock, x: &[u8; Limits::BLOCK_SIZE]) -> Session
     requires { ⌜ (length (now work) ≡ 16384) × (spot (stagedIn s) (b .0) < 32) ⌝ }
     ensures { λ q. ⌜ ((device : List ℕ) → stateOf q device (now (work .exit))
         ≡ withStaging (stateOf s device (now (work .entry))) (stage (stagedOf (stateOf s device (now (work .entry)))) (put (b .0) (now (x .entry))))) ⌝ }
@@ -117,10 +122,5 @@ pub fn stage(work: &mut [u8], s: Session, b: DiskBlock, x: &[u8; 512]) -> Sessio
     let i = spot(&cells[0..n], b);
     store_block(work, DiskBlock(i as u32), x);
     let count = with_block(&mut cells, s.count, b, i);
-    Session {
-        blocks: s.blocks,
-        phase: phase,
-        staged: cells,
-        count: count,
-    }
+    Session::with_cells(s.blocks, phase, cells, count)
 }

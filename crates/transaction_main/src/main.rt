@@ -1,6 +1,7 @@
 // Runs the transaction's functions: blocks staged, found, overwritten, and seen in the working copy.
-use block::DiskBlock;
 use libc::STDOUT_FILENO;
+use spec::DiskBlock;
+use spec::Limits;
 use spec::Phase;
 use spec::Session;
 use transaction::Place;
@@ -44,7 +45,7 @@ fn count(s: Session) {
 
 fn main() {
     let device = [7u8; 32768];
-    let mut work = [9u8; 16384];
+    let mut work = [9u8; Limits::WORK_SIZE];
     let fresh = Session::opened(64, Phase::Ready);
     count(fresh);
     let one = stage(&mut work, fresh, 34, 1);

@@ -1,11 +1,12 @@
 // The tree of a file walked once: its extents and nodes tested, and their blocks marked.
-use block::DiskBlock;
 use block::block_in;
 use block::in_data;
 use block::load2;
 use marks::mark;
 use marks::mark_run;
+use spec::DiskBlock;
 use spec::Extent;
+use spec::Limits;
 ghost use mathlib.Core.Path.{_≡_};
 ghost use mathlib.Core.List.{[], _∷_};
 ghost use Prim.Native.Nat.{_+_, _*_, _-_, _≤_, _<_, min};
@@ -18,14 +19,6 @@ ghost use Rattle.inode.specs.Walk.{slotIn};
 ghost use Rattle.marks.specs.Marks.{Kept};
 ghost use Rattle.tree.specs.Runs.{tailAt, withExtent, overExtents, overNodes, noRun, noNodes};
 ghost use Rattle.tree.specs.Reached.{usedFrom, blocksFrom, treeFrom};
-
-pub const SLOTS_PER_INODE: usize = 4;
-
-pub const SLOTS_PER_NODE: usize = 128;
-
-const SLOT_SIZE: usize = 4;
-
-const MAX_FILE_BLOCKS: usize = 2048;
 
 // What a walk over the extents of a file has found so far: whether they all lie within 42 to N-1, and apart; where the last one ends;
 // how many there are, and blocks in them; and the file's last block, where its size ends within it.
@@ -130,17 +123,17 @@ fn slot_in(block: &[u8], at: usize) -> Extent
 fn to_mark(count: u32, before: usize) -> u32
     ensures { λ r. ⌜ r ≡ min count (2048 - before) ⌝ }
 {
-    if MAX_FILE_BLOCKS <= before {
+    if Limits::MAX_FILE_BLOCKS <= before {
         return 0;
     }
-    let room = (MAX_FILE_BLOCKS - before) as u32;
+    let room = (Limits::MAX_FILE_BLOCKS - before) as u32;
     if count < room { count } else { room }
 }
 
 // One more extent, its blocks marked.
 fn take_extent(
-    once: &mut [u8; 512],
-    twice: &mut [u8; 512],
+    once: &mut [u8; Limits::BLOCK_SIZE],
+    twice: &mut [u8; Limits::BLOCK_SIZE],
     blocks: usize,
     k: usize,
     r: Run,
@@ -156,8 +149,8 @@ fn take_extent(
 
 // The used ones of n slots as further extents, their blocks marked.
 pub fn extents_over(
-    once: &mut [u8; 512],
-    twice: &mut [u8; 512],
+    once: &mut [u8; Limits::BLOCK_SIZE],
+    twice: &mut [u8; Limits::BLOCK_SIZE],
     block: &[u8],
     blocks: usize,
     k: usize,
@@ -181,7 +174,7 @@ pub fn extents_over(
         }
         let u = take_extent(once, twice, blocks, k, q, e);
         q = u;
-        p += SLOT_SIZE;
+        p += Limits::SLOT_SIZE;
         left -= 1;
     }
     q
@@ -195,7 +188,7 @@ pub fn are_packed(block: &[u8], at: usize, n: usize, many: usize) -> bool
     let mut unused = true;
     let mut j = many;
     while j < n {
-        let e = slot_in(block, at + SLOT_SIZE * j);
+        let e = slot_in(block, at + Limits::SLOT_SIZE * j);
         unused = unused & ((e.first == 0) & (e.count == 0));
         j += 1;
     }
@@ -204,8 +197,8 @@ pub fn are_packed(block: &[u8], at: usize, n: usize, many: usize) -> bool
 
 // One more slot of a record, which names a node if it is used.
 fn with_node(
-    once: &mut [u8; 512],
-    twice: &mut [u8; 512],
+    once: &mut [u8; Limits::BLOCK_SIZE],
+    twice: &mut [u8; Limits::BLOCK_SIZE],
     device: &[u8],
     blocks: usize,
     k: usize,
@@ -225,9 +218,9 @@ fn with_node(
     let old = f.run;
     mark(once, twice, blocks, e.first);
     let node = block_at(device, e.first);
-    let r = extents_over(once, twice, node, blocks, k, 0, SLOTS_PER_NODE, old);
+    let r = extents_over(once, twice, node, blocks, k, 0, Limits::SLOTS_PER_NODE, old);
     let many = r.extents - old.extents;
-    let packed = are_packed(node, 0, SLOTS_PER_NODE, many);
+    let packed = are_packed(node, 0, Limits::SLOTS_PER_NODE, many);
     let inside = in_data(blocks, DiskBlock(e.first));
     let count = r.blocks - old.blocks;
     Nodes {
@@ -235,7 +228,7 @@ fn with_node(
         sound: f.sound & (inside & packed),
         agree: f.agree & (e.count as usize == count),
         filled: f.filled & f.full,
-        full: many == SLOTS_PER_NODE,
+        full: many == Limits::SLOTS_PER_NODE,
         tops: f.tops + 1,
         counts: f.counts + e.count as usize,
     }
@@ -258,8 +251,8 @@ fn no_nodes() -> Nodes
 
 // The nodes that the used ones of a record's four slots name, they and the blocks below them marked.
 pub fn nodes_over(
-    once: &mut [u8; 512],
-    twice: &mut [u8; 512],
+    once: &mut [u8; Limits::BLOCK_SIZE],
+    twice: &mut [u8; Limits::BLOCK_SIZE],
     device: &[u8],
     table: &[u8],
     blocks: usize,
@@ -276,14 +269,14 @@ pub fn nodes_over(
     let mut more = true;
     let mut packed = true;
     let mut p = at;
-    let mut left = SLOTS_PER_INODE;
+    let mut left = Limits::SLOTS_PER_INODE;
     while 0 < left {
         let e = slot_in(table, p);
         let u = with_node(once, twice, device, blocks, k, f, more, e);
         f = u;
         more = more & (e.count != 0);
         packed = packed & (more | ((e.first == 0) & (e.count == 0)));
-        p += SLOT_SIZE;
+        p += Limits::SLOT_SIZE;
         left -= 1;
     }
     Tops {

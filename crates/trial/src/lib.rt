@@ -1,6 +1,6 @@
 // What the programs that run functions on concrete values share.
-use block::DiskBlock;
 use libc::STDOUT_FILENO;
+use spec::DiskBlock;
 use spec::Limits;
 use spec::Session;
 
@@ -12,7 +12,7 @@ pub fn number(n: u64) {
 
 // Block b staged with 512 times a byte, where there is room.
 pub fn stage(work: &mut [u8], s: Session, b: u32, byte: u8) -> Session {
-    let x = [byte; 512];
+    let x = [byte; Limits::BLOCK_SIZE];
     if work.len() != Limits::WORK_SIZE {
         return s;
     }

@@ -1,8 +1,6 @@
 // The public calls that change files: tests in the order of the numbers, the plan, then one call below.
 use alloc::Draft;
 use alloc::draft_of;
-use block::ByteOffset;
-use block::DiskBlock;
 use block::copy_of;
 use change::Outline;
 use change::apply;
@@ -22,6 +20,8 @@ use lookup::look_up;
 use lookup::look_up_new;
 use lookup::look_up_pair;
 use lookup::look_up_sized;
+use spec::ByteOffset;
+use spec::DiskBlock;
 use spec::Finished;
 use spec::Limits;
 use spec::Phase;
@@ -45,7 +45,7 @@ ghost use Rattle.update.specs.Records.{Differs, newRecord, recordStores,
 fn change_record(
     device: &[u8],
     work: &mut [u8],
-    cells: &mut [u32; 32],
+    cells: &mut [u32; Limits::LOG_LENGTH],
     many: usize,
     i: usize,
     bytes: &[u8],
@@ -67,11 +67,11 @@ fn change_record(
 }
 
 // The record of a new file: its name, then zeros.
-fn new_record(name: &[u8]) -> [u8; 32]
+fn new_record(name: &[u8]) -> [u8; Limits::INODE_SIZE]
     requires { ⌜ length (now name) ≡ 8 ⌝ }
     ensures { λ q. ⌜ q ≡ newRecord (now (name .entry)) ⌝ }
 {
-    let mut q = [0u8; 32];
+    let mut q = [0u8; Limits::INODE_SIZE];
     let mut k: usize = 0;
     while k < 8 {
         q[k] = name[k];
@@ -86,7 +86,7 @@ pub fn create_in(
     work: &mut [u8],
     blocks: usize,
     phase: Phase,
-    cells: &mut [u32; 32],
+    cells: &mut [u32; Limits::LOG_LENGTH],
     many: usize,
     name: &[u8],
 ) -> Changed
@@ -121,7 +121,7 @@ pub fn rename_in(
     work: &mut [u8],
     blocks: usize,
     phase: Phase,
-    cells: &mut [u32; 32],
+    cells: &mut [u32; Limits::LOG_LENGTH],
     many: usize,
     name: &[u8],
     new: &[u8],
@@ -158,7 +158,7 @@ pub fn rename(device: &[u8], work: &mut [u8], session: Session, name: &[u8], new
 }
 
 // A draft as the change of a file: with the bytes of its record, and its size before and after.
-fn outline_of(d: Draft, bytes: [u8; 32], old: usize, size: usize) -> Outline
+fn outline_of(d: Draft, bytes: [u8; Limits::INODE_SIZE], old: usize, size: usize) -> Outline
     ensures { λ o. ⌜ o ≡ outlineOf d bytes old size ⌝ }
 {
     let end = d.end;
@@ -181,7 +181,7 @@ pub fn remove_in(
     work: &mut [u8],
     blocks: usize,
     phase: Phase,
-    cells: &mut [u32; 32],
+    cells: &mut [u32; Limits::LOG_LENGTH],
     many: usize,
     name: &[u8],
 ) -> Changed
@@ -193,9 +193,9 @@ pub fn remove_in(
     match look_up(device, work, blocks, phase, staged, name) {
         Looked::Bad(why) => refused_with(many, why),
         Looked::At(i) => {
-            let mut t = copy_of(view_in(device, work, staged, DiskBlock(33)));
-            let mut first = [0u32; 512];
-            let mut count = [0u32; 512];
+            let mut t = copy_of(view_in(device, work, staged, DiskBlock(Limits::BITMAP_BLOCK)));
+            let mut first = [0u32; Limits::MAX_EXTENTS];
+            let mut count = [0u32; Limits::MAX_EXTENTS];
             let wanted: usize = 0;
             let d = draft_of(
                 &mut t,
@@ -207,7 +207,7 @@ pub fn remove_in(
                 i,
                 wanted,
             );
-            let o = outline_of(d, [0u8; 32], 0, 0);
+            let o = outline_of(d, [0u8; Limits::INODE_SIZE], 0, 0);
             let none = &name[0..0];
             apply(device, work, cells, many, i, &t, &first, &count, o, 0, none)
         }
@@ -243,7 +243,7 @@ fn wide(n: u32) -> usize
 fn resize(
     device: &[u8],
     work: &mut [u8],
-    cells: &mut [u32; 32],
+    cells: &mut [u32; Limits::LOG_LENGTH],
     many: usize,
     i: usize,
     size: usize,
@@ -256,9 +256,9 @@ fn resize(
 {
     let l: &[u32] = cells;
     let staged = &l[0..staged_in(many)];
-    let mut t = copy_of(view_in(device, work, staged, DiskBlock(33)));
-    let mut first = [0u32; 512];
-    let mut count = [0u32; 512];
+    let mut t = copy_of(view_in(device, work, staged, DiskBlock(Limits::BITMAP_BLOCK)));
+    let mut first = [0u32; Limits::MAX_EXTENTS];
+    let mut count = [0u32; Limits::MAX_EXTENTS];
     let wanted = blocks_for(size);
     let d = draft_of(
         &mut t,
@@ -315,7 +315,7 @@ pub fn write_in(
     work: &mut [u8],
     blocks: usize,
     phase: Phase,
-    cells: &mut [u32; 32],
+    cells: &mut [u32; Limits::LOG_LENGTH],
     many: usize,
     name: &[u8],
     x: ByteOffset,
@@ -372,7 +372,7 @@ pub fn set_size_in(
     work: &mut [u8],
     blocks: usize,
     phase: Phase,
-    cells: &mut [u32; 32],
+    cells: &mut [u32; Limits::LOG_LENGTH],
     many: usize,
     name: &[u8],
     size: usize,

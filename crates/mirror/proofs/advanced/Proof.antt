@@ -29,7 +29,7 @@ returns : tie.Need-returns
 returns c = advanced-refused (c .before .before .answer .given .0 .0) _ (c .refusal-number .ensures) ∙ ap (λ (x : Stored). advancedOf (storedOf x)) (sym (c .before .before .answer .given .1))
 
 returns-2 : tie.Need-returns-2
-returns-2 c = advanced-stored _ _ _ _ (c .flag .ensures) ∙ ap (λ (x : Stored). advancedOf (storedOf x)) (sym (c .before .before .answer2 .given .1))
+returns-2 c = advanced-stored _ _ _ _ (c .flag .ensures) ∙ ap (λ (x : Stored). advancedOf (storedOf x)) (sym (c .before .before .before .answer2 .given .1))
 
 returns-3 : tie.Need-returns-3
 returns-3 c = advanced-idle ∙ ap (λ (x : Stored). advancedOf (storedOf x)) (sym (c .enum-told .given .1))

@@ -64,7 +64,7 @@ use Rattle.spec.proofs.Counted as K
 use Rattle.spec.proofs.Counted.Laws as K′
 use Rattle.spec.proofs.Extent as E
 use Rattle.spec.proofs.Extent.Laws as E′
-use Rattle.block.specs.declared.FileBlock.{FileBlock}
+use Rattle.spec.specs.declared.FileBlock.{FileBlock}
 use Rattle.block.proofs.FileBlock as F
 use Rattle.block.proofs.FileBlock.Laws as F′
 use Rattle.runlist.specs.Lists.{countsOf, countOk, namedRuns, manyOf, filled}

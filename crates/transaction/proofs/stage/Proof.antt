@@ -47,9 +47,12 @@ with-block-requires c κs = (search needs, at (c .before .before .before .before
 same-length : tie.Need-same-length
 same-length c = search needs
 
+with-cells-requires : tie.Need-with-cells-requires
+with-cells-requires c κs = search needs
+
 returns : tie.Need-returns
 unfolding stagedIn
-returns c = λ device. stage-leaves (c .before .before .before .before .before .before .before .before .before .before .before .before .args .s) _ device _ _ _ _ _ (at (c .before .before .before .before .before .before)) (c .before .before .before .before .store-block .ensures) (c .with-block .ensures .0 (c .before .before .before .before .before .before .before .before .before .before .before .before .args .s .blocks) (c .before .before .before .before .before .before .before .before .before .before .before .before .args .s .phase))
+returns c = λ device. rw (c .with-cells .ensures) (stage-leaves (c .before .before .before .before .before .before .before .before .before .before .before .before .before .args .s) _ device _ _ _ _ _ (at (c .before .before .before .before .before .before .before)) (c .before .before .before .before .before .store-block .ensures) (c .before .with-block .ensures .0 (c .before .before .before .before .before .before .before .before .before .before .before .before .before .args .s .blocks) (c .before .before .before .before .before .before .before .before .before .before .before .before .before .args .s .phase)))
 
 pub stage-spec : {M : Type 1} → statement M
-stage-spec = tie.close (tie.spec staged-count-requires sub-spot part-spot-start part-spot-end spot-requires cast-t18 store-block-requires with-block-requires same-length returns)
+stage-spec = tie.close (tie.spec staged-count-requires sub-spot part-spot-start part-spot-end spot-requires cast-t18 store-block-requires with-block-requires with-cells-requires same-length returns)

@@ -3,6 +3,7 @@ use block::key_of;
 use block::load;
 use block::load4;
 use block::low;
+use block::place_in_block;
 use spec::DiskBlock;
 use spec::Extent;
 use spec::Limits;
@@ -41,13 +42,6 @@ pub fn table_block(i: usize) -> u32
     ensures { λ r. ⌜ r ≡ blockOfInode i ⌝ }
 {
     Limits::INODE_START + (i / Limits::INODES_PER_BLOCK) as u32
-}
-
-// Where record i begins in its block.
-fn place_in_block(i: usize) -> usize
-    ensures { λ r. ⌜ (r ≡ 32 * (i % 16)) × (r + 32 ≤ 512) ⌝ }
-{
-    Limits::INODE_SIZE * (i % Limits::INODES_PER_BLOCK)
 }
 
 // The working copy of the table's block that holds record i.

@@ -50,3 +50,6 @@ pub mod Exact
 pub mod Tie
 pub mod Tampered
 pub mod OneStore
+pub mod Starts
+pub mod CallRuns
+pub mod OneReply

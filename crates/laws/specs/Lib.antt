@@ -53,3 +53,4 @@ pub mod OneStore
 pub mod Starts
 pub mod CallRuns
 pub mod OneReply
+pub mod SameVolume

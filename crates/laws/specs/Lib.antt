@@ -54,3 +54,4 @@ pub mod Starts
 pub mod CallRuns
 pub mod OneReply
 pub mod SameVolume
+pub mod OwnBlocks

@@ -55,3 +55,4 @@ pub mod CallRuns
 pub mod OneReply
 pub mod SameVolume
 pub mod OwnBlocks
+pub mod SameChange

@@ -56,3 +56,4 @@ pub mod OneReply
 pub mod SameVolume
 pub mod OwnBlocks
 pub mod SameChange
+pub mod Determined

@@ -1,8 +1,8 @@
 -- The cut rule determines the store: two stores that have it, over bytes, leave the same after every call of every list. Assumes nothing.
-use Prim.Native.Nat.{ℕ, _+_, _*_, _≤_, _<_}
+use Prim.Native.Nat.{ℕ, _+_, _≤_, _<_}
 use mathlib.Core.Path.{_≡_, refl, sym, ap, ap₂, _∙_, subst}
-use mathlib.Core.Bool.{Bool, true, false, cond, not, _&&_, _||_, true≢false, false≢true}
-use mathlib.Core.Logic.{_⊎_, inl, inr}
+use mathlib.Core.Bool.{Bool, true, false, not, _&&_, _||_, true≢false}
+use mathlib.Core.Logic.{inl, inr}
 use mathlib.Core.List.{List, [], _∷_}
 use mathlib.Core.Option.{Option, none, some, Option·map, Option·some-ne-none, Option·some-injective}
 use lib.Dec.{T, eqb, leb}
@@ -11,30 +11,29 @@ use native.Mathlib.Omega.{arith}
 use borrow.Author.Tests.{lt-leb}
 use Rattle.spec.specs.Layout.{blockSize, inodeCount, mostBlocks}
 use Rattle.spec.specs.Bytes.{found, all, distinct, place}
-use Rattle.spec.specs.Disk.{Disk, Slice, withBlock, isTarget}
+use Rattle.spec.specs.Disk.{Slice, withBlock, isAllowed, isTarget}
 use Rattle.spec.specs.Inode.{isName, isEmpty, nameAt, find, runs}
 use Rattle.spec.specs.Map.{filesOf}
 use Rattle.spec.specs.declared.Refusal.{Refusal}
-use Rattle.spec.specs.declared.Session.{Session}
 use Rattle.spec.specs.Session.{opened, stagedIn, withStaged}
 use Rattle.spec.specs.Answers.{Answer, stored, counted, file, noRun, run, refusalOf, isRefused}
 use Rattle.spec.specs.Transaction.{State, view, BlockStore}
-use Rattle.spec.specs.Calls.{Outcome, outcome, readInto, listInto, Change, Query, Read, Size, Free, Record, RunList, NthExtent, Call, Format, Open, Advance, Commit, Abort, Do, Ask}
+use Rattle.spec.specs.Calls.{Outcome, outcome, readInto, listInto, Change, Query, Read, Size, Free, Record, RunList, NthExtent, Call, Format, Open, Advance, Commit, Abort, Do, Ask, step}
 use Rattle.spec.specs.Plain.{Plain, Mode, Closed, Ready, Committing, Recovering, phaseOf, follow}
 use Rattle.spec.specs.Sentences.{fileAt}
 use Rattle.spec.specs.Refusals.{isReadyMode, Test, firstFailed, tests, due}
 use Rattle.spec.specs.CutRule.{Event, call, cut, Both, bufferOf, listOf, refusalIn, Moment, Stores, Advances, Commits, Changes, Says, Accepted, next, after, Always, Each, Rightly, Starts, startOf, CutRule}
 use Rattle.lists.specs.Tests.{both-true, not-both}
 use Rattle.log.specs.Targets.{holds}
-use Rattle.log.specs.Stores.{Whole}
 use Rattle.crash.specs.Moments.{accepted-is}
 use Rattle.crash.specs.Theorem.{bounds}
 use Rattle.laws.specs.Volume.{find-some}
 use Rattle.laws.specs.Reached.{name-used, files-unnamed}
-use Rattle.laws.specs.Good.{Good}
 use Rattle.laws.specs.OneReply.{refusal-is}
 use Rattle.laws.specs.SameVolume.{good-of}
 use Rattle.laws.specs.SameChange.{staged-same, work-same}
+use Rattle.laws.specs.StepBytes.{ViewInBytes, step-bytes}
+use Rattle.laws.specs.Files.{crash-safe}
 
 -- ---- what a call leaves
 
@@ -151,10 +150,6 @@ module _ (N : ℕ) (b : Both) where
 
 -- ---- one call
 
--- the working copy is one of bytes: S1 to S8 settle it (`Good`)
-abbrev InBytes : ℕ → Both → Type 0
-InBytes N b = b .plain .mode ≡ Ready → Whole (view (b .store)) × Good N (view (b .store))
-
 state-is : (s t : State) → s .session ≡ t .session → s .device ≡ t .device → s .work ≡ t .work → s ≡ t
 state-is s t p q r = λ j. record { session = p j; device = q j; work = r j }
 
@@ -166,8 +161,8 @@ no-due (some r) h = absurd (Option·some-ne-none (refusalOf r) h)
 session-alike : (N : ℕ) (p : Plain) (s t : State) → Moment N (record { store = s; plain = p }) → Moment N (record { store = t; plain = p }) → stagedIn (s .session) ≡ stagedIn (t .session) → s .session ≡ t .session
 session-alike N p s t m n e = m .session ∙ ap (withStaged (opened (p .blocks) (phaseOf p))) e ∙ sym (n .session)
 
-module _ (S R : State → Call → Outcome) (N : ℕ) (most : N ≤ mostBlocks) (b : Both) (m : Moment N b) (z : InBytes N b) (c : Call)
-    (mS : Moment N (next S N b (call c))) (mR : Moment N (next R N b (call c))) (zS : InBytes N (next S N b (call c))) (zR : InBytes N (next R N b (call c)))
+module _ (S R : State → Call → Outcome) (N : ℕ) (most : N ≤ mostBlocks) (b : Both) (m : Moment N b) (z : ViewInBytes N b) (c : Call)
+    (mS : Moment N (next S N b (call c))) (mR : Moment N (next R N b (call c))) (zS : ViewInBytes N (next S N b (call c))) (zR : ViewInBytes N (next R N b (call c)))
   where
     abbrev o : Outcome
     o = S (b .store) c
@@ -180,8 +175,8 @@ module _ (S R : State → Call → Outcome) (N : ℕ) (most : N ≤ mostBlocks) 
       mR′ : Moment N (record { store = p .after; plain = follow N (b .plain) c (o .answer) })
       mR′ = subst (λ (a : Answer). Moment N (record { store = p .after; plain = follow N (b .plain) c a })) (sym answers) mR
 
-      zR′ : InBytes N (record { store = p .after; plain = follow N (b .plain) c (o .answer) })
-      zR′ = subst (λ (a : Answer). InBytes N (record { store = p .after; plain = follow N (b .plain) c a })) (sym answers) zR
+      zR′ : ViewInBytes N (record { store = p .after; plain = follow N (b .plain) c (o .answer) })
+      zR′ = subst (λ (a : Answer). ViewInBytes N (record { store = p .after; plain = follow N (b .plain) c a })) (sym answers) zR
 
       left-alike : stagedIn (o .after .session) ≡ stagedIn (p .after .session) → o .after .device ≡ p .after .device → o .after .work ≡ p .after .work
           → outcome (o .after) (o .answer) ≡ outcome (p .after) (p .answer)
@@ -210,8 +205,8 @@ module _ (S R : State → Call → Outcome) (N : ℕ) (most : N ≤ mostBlocks) 
         (x .device ∙ sym (y .device))
         (work-same N most b d (v .0) (v .1 .sound) o p x y (u .0) (w .0) (u .1) (w .1) maps e)
 
-module _ (S R : State → Call → Outcome) (N : ℕ) (most : N ≤ mostBlocks) (b : Both) (m : Moment N b) (z : InBytes N b) where
-  accepted-alike : (c : Call) → Moment N (next S N b (call c)) → Moment N (next R N b (call c)) → InBytes N (next S N b (call c)) → InBytes N (next R N b (call c))
+module _ (S R : State → Call → Outcome) (N : ℕ) (most : N ≤ mostBlocks) (b : Both) (m : Moment N b) (z : ViewInBytes N b) where
+  accepted-alike : (c : Call) → Moment N (next S N b (call c)) → Moment N (next R N b (call c)) → ViewInBytes N (next S N b (call c)) → ViewInBytes N (next R N b (call c))
       → due N (b .plain) (b .store) c ≡ none → Accepted N b c (S (b .store) c) → Accepted N b c (R (b .store) c) → leaves c (S (b .store) c) ≡ leaves c (R (b .store) c)
   accepted-alike Format mS mR zS zR d x y = x ∙ sym y
   accepted-alike Open mS mR zS zR d x y = x ∙ sym y
@@ -224,7 +219,7 @@ module _ (S R : State → Call → Outcome) (N : ℕ) (most : N ≤ mostBlocks) 
   accepted-alike (Ask q) mS mR zS zR d x y = says-alike N b (query-ready N (b .plain) (b .store) q d) m q (S (b .store) (Ask q)) (R (b .store) (Ask q)) x y
 
   -- at one moment, two stores of which the claim holds there leave the same
-  one-call : (c : Call) → Moment N (next S N b (call c)) → Moment N (next R N b (call c)) → InBytes N (next S N b (call c)) → InBytes N (next R N b (call c))
+  one-call : (c : Call) → Moment N (next S N b (call c)) → Moment N (next R N b (call c)) → ViewInBytes N (next S N b (call c)) → ViewInBytes N (next R N b (call c))
       → Rightly S N b c → Rightly R N b c → leaves c (S (b .store) c) ≡ leaves c (R (b .store) c)
   one-call c mS mR zS zR x y = go (isRefused (S (b .store) c .answer)) refl (isRefused (R (b .store) c .answer)) refl
     where
@@ -260,7 +255,7 @@ pub record Same (S R : State → Call → Outcome) (N : ℕ) (b : Both) (es : Li
 
 module _ (S R : State → Call → Outcome) (N : ℕ) (most : N ≤ mostBlocks) where
   alike : (es : List Event) (b : Both) → Always S N (Moment N) b es → Always R N (Moment N) b es → Each S N (Rightly S N) b es → Each R N (Rightly R N) b es
-      → Always S N (InBytes N) b es → Always R N (InBytes N) b es → Same S R N b es
+      → Always S N (ViewInBytes N) b es → Always R N (ViewInBytes N) b es → Same S R N b es
   alike [] b mS mR rS rR zS zR = record { calls = refl; ends = refl }
   alike (cut w ∷ es) b mS mR rS rR zS zR =
       let ih = alike es (next S N b (cut w)) (mS .1) (mR .1) rS rR (zS .1) (zR .1) in
@@ -270,7 +265,7 @@ module _ (S R : State → Call → Outcome) (N : ℕ) (most : N ≤ mostBlocks) 
       let nR = next R N b (call c) in
       let one = one-call S R N most b (mS .0) (zS .0) c
       (always-now S N (Moment N) nS es (mS .1)) (always-now R N (Moment N) nR es (mR .1))
-      (always-now S N (InBytes N) nS es (zS .1)) (always-now R N (InBytes N) nR es (zR .1)) (rS .0) (rR .0)
+      (always-now S N (ViewInBytes N) nS es (zS .1)) (always-now R N (ViewInBytes N) nR es (zR .1)) (rS .0) (rR .0)
       in
       let s : S (b .store) c .after ≡ R (b .store) c .after =
       sym (leaves-after c (S (b .store) c)) ∙ ap (λ (o : Outcome). o .after) one ∙ leaves-after c (R (b .store) c)
@@ -280,9 +275,56 @@ module _ (S R : State → Call → Outcome) (N : ℕ) (most : N ≤ mostBlocks) 
       in
       let n : nS ≡ nR = ap₂ (λ (s : State) (a : Answer). record { store = s; plain = follow N (b .plain) c a }) s a in
       let ih = alike es nS (mS .1) (subst (λ (x : Both). Always R N (Moment N) x es) (sym n) (mR .1)) (rS .1) (subst (λ (x : Both). Each R N (Rightly R N) x es) (sym n) (rR .1))
-      (zS .1) (subst (λ (x : Both). Always R N (InBytes N) x es) (sym n) (zR .1))
+      (zS .1) (subst (λ (x : Both). Always R N (ViewInBytes N) x es) (sym n) (zR .1))
       in
       record {
         calls = ap₂ (λ (o : Outcome) (os : List Outcome). o ∷ os) one (ih .calls ∙ ap (λ (x : Both). left R N x es) n);
         ends = ih .ends ∙ ap (λ (x : Both). after R N x es) n;
       }
+
+-- ---- the claim determines the store
+
+-- as every byte slice has: blocks of 512 bytes, each byte below 256. The model's blocks are lists of numbers, and the sentences say nothing of others.
+pub record IsBytes (x : Slice) : Type 0 where
+  pub whole : (n : ℕ) → length (x .block n) ≡ blockSize
+  pub bytes : (n i : ℕ) → getD (x .block n) i 0 < 256
+
+pub record OverBytes (b : Both) : Type 0 where
+  pub device : IsBytes (b .store .device)
+  pub work : IsBytes (b .store .work)
+
+view-by : (P : List ℕ → Type 0) (s : State) → ((n : ℕ) → P (s .device .block n)) → ((n : ℕ) → P (s .work .block n)) → (n : ℕ) → P (view s n)
+unfolding view
+view-by P s d w n = go (place n (stagedIn (s .session)))
+  where
+    go : (o : Option ℕ) → P (found o (s .device .block n) (s .work .block))
+    go none = d n
+    go (some k) = w k
+
+over-bytes : (N : ℕ) (b : Both) → Moment N b → OverBytes b → ViewInBytes N b
+over-bytes N b m z ready = (
+  view-by (λ (xs : List ℕ). length xs ≡ blockSize) (b .store) (z .device .whole) (z .work .whole),
+  good-of N (view (b .store)) (view-by (λ (xs : List ℕ). (i : ℕ) → getD xs i 0 < 256) (b .store) (z .device .bytes) (z .work .bytes)) (m .view-sound ready),
+)
+
+always-both : (S : State → Call → Outcome) (N : ℕ) (P Q W : Both → Type 0) → ((b : Both) → P b → Q b → W b) → (es : List Event) (b : Both) → Always S N P b es → Always S N Q b es → Always S N W b es
+always-both S N P Q W f [] b p q = f b p q
+always-both S N P Q W f (e ∷ es) b p q = (f b (p .0) (q .0), always-both S N P Q W f es (next S N b e) (p .1) (q .1))
+
+module _ (S : State → Call → Outcome) (rule : CutRule S) (N : ℕ) (s : State) (start : Starts N s) (es : List Event) (bytes : Always S N OverBytes (startOf s) es) where
+  -- a store that has the cut rule, over bytes, is `step`: along every list each call leaves what `step` leaves, and store and plain store are those of `step`
+  pub determined : Same S step N (startOf s) es
+  determined =
+      let x = rule .survives N s start es in
+      let y = crash-safe .survives N s start es in
+      let most = bounds N (s .device .size) (holds (isAllowed (s .device .size)) (start .fits)) (start .blocks) .1 in
+      alike S step N most es (startOf s) (x .moments) (y .moments) (x .calls) (y .calls)
+      (always-both S N (Moment N) OverBytes (ViewInBytes N) (over-bytes N) es (startOf s) (x .moments) bytes) (step-bytes N s start es)
+
+-- so any two such stores are the same
+pub same-stores : (S R : State → Call → Outcome) → CutRule S → CutRule R → (N : ℕ) (s : State) → Starts N s → (es : List Event)
+    → Always S N OverBytes (startOf s) es → Always R N OverBytes (startOf s) es → Same S R N (startOf s) es
+same-stores S R x y N s h es p q =
+    let a = determined S x N s h es p in
+    let b = determined R y N s h es q in
+    record { calls = a .calls ∙ sym (b .calls); ends = a .ends ∙ sym (b .ends) }

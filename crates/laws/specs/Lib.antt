@@ -56,4 +56,5 @@ pub mod OneReply
 pub mod SameVolume
 pub mod OwnBlocks
 pub mod SameChange
+pub mod StepBytes
 pub mod Determined

@@ -1,15 +1,15 @@
 -- "A call stages": the bit table, the record's block and blocks that the file then reaches, and no block of another file. From the sentences alone. Assumes nothing.
-use Prim.Native.Nat.{ℕ, _+_, _*_, _-_, _/_, _%_, _≤_, _<_, max}
-use mathlib.Core.Path.{_≡_, refl, sym, ap, _∙_, subst}
+use Prim.Native.Nat.{ℕ, _+_, _-_, _/_, _%_, _≤_, _<_, max}
+use mathlib.Core.Path.{_≡_, refl, sym, _∙_, subst}
 use mathlib.Core.Bool.{Bool, true, false, not, _&&_, _||_, false≢true}
 use mathlib.Core.Logic.{_⊎_, inl, inr}
-use mathlib.Core.List.{List, [], _++_}
+use mathlib.Core.List.{List, _++_}
 use lib.Dec.{eqb, ltb}
 use lib.ListN.{length, take, drop, getD}
 use native.Mathlib.Omega.{arith}
 use borrow.Author.Tests.{eqb-true, eqb-false, not-true}
-use Rattle.spec.specs.Layout.{blockSize, bitmapBlock, inodeStart, inodesPerBlock, inodeCount, dataStart}
-use Rattle.spec.specs.Bytes.{any, member, occurs, same, upFrom, quotientUp}
+use Rattle.spec.specs.Layout.{blockSize, bitmapBlock, inodeCount, dataStart}
+use Rattle.spec.specs.Bytes.{member, occurs, same, upFrom, quotientUp}
 use Rattle.spec.specs.Disk.{Disk}
 use Rattle.spec.specs.Inode.{blockOfInode, inodeBytes, inodeAt, isEmpty, nodesOf, dataOf, reachedFrom, reached}
 use Rattle.spec.specs.Calls.{Change, Create, Remove, Rename, Write, SetSize}
@@ -22,7 +22,7 @@ use Rattle.log.specs.Staging.{member-keep}
 use Rattle.bitmap.proofs.Laws.{occurs-append}
 use Rattle.laws.specs.Soundness.{Inside}
 use Rattle.laws.specs.Volume.{bitCount, VolumeSound}
-use Rattle.laws.specs.Reached.{reached-empty, reached-used, reached-one, reach-inside, reach-apart}
+use Rattle.laws.specs.Reached.{reached-used, reached-one, reach-inside, reach-apart}
 use Rattle.laws.specs.Records.{bare-data, bare-nodes, zero-bare}
 
 -- what a record tells is what it reaches

@@ -1,7 +1,7 @@
 -- The claim about a change settles the work space: two outcomes of which it holds, with sound working copies of bytes and one map, have the same images. Assumes nothing.
-use Prim.Native.Nat.{ℕ, zero, suc, _+_, _*_, _-_, _/_, _≤_, _<_}
+use Prim.Native.Nat.{ℕ, zero, suc, _+_, _-_, _≤_, _<_}
 use mathlib.Core.Path.{_≡_, refl, sym, ap, ap₂, _∙_, subst, fun-ext}
-use mathlib.Core.Bool.{Bool, true, false, cond, not, _&&_, _||_, false≢true, true≢false}
+use mathlib.Core.Bool.{Bool, true, false, cond, not, _||_, false≢true, true≢false}
 use mathlib.Core.Logic.{_⊎_, inl, inr}
 use mathlib.Core.List.{List, [], _∷_, _++_}
 use mathlib.Core.Option.{Option, none, some, Option·some-injective, Option·some-ne-none}
@@ -10,13 +10,13 @@ use lib.ListN.{length, getD}
 use native.Mathlib.Nat.{add-zero, zero-add}
 use native.Mathlib.Omega.{arith}
 use borrow.Author.Tests.{eqb-true, eqb-false, ne-eqb, eq-eqb, not-true}
-use Rattle.spec.specs.Layout.{blockSize, bitmapBlock, inodeCount, nameSize, mostBlocks}
-use Rattle.spec.specs.Bytes.{found, keep, member, distinct, occurs, place, placeFrom, quotientUp, upFrom}
+use Rattle.spec.specs.Layout.{blockSize, bitmapBlock, inodeCount, mostBlocks}
+use Rattle.spec.specs.Bytes.{found, keep, member, distinct, place, placeFrom, quotientUp, upFrom}
 use Rattle.spec.specs.Disk.{Disk, Slice}
-use Rattle.spec.specs.Inode.{Inode, inodeBytes, inodeAt, nameAt, isEmpty, dataOf, nodesOf, reachedFrom}
+use Rattle.spec.specs.Inode.{Inode, inodeAt, nameAt, isEmpty, dataOf, nodesOf}
 use Rattle.spec.specs.Map.{filesOf}
 use Rattle.spec.specs.Session.{stagedIn}
-use Rattle.spec.specs.Transaction.{State, view}
+use Rattle.spec.specs.Transaction.{view}
 use Rattle.spec.specs.Calls.{Outcome, Change, Create, Remove, Rename, Write, SetSize}
 use Rattle.spec.specs.Sentences.{File, fileAt, fileThen, recordFor, reaches, callStages, stagedBy}
 use Rattle.spec.specs.CutRule.{Both, Changes}

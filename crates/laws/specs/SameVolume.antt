@@ -2,7 +2,7 @@
 -- that a file reaches: document 01's layout leaves no choice there. Assumes nothing.
 use Prim.Native.Nat.{ℕ, zero, suc, _+_, _*_, _-_, _/_, _%_, _≤_, _<_}
 use mathlib.Core.Path.{_≡_, refl, sym, ap, ap₂, _∙_, subst}
-use mathlib.Core.Bool.{Bool, true, false, not, _&&_, true≢false}
+use mathlib.Core.Bool.{Bool, true, false, not}
 use mathlib.Core.Logic.{_⊎_, inl, inr}
 use mathlib.Core.List.{List, [], _∷_, _++_, map}
 use mathlib.Core.Option.{Option, none, some, Option·some-injective}
@@ -10,13 +10,13 @@ use lib.Dec.{T, eqb}
 use lib.ListN.{length, take, drop, getD, length-take}
 use lib.Seq.{getD-take, getD-drop, ext-getD}
 use native.Mathlib.Omega.{arith}
-use borrow.Author.Tests.{eqb-true, eqb-false, eq-eqb}
-use Rattle.spec.specs.Layout.{blockSize, bitmapBlock, inodeStart, inodeCount, inodeSize, inodesPerBlock, dataStart, nameSize, slotsPerInode, mostBlocks}
-use Rattle.spec.specs.Bytes.{found, concat, occurs, allZero, part}
+use borrow.Author.Tests.{eq-eqb}
+use Rattle.spec.specs.Layout.{blockSize, bitmapBlock, inodeStart, inodeCount, dataStart, nameSize, slotsPerInode, mostBlocks}
+use Rattle.spec.specs.Bytes.{found, concat, occurs, allZero}
 use Rattle.spec.specs.Disk.{Disk, inData}
 use Rattle.spec.specs.Bitmap.{bitsOf, bytesOf}
 use Rattle.spec.specs.declared.Extent.{Extent}
-use Rattle.spec.specs.Inode.{isName, inodeBytes, inodeAt, nameAt, isEmpty, find, blockOfInode, placeOfInode, bytesOfInode, inodeWith, runs, extentsOf, levelsOf, nodesOf, dataOf, reachedFrom, reached}
+use Rattle.spec.specs.Inode.{isName, inodeBytes, inodeAt, nameAt, isEmpty, find, bytesOfInode, inodeWith, runs, extentsOf, levelsOf, nodesOf, dataOf, reachedFrom}
 use Rattle.spec.specs.Sound.{volumeSound}
 use Rattle.spec.specs.Map.{contentOf, filesOf}
 use Rattle.spec.specs.Sentences.{File, fileAt, nodeContent}
@@ -24,11 +24,11 @@ use Rattle.lists.specs.Tests.{and-both}
 use Rattle.lists.specs.Members.{member-place, occurs-member}
 use Rattle.block.proofs.Laws.{lt-or-le}
 use Rattle.log.specs.Stores.{Whole}
-use Rattle.bitmap.specs.Words.{Below, Table}
-use Rattle.bitmap.proofs.Laws.{bytes-bits, length-bits, occurs-append}
+use Rattle.bitmap.specs.Words.{Below}
+use Rattle.bitmap.proofs.Laws.{bytes-bits, occurs-append}
 use Rattle.laws.specs.Bytes.{below-drop, record-small}
 use Rattle.laws.specs.Soundness.{inside-of, outside-of, FileSound}
-use Rattle.laws.specs.Volume.{bit, bitCount, VolumeSound, volume-sound, own-name}
+use Rattle.laws.specs.Volume.{bit, bitCount, volume-sound, own-name}
 use Rattle.laws.specs.Tree.{depth-cases, levels-flat, levels-deep, nodes-deep, data-length}
 use Rattle.laws.specs.Runs.{runs-data}
 use Rattle.laws.specs.Reached.{bit-count, files-named, reached-empty, reached-used, reached-same}

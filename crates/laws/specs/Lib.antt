@@ -58,3 +58,4 @@ pub mod OwnBlocks
 pub mod SameChange
 pub mod StepBytes
 pub mod Determined
+pub mod Programs

@@ -15,7 +15,7 @@ use Rattle.spec.specs.declared.Extent.{Extent}
 use Rattle.spec.specs.Session.{opened, neverOpened}
 use Rattle.spec.specs.Answers.{Answer, done, isRefused}
 use Rattle.spec.specs.Transaction.{State, stateOf}
-use Rattle.spec.specs.Calls.{Outcome, outcome, Call, Format, Open, Advance, step, left}
+use Rattle.spec.specs.Calls.{Outcome, outcome, Call, Format, Open, Advance, step, left, leftBuffer, leftList}
 use Rattle.spec.specs.Plain.{Plain, Mode, Recovering, phaseIn, afterCut, follow}
 use Rattle.spec.specs.CutRule.{Event, call, cut, Both, next, after, advances, recovered, Survives, Starts, startOf}
 use Rattle.laws.specs.Files.{crash-safe}
@@ -43,9 +43,23 @@ pub record Turn : Type 0 where
   pub buffer : List ℕ
   pub list : List Extent
 
--- the left side of a promise: `left`, `leftBuffer` and `leftList` are of this form
+abbrev pub turn : Call → Answer → Held → List ℕ → List Extent → Turn
+turn c a h buffer list = record { asked = c; answer = a; leaves = h; buffer = buffer; list = list }
+
 abbrev pub outcomeOf : Turn → Outcome
 outcomeOf t = record { answer = t .answer; after = stateIn (t .leaves); buffer = t .buffer; list = t .list }
+
+-- the left side of a promise is of this form: of all calls but two, of read, of run list. Format and open are not lent the work space; their promise holds for any, so for
+-- the one that is held.
+module _ (c : Call) (a : Answer) (s : Session) (d w : List ℕ) where
+  pub turn-left : outcomeOf (turn c a (held s d w) [] []) ≡ left s d w a
+  turn-left = refl
+
+  pub turn-buffer : (buffer : List ℕ) → outcomeOf (turn c a (held s d w) buffer []) ≡ leftBuffer s d w a buffer
+  turn-buffer buffer = refl
+
+  pub turn-list : (list : List Extent) → outcomeOf (turn c a (held s d w) [] list) ≡ leftList s d w a list
+  turn-list list = refl
 
 -- a call, or a cut with the bytes of the work space after it
 pub data Act : Type 0 where
@@ -219,7 +233,7 @@ formatted-run s t d e w a small h p acts r = run-survives (length e / blockSize)
 -- "or opened as sound": open answered done and a ready session, whatever session it was given, and the run goes on with what it left
 pub opened-run : (s t : Session) (d w : List ℕ) (a : Answer) → ((i : ℕ) → getD d i 0 < 256) → a ≡ done → t .phase ≡ Ready → left t d w a ≡ step (stateOf s d w) Open
     → (acts : List Act) → Run (held t d w) acts
-    → RunSurvives (length d / blockSize) (held neverOpened d w) (called (record { asked = Open; answer = a; leaves = held t d w; buffer = []; list = [] }) ∷ acts)
+    → RunSurvives (length d / blockSize) (held neverOpened d w) (called (turn Open a (held t d w) [] []) ∷ acts)
 opened-run s t d w a small h k p acts r =
-    run-survives (length d / blockSize) (held neverOpened d w) (called (record { asked = Open; answer = a; leaves = held t d w; buffer = []; list = [] }) ∷ acts)
+    run-survives (length d / blockSize) (held neverOpened d w) (called (turn Open a (held t d w) [] []) ∷ acts)
     (opened-starts s t d w a small h k p) (opened-first s t d w a small h k p, r)

@@ -239,10 +239,10 @@ module _ (S R : State → Call → Outcome) (N : ℕ) (most : N ≤ mostBlocks) 
 
 -- what each call of a list leaves, in order
 module _ (S : State → Call → Outcome) where
-  abbrev pub left : ℕ → Both → List Event → List Outcome
-  left N b [] = []
-  left N b (call c ∷ es) = leaves c (S (b .store) c) ∷ left N (next S N b (call c)) es
-  left N b (cut w ∷ es) = left N (next S N b (cut w)) es
+  abbrev pub leftAlong : ℕ → Both → List Event → List Outcome
+  leftAlong N b [] = []
+  leftAlong N b (call c ∷ es) = leaves c (S (b .store) c) ∷ leftAlong N (next S N b (call c)) es
+  leftAlong N b (cut w ∷ es) = leftAlong N (next S N b (cut w)) es
 
 always-now : (S : State → Call → Outcome) (N : ℕ) (P : Both → Type 0) (b : Both) (es : List Event) → Always S N P b es → P b
 always-now S N P b [] h = h
@@ -250,7 +250,7 @@ always-now S N P b (e ∷ es) h = h .0
 
 -- two stores do the same along a list: what each call leaves, and store and plain store at the end (of every part of it, so at every moment)
 pub record Same (S R : State → Call → Outcome) (N : ℕ) (b : Both) (es : List Event) : Type 0 where
-  pub calls : left S N b es ≡ left R N b es
+  pub calls : leftAlong S N b es ≡ leftAlong R N b es
   pub ends : after S N b es ≡ after R N b es
 
 module _ (S R : State → Call → Outcome) (N : ℕ) (most : N ≤ mostBlocks) where
@@ -278,7 +278,7 @@ module _ (S R : State → Call → Outcome) (N : ℕ) (most : N ≤ mostBlocks) 
       (zS .1) (subst (λ (x : Both). Always R N (ViewInBytes N) x es) (sym n) (zR .1))
       in
       record {
-        calls = ap₂ (λ (o : Outcome) (os : List Outcome). o ∷ os) one (ih .calls ∙ ap (λ (x : Both). left R N x es) n);
+        calls = ap₂ (λ (o : Outcome) (os : List Outcome). o ∷ os) one (ih .calls ∙ ap (λ (x : Both). leftAlong R N x es) n);
         ends = ih .ends ∙ ap (λ (x : Both). after R N x es) n;
       }
 

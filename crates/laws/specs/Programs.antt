@@ -9,8 +9,8 @@ use Rattle.spec.specs.Calls.{Outcome, Call, step}
 use Rattle.spec.specs.Plain.{Plain, afterCut, follow}
 use Rattle.spec.specs.CutRule.{Both, after, Always, Starts, startOf, CutRule}
 use Rattle.block.proofs.Laws.{block-length, block-small}
-use Rattle.laws.specs.CallRuns.{Held, held, stateIn, outcomeOf, Act, called, wasCut, heldThen, heldAfter, Run, eventsOf, fed, runs-are-lists}
-use Rattle.laws.specs.Determined.{leaves, left, Same, OverBytes, determined}
+use Rattle.laws.specs.CallRuns.{Held, held, stateIn, outcomeOf, Act, called, wasCut, heldThen, heldAfter, Run, eventsOf, runs-are-lists}
+use Rattle.laws.specs.Determined.{leaves, leftAlong, OverBytes, determined}
 
 -- what a list of bytes has, as every slice of u8
 abbrev pub AreBytes : List ℕ → Type 0
@@ -47,17 +47,17 @@ run-over-bytes N p h (called t ∷ acts) r z = (
 )
 run-over-bytes N p h (wasCut w ∷ acts) r z = (held-bytes h p (z .0), run-over-bytes N (afterCut p) (held neverOpened (h .device) w) acts r (z .1))
 
-left-by : (N : ℕ) (p : Plain) (h : Held) (acts : List Act) → Run h acts → left step N (beside (stateIn h) p) (eventsOf acts) ≡ leftBy acts
+left-by : (N : ℕ) (p : Plain) (h : Held) (acts : List Act) → Run h acts → leftAlong step N (beside (stateIn h) p) (eventsOf acts) ≡ leftBy acts
 left-by N p h [] r = refl
 left-by N p h (called t ∷ acts) r =
-    subst (λ (o : Outcome). leaves (t .asked) o ∷ left step N (beside (o .after) (follow N p (t .asked) (o .answer))) (eventsOf acts) ≡ leaves (t .asked) (outcomeOf t) ∷ leftBy acts) (r .0)
+    subst (λ (o : Outcome). leaves (t .asked) o ∷ leftAlong step N (beside (o .after) (follow N p (t .asked) (o .answer))) (eventsOf acts) ≡ leaves (t .asked) (outcomeOf t) ∷ leftBy acts) (r .0)
     (ap (λ (os : List Outcome). leaves (t .asked) (outcomeOf t) ∷ os) (left-by N (follow N p (t .asked) (t .answer)) (t .leaves) acts (r .1)))
 left-by N p h (wasCut w ∷ acts) r = left-by N (afterCut p) (held neverOpened (h .device) w) acts r
 
 -- given the same calls and cuts, any store that has the cut rule leaves after each call what the code left, and ends in the code's session and bytes
 pub run-determined : (S : State → Call → Outcome) → CutRule S → (N : ℕ) (h : Held) → Starts N (stateIn h) → (acts : List Act) → Run h acts
     → Always S N OverBytes (startOf (stateIn h)) (eventsOf acts)
-    → (left S N (startOf (stateIn h)) (eventsOf acts) ≡ leftBy acts) × (after S N (startOf (stateIn h)) (eventsOf acts) .store ≡ stateIn (heldAfter h acts))
+    → (leftAlong S N (startOf (stateIn h)) (eventsOf acts) ≡ leftBy acts) × (after S N (startOf (stateIn h)) (eventsOf acts) .store ≡ stateIn (heldAfter h acts))
 run-determined S rule N h start acts r z =
     let p = startOf (stateIn h) .plain in
     let d = determined S rule N (stateIn h) start (eventsOf acts) z in

@@ -1,4 +1,4 @@
--- The cut rule determines the store: two stores that have it, over bytes, leave the same after every call of every list. Assumes nothing.
+-- The cut rule determines the store: any store that has it, over bytes, leaves after every call of every list what `step` leaves. Assumes nothing.
 use Prim.Native.Nat.{ℕ, _+_, _≤_, _<_}
 use mathlib.Core.Path.{_≡_, refl, sym, ap, ap₂, _∙_, subst}
 use mathlib.Core.Bool.{Bool, true, false, not, _&&_, _||_, true≢false}
@@ -311,15 +311,14 @@ always-both : (S : State → Call → Outcome) (N : ℕ) (P Q W : Both → Type 
 always-both S N P Q W f [] b p q = f b p q
 always-both S N P Q W f (e ∷ es) b p q = (f b (p .0) (q .0), always-both S N P Q W f es (next S N b e) (p .1) (q .1))
 
-module _ (S : State → Call → Outcome) (rule : CutRule S) (N : ℕ) (s : State) (start : Starts N s) (es : List Event) (bytes : Always S N OverBytes (startOf s) es) where
-  -- a store that has the cut rule, over bytes, is `step`: along every list each call leaves what `step` leaves, and store and plain store are those of `step`
-  pub determined : Same S step N (startOf s) es
-  determined =
-      let x = rule .survives N s start es in
-      let y = crash-safe .survives N s start es in
-      let most = bounds N (s .device .size) (holds (isAllowed (s .device .size)) (start .fits)) (start .blocks) .1 in
-      alike S step N most es (startOf s) (x .moments) (y .moments) (x .calls) (y .calls)
-      (always-both S N (Moment N) OverBytes (ViewInBytes N) (over-bytes N) es (startOf s) (x .moments) bytes) (step-bytes N s start es)
+-- a store that has the cut rule, over bytes, is `step`: along every list each call leaves what `step` leaves, and store and plain store are those of `step`
+pub determined : (S : State → Call → Outcome) → CutRule S → (N : ℕ) (s : State) → Starts N s → (es : List Event) → Always S N OverBytes (startOf s) es → Same S step N (startOf s) es
+determined S rule N s start es bytes =
+    let x = rule .survives N s start es in
+    let y = crash-safe .survives N s start es in
+    let most = bounds N (s .device .size) (holds (isAllowed (s .device .size)) (start .fits)) (start .blocks) .1 in
+    alike S step N most es (startOf s) (x .moments) (y .moments) (x .calls) (y .calls)
+    (always-both S N (Moment N) OverBytes (ViewInBytes N) (over-bytes N) es (startOf s) (x .moments) bytes) (step-bytes N s start es)
 
 -- so any two such stores are the same
 pub same-stores : (S R : State → Call → Outcome) → CutRule S → CutRule R → (N : ℕ) (s : State) → Starts N s → (es : List Event)

@@ -1,4 +1,5 @@
-/* Calls every function once or more, and compares with the worked examples of the paper (E1 to E13). Prints each difference, then the result. */
+/* Calls every function once or more, and compares with the worked examples of the paper (E1 to E13); then with sessions that the store did not
+ * make, refused and accepted, all that is lent compared before and behind. Prints the first 20 differences, then the result. */
 #include <inttypes.h>
 #include <stdio.h>
 #include <string.h>
@@ -17,10 +18,8 @@ static const uint8_t B[8] = { 8, 7, 6, 5, 4, 3, 2, 1 };
 static void same(const char *what, uint64_t got, uint64_t want)
 {
     tests++;
-    if (got != want) {
-        failures++;
+    if (got != want && failures++ < 20)
         printf("%s: %" PRIu64 ", not %" PRIu64 "\n", what, got, want);
-    }
 }
 
 #define LENT device, len, work, sizeof work

@@ -1,6 +1,6 @@
-/* The calls of a box on a device that fails: each store of a commit, of a recovery and of the recovery of a recovery, lost or made but not told.
- * Behind each failure the device is read and opened again, and must hold the files that the outcome told. Prints the first 20 differences, then
- * the result. */
+/* The calls of a box on a device that fails: each store of a commit, of a recovery and of the recovery of a recovery, lost, torn, or made but not
+ * told. Behind each failure the device is read and opened again, and must hold the files that the outcome told. Prints the first 20 differences,
+ * then the result. */
 #include <inttypes.h>
 #include <stdio.h>
 #include <string.h>
@@ -28,7 +28,7 @@ static void same(const char *what, uint64_t got, uint64_t want)
 
 typedef struct {
     uint64_t fails_at; /* the store that fails, 0: none does */
-    int made;          /* it is made all the same */
+    size_t made;       /* bytes of it that are stored all the same */
     uint64_t stores;   /* so far */
     uint64_t blocks[80];
 } faults;
@@ -40,13 +40,11 @@ static int write_block(void *context, uint64_t block, const uint8_t *bytes)
     same("bytes of the image", (uint64_t)(bytes == image + block * PURSE_BLOCK), 1);
     f->blocks[f->stores++] = block;
     same("no store behind a failure", f->fails_at != 0 && f->stores > f->fails_at, 0);
-    if (f->stores == f->fails_at && !f->made)
-        return ERROR;
-    memcpy(disk + block * PURSE_BLOCK, bytes, PURSE_BLOCK);
+    memcpy(disk + block * PURSE_BLOCK, bytes, f->stores == f->fails_at ? f->made : PURSE_BLOCK);
     return f->stores == f->fails_at ? ERROR : 0;
 }
 
-static faults faults_at(uint64_t store, int made)
+static faults faults_at(uint64_t store, size_t made)
 {
     faults f = { store, made, 0, { 0 } };
     return f;
@@ -141,8 +139,8 @@ static void is_broken(void)
     memset(&f, 0x77, sizeof f);
 
     same("never opened", box.session.blocks + box.session.phase + box.session.place + box.session.count, 0);
-    same_outcome("open of a broken box", open_box(faults_at(1, 1)), PURSE_BROKEN, PURSE_FORCE_UNKNOWN, 0, 0);
-    same_outcome("commit of a broken box", commit(faults_at(1, 1)), PURSE_BROKEN, PURSE_FORCE_UNKNOWN, 0, 0);
+    same_outcome("open of a broken box", open_box(faults_at(1, PURSE_BLOCK)), PURSE_BROKEN, PURSE_FORCE_UNKNOWN, 0, 0);
+    same_outcome("commit of a broken box", commit(faults_at(1, PURSE_BLOCK)), PURSE_BROKEN, PURSE_FORCE_UNKNOWN, 0, 0);
     same("format", purse_box_format(&box), PURSE_BROKEN);
     same("abort", purse_box_abort(&box), PURSE_BROKEN);
     same("create", purse_box_create(&box, B), PURSE_BROKEN);
@@ -181,11 +179,11 @@ static uint32_t force_at(uint64_t store)
     return store == LIST ? PURSE_FORCE_UNKNOWN : PURSE_IN_FORCE;
 }
 
-/* Each store of a commit fails, lost or made. */
-static void failed_commit(uint64_t store, int made)
+/* Each store of a commit fails, lost or made; or torn, but for those of block 0. */
+static void failed_commit(uint64_t store, size_t made)
 {
-    int in_force = store > LIST || (store == LIST && made);
-    int cleared = store == STORES && made;
+    int in_force = store > LIST || (store == LIST && made == PURSE_BLOCK);
+    int cleared = store == STORES && made == PURSE_BLOCK;
     purse_outcome o;
     make();
     o = commit(faults_at(store, made));
@@ -202,7 +200,7 @@ static void failed_commit(uint64_t store, int made)
 }
 
 /* A store of the recovery fails, then one of its recovery, then it goes through. */
-static void failed_recovery(uint64_t first, uint64_t second, int made)
+static void failed_recovery(uint64_t first, uint64_t second, size_t made)
 {
     purse_outcome o;
     make();
@@ -213,7 +211,7 @@ static void failed_recovery(uint64_t first, uint64_t second, int made)
     is_broken();
     reload();
     o = open_box(faults_at(second, made));
-    if (first == K + 1 && made) {
+    if (first == K + 1 && made == PURSE_BLOCK) {
         same_outcome("open of what is cleared", o, PURSE_OK, PURSE_NOT_IN_FORCE, 0, 0);
     } else {
         same_outcome("recovery of a recovery, store", o, PURSE_NOT_STORED, PURSE_IN_FORCE, K + 1, second);
@@ -308,17 +306,34 @@ static void texts(void)
     same("no answer", (uint64_t)strcmp(purse_refusal_text(5), purse_refusal_text(UINT32_MAX)), 0);
 }
 
+/* Nothing wipes the bytes of a file that was removed: they are still on the device, in their block and in the log. */
+static void removed_bytes_stay(void)
+{
+    uint8_t bytes[600];
+    make();
+    same("commit", commit(faults_at(0, 0)).answer, PURSE_OK);
+    same("remove", purse_box_remove(&box, B), PURSE_OK);
+    same("commit", commit(faults_at(0, 0)).answer, PURSE_OK);
+    memset(bytes, 2, sizeof bytes);
+    same("in its block", (uint64_t)(memcmp(disk + 44 * PURSE_BLOCK, bytes, PURSE_BLOCK) != 0), 0);
+    same("in the log", (uint64_t)(memcmp(disk + 5 * PURSE_BLOCK, bytes, PURSE_BLOCK) != 0), 0);
+}
+
 int main(void)
 {
+    static const size_t made[] = { 0, PURSE_BLOCK, 1, 100, 300, 511 };
     without_failure();
-    for (int made = 0; made < 2; made++) {
+    for (size_t i = 0; i < sizeof made / sizeof made[0]; i++) {
+        int torn = made[i] % PURSE_BLOCK != 0;
         for (uint64_t store = 1; store <= STORES; store++)
-            failed_commit(store, made);
-        for (uint64_t first = 1; first <= K + 1; first++)
-            for (uint64_t second = 1; second <= K + 1; second++)
-                failed_recovery(first, second, made);
+            if (!torn || (store != LIST && store != STORES))
+                failed_commit(store, made[i]);
+        for (uint64_t first = 1; first <= K + !torn; first++)
+            for (uint64_t second = 1; second <= K + !torn; second++)
+                failed_recovery(first, second, made[i]);
     }
     meddled();
+    removed_bytes_stay();
     texts();
     printf("%u tests of the box, %u failed\n", tests, failures);
     return failures != 0;

@@ -6,7 +6,8 @@ cd "$(dirname "$0")/.."
 rt staticlib capi >/dev/null
 rt check purselist >/dev/null
 tmp=$(mktemp -d)
-trap 'rm -rf "$tmp"' EXIT
+boxes=$(mktemp -d -p /dev/shm 2>/dev/null || mktemp -d) # in memory where there is such a place: each store is flushed
+trap 'rm -rf "$tmp" "$boxes"' EXIT
 c="gcc -std=c11 -Wall -Wextra -pedantic -Werror -O2 -Iinclude"
 library=target/staticlib/libcapi.a
 for p in calls box sale; do
@@ -18,7 +19,7 @@ g++ -std=c++17 -Wall -Wextra -Wold-style-cast -Wuseless-cast -pedantic -Werror -
 "$tmp/calls"
 "$tmp/box"
 "$tmp/header"
-box=$tmp/box.img
+box=$boxes/box.img
 
 fail() {
     echo "test.sh: $*" >&2
@@ -148,7 +149,7 @@ rm -f "$box"
 mkfifo "$tmp/pipe"
 FAULT="hold $tmp/pipe" "$tmp/faulty" "$box" >"$tmp/first" 2>&1 &
 first=$!
-read -r _ <"$tmp/pipe"
+timeout 20 head -c 1 "$tmp/pipe" >"$tmp/out" || fail "the first sale did not begin: $(cat "$tmp/first")"
 cp "$box" "$tmp/before"
 ends 3 "$tmp/sale" "$box"
 says "$box: in use"

@@ -388,7 +388,7 @@ static inline const char *purse_refusal_text(uint32_t answer)
  *
  * A name is 8 bytes. The calls answer as those above do. Where a block did not reach the device, the image in memory is ahead of the device
  * and the box is broken: every call then answers PURSE_BROKEN and does nothing, until the caller has read the device again and lent the image
- * anew. Use a box through its own calls only, and what it holds through none of the calls above. */
+ * anew. Use a box through its own calls only: those above know nothing of a broken box. */
 
 typedef struct {
     uint8_t *device; /* the image of the device */

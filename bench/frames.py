@@ -97,9 +97,9 @@ def depth(name, all_functions, all_tables, known):
             continue
         if mnemonic.startswith("j"):
             if operands.startswith("*") or (mnemonic.startswith("notrack")):
-                todo += [(place[a], low) for a in all_tables.get(name, []) if a in place]
-                if not all_tables.get(name):
+                if not all_tables.get(name) or any(a not in place for a in all_tables[name]):
                     sys.exit(f"frames: {name} jumps to {operands}")
+                todo += [(place[a], low) for a in all_tables[name]]
                 continue
             if callee is not None:  # to another function, in place of a call and a return
                 most = max(most, low - 8 + depth(callee.replace(".text.", ""), all_functions, all_tables, known))

@@ -28,7 +28,7 @@ pub struct Broken<E> {
     pub step: Step,
     /// What was under way.
     pub run: Run,
-    /// The store that failed.
+    /// The store that failed; number 0: block 0, written as it was read before the first one.
     pub store: BlockStore,
     /// How many stores there were to be.
     pub stores: u64,
@@ -109,7 +109,11 @@ impl<E: fmt::Display> fmt::Display for Broken<E> {
             Run::Recovery => "recovery",
         };
         let (s, n) = (self.store, self.stores);
-        write!(f, "store {} of {n} of the {run}, block {}: the {step} failed: {}", s.number, s.block, self.error)
+        match s.number {
+            0 => write!(f, "before store 1 of {n} of the {run}")?,
+            number => write!(f, "store {number} of {n} of the {run}")?,
+        }
+        write!(f, ", block {}: the {step} failed: {}", s.block, self.error)
     }
 }
 

@@ -45,6 +45,8 @@ pub struct Store<'a> {
     pub(crate) session: RawSession,
     /// A block was stored in the image and is not known to be on the device.
     pub(crate) ahead: bool,
+    /// Block 0 is known to be on the device as it is in the image.
+    pub(crate) anchored: bool,
 }
 
 impl fmt::Debug for Store<'_> {
@@ -97,7 +99,7 @@ impl<'a> Store<'a> {
     /// Goes on with a session that [`Store::session`] gave. A session that does not belong to this
     /// image and work space is harmless to memory, but what it changes is not what was meant.
     pub fn resume(image: &'a mut [u8], work: &'a mut [u8], session: RawSession) -> Self {
-        Store { image, work, session, ahead: false }
+        Store { image, work, session, ahead: false, anchored: false }
     }
 
     /// The session as the last call left it.

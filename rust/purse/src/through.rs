@@ -10,7 +10,8 @@ fn put<D: Device>(device: &mut D, block: u64, bytes: &Block) -> Result<(), (Step
     device.flush().map_err(|e| (Step::Flush, e))
 }
 
-// The lent image must hold what the device holds. Each store is made in the image, written to the device and flushed there before the next is made.
+// The lent image must hold what was read from the device. Each store is made in the image, written to the device and flushed there before the
+// next is made.
 impl Store<'_> {
     /// Makes an empty store in the image and on the device, whatever was there, and opens nothing yet.
     ///
@@ -29,6 +30,7 @@ impl Store<'_> {
             done.map_err(|(step, error)| Failure::Device(Broken { error, step, run: Run::Format, store, stores }))?;
         }
         self.ahead = false;
+        self.anchored = true;
         Ok(())
     }
 
@@ -62,7 +64,7 @@ impl Store<'_> {
             self.session = before;
             return Err(refusal.into());
         }
-        let stores = self.through(|store, bytes| put(device, store.block, bytes))?;
+        let stores = self.through_on(device)?;
         self.open()?;
         Ok(stores)
     }
@@ -90,7 +92,7 @@ impl Store<'_> {
     /// ```
     pub fn commit_on<D: Device>(&mut self, device: &mut D) -> Result<u64, Failure<D::Error>> {
         self.commit()?;
-        self.through(|store, bytes| put(device, store.block, bytes))
+        self.through_on(device)
     }
 
     /// Makes the stores of the commit or recovery under way and hands each to `put`, with the bytes of its block. What
@@ -118,18 +120,46 @@ impl Store<'_> {
         self.through(|store, bytes| put(store, bytes).map_err(|e| (Step::Write, e)))
     }
 
+    /// The stores under way, on a device. Block 0 is written once more before the first store since the image was read: a
+    /// program before this one may have been stopped between its write and its flush, or its flush may have failed, and
+    /// what was read is then not what a power cut leaves.
+    fn through_on<D: Device>(&mut self, device: &mut D) -> Result<u64, Failure<D::Error>> {
+        let (run, stores) = self.under_way();
+        if stores > 0 && !self.anchored {
+            if let Err((step, error)) = put(device, 0, self.bytes_of(0)) {
+                self.spend();
+                let store = BlockStore { block: 0, last: false, number: 0 };
+                return Err(Failure::Device(Broken { error, step, run, store, stores }));
+            }
+            self.anchored = true;
+        }
+        self.through(|store, bytes| put(device, store.block, bytes))
+    }
+
+    /// What is under way, and how many stores it has in all; 0 for nothing.
+    fn under_way(&self) -> (Run, u64) {
+        match self.phase() {
+            Phase::Recovering(_) => (Run::Recovery, self.logged().count() as u64 + 1),
+            Phase::Committing(_) => (Run::Commit, 2 * self.session.count.min(STAGED_MOST as u64) + 2),
+            Phase::Closed | Phase::Ready => (Run::Commit, 0),
+        }
+    }
+
+    /// The device failed: nothing may build on this image.
+    fn spend(&mut self) {
+        self.ahead = true;
+        self.session = RawSession { blocks: self.session.blocks, ..RawSession::NEVER_OPENED };
+    }
+
     /// The stores under way, each handed on before the next is made.
     fn through<E>(&mut self, mut put: impl FnMut(BlockStore, &Block) -> Result<(), (Step, E)>) -> Result<u64, Failure<E>> {
-        let (run, stores) = match self.phase() {
-            Phase::Recovering(_) => (Run::Recovery, self.logged().count() as u64 + 1),
-            _ => (Run::Commit, 2 * self.session.count.min(STAGED_MOST as u64) + 2),
-        };
+        let (run, stores) = self.under_way();
         let mut made = 0;
         while let Some(store) = self.advance()? {
             // Until the block is safe the image is ahead of the device, also if `put` panics.
             self.ahead = true;
             if let Err((step, error)) = put(store, self.bytes_of(store.block)) {
-                self.session = RawSession { blocks: self.session.blocks, ..RawSession::NEVER_OPENED };
+                self.spend();
                 return Err(Failure::Device(Broken { error, step, run, store, stores }));
             }
             self.ahead = false;

@@ -174,11 +174,104 @@ fn held_within(kept: &[u8], (least, most): (u64, u64)) -> u64 {
     n
 }
 
+/// A disk behind a cache: what is written is read at once, and is on the disk when a flush has returned.
+struct Cached {
+    disk: Vec<u8>,
+    cache: Vec<u8>,
+    dirty: Vec<u64>,
+    /// Flushes until this program is stopped, at its next write or in its next flush.
+    left: usize,
+    end: End,
+}
+
+/// How a program ends.
+#[derive(Clone, Copy, Debug, PartialEq)]
+enum End {
+    /// It is killed behind a write: the cache keeps it.
+    Killed,
+    /// Its flush fails: the cache keeps what was written and takes it for flushed.
+    Forgotten,
+    /// The power is cut in a flush that has brought the first, or the last, of the blocks to the disk.
+    First,
+    Last,
+}
+
+impl Cached {
+    fn to_disk(&mut self, block: u64) {
+        let at = 512 * block as usize;
+        self.disk[at..at + 512].copy_from_slice(&self.cache[at..at + 512]);
+    }
+}
+
+impl Device for Cached {
+    type Error = Pulled;
+
+    fn write_block(&mut self, block: u64, bytes: &Block) -> Result<(), Pulled> {
+        let at = 512 * block as usize;
+        self.cache[at..at + 512].copy_from_slice(bytes);
+        self.dirty.push(block);
+        match self.left == 0 && self.end == End::Killed {
+            true => Err(Pulled),
+            false => Ok(()),
+        }
+    }
+
+    fn flush(&mut self) -> Result<(), Pulled> {
+        let dirty = std::mem::take(&mut self.dirty);
+        if self.left > 0 {
+            self.left -= 1;
+            dirty.into_iter().for_each(|b| self.to_disk(b));
+            return Ok(());
+        }
+        match self.end {
+            End::First => dirty.first().into_iter().for_each(|&b| self.to_disk(b)),
+            End::Last => dirty.last().into_iter().for_each(|&b| self.to_disk(b)),
+            End::Killed | End::Forgotten => {}
+        }
+        Err(Pulled)
+    }
+}
+
+/// Opens what the cache shows and makes the next sale; answers how many there are by what was done.
+fn sell(device: &mut Cached) -> Option<u64> {
+    let (mut image, mut work) = (device.cache.clone(), vec![0x55; WORK_SIZE]);
+    let mut store = Store::new(&mut image, &mut work);
+    store.open_on(device).ok()?;
+    let n = sales_in(&store);
+    sale(&mut store, n + 1).unwrap();
+    store.commit_on(device).ok()?;
+    Some(n + 1)
+}
+
+#[test]
+fn a_program_is_stopped_and_then_the_power_is_cut() {
+    let whole = new_box();
+    let mut tried = 0;
+    for end in [End::Killed, End::Forgotten] {
+        for first in 0..13 {
+            let (disk, cache) = (whole.clone(), whole.clone());
+            let mut device = Cached { disk, cache, dirty: vec![], left: first, end };
+            assert_eq!(sell(&mut device), None);
+            for cut in [End::First, End::Last] {
+                for second in 0..22 {
+                    let (disk, cache, dirty) = (device.disk.clone(), device.cache.clone(), device.dirty.clone());
+                    let mut later = Cached { disk, cache, dirty, left: second, end: cut };
+                    let done = sell(&mut later);
+                    let n = held(&later.disk);
+                    assert!((1..=3).contains(&n) && done.is_none_or(|d| d == n), "{end:?} {first}, {cut:?} {second}: {n} sales");
+                    tried += 1;
+                }
+            }
+        }
+    }
+    assert_eq!(tried, 2 * 13 * 2 * 22);
+}
+
 #[test]
 fn a_cut_at_each_store_of_a_commit() {
     let whole = new_box();
     for way in WAYS {
-        for cut in 0..15 {
+        for cut in 0..16 {
             let mut kept = whole.clone();
             let n = power_on(&mut kept, cut, way, 1);
             held_within(&kept, n);
@@ -191,15 +284,15 @@ fn three_cuts_one_after_the_other() {
     let whole = new_box();
     let mut tried = 0;
     for (a, b) in (0..9).map(|i| (WAYS[i / 3], WAYS[i % 3])) {
-        for first in 0..15 {
+        for first in 0..16 {
             let mut one = whole.clone();
             let told = power_on(&mut one, first, a, 1);
             let n = held_within(&one, told);
-            for second in 0..22 {
+            for second in 0..24 {
                 let mut two = one.clone();
                 let told = power_on(&mut two, second, b, n);
                 let m = held_within(&two, told);
-                for third in [0, 3, 6, 7, 9, 13] {
+                for third in [0, 3, 6, 7, 9, 14] {
                     let mut three = two.clone();
                     let told = power_on(&mut three, third, a, m);
                     held_within(&three, told);
@@ -208,33 +301,35 @@ fn three_cuts_one_after_the_other() {
             }
         }
     }
-    assert_eq!(tried, 9 * 15 * 22 * 6);
+    assert_eq!(tried, 9 * 16 * 24 * 6);
 }
 
 #[test]
 fn the_order_of_a_commit_and_of_its_recovery() {
     let mut kept = new_box();
     let (mut image, mut work) = (kept.clone(), vec![0; WORK_SIZE]);
-    let mut device = Plug::new(&mut kept, 8, Way::Absent);
+    let mut device = Plug::new(&mut kept, 9, Way::Absent);
     let mut store = Store::new(&mut image, &mut work);
     store.open_on(&mut device).unwrap();
     sale(&mut store, 2).unwrap();
     store.commit_on(&mut device).unwrap_err();
-    assert_eq!(device.written, [1, 2, 3, 4, 5, 0, 33, 34, 42]);
-    assert_eq!(device.flushed, 8);
+    // Block 0 as it was read, then the commit.
+    assert_eq!(device.written, [0, 1, 2, 3, 4, 5, 0, 33, 34, 42]);
+    assert_eq!(device.flushed, 9);
     let mut image = kept.clone();
     let mut device = never(&mut kept);
     let mut store = Store::new(&mut image, &mut work);
     assert_eq!(store.open_on(&mut device), Ok(6));
-    assert_eq!(device.written, [33, 34, 42, 44, 45, 0]);
-    assert_eq!(device.flushed, 6);
+    // Block 0 as it was read, with the list, then the recovery.
+    assert_eq!(device.written, [0, 33, 34, 42, 44, 45, 0]);
+    assert_eq!(device.flushed, 7);
 }
 
 #[test]
 fn what_a_failure_tells() {
     let mut kept = new_box();
     let (mut image, mut work) = (kept.clone(), vec![0; WORK_SIZE]);
-    let mut device = Plug::new(&mut kept, 5, Way::Flush);
+    let mut device = Plug::new(&mut kept, 6, Way::Flush);
     let mut store = Store::new(&mut image, &mut work);
     store.open_on(&mut device).unwrap();
     sale(&mut store, 2).unwrap();

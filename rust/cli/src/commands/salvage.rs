@@ -48,7 +48,7 @@ fn prepared(image: &mut Image) -> Answer<Vec<u8>> {
     }
     let mut store = image.store();
     match store.open() {
-        Ok(()) if store.phase() == Phase::Ready => tell(format_args!("the box is sound: dump does the same")),
+        Ok(()) if store.phase() == Phase::Ready => {}
         Ok(()) => return Ok(redone(&image.bytes)),
         Err(refusal @ Refusal::BadHeader(_)) => {
             tell(format_args!("{refusal}; the box is looked at without its log: the last change may be there in part"));

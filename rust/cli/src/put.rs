@@ -44,17 +44,17 @@ struct Performance<'p, 'f> {
 
 impl Target for Performance<'_, '_> {
     fn commit(&mut self, store: &mut Store, last: bool) -> Answer<u64> {
-        let stores = store.commit_on(self.device).map_err(|failure| match failure {
+        let answer = store.commit_on(self.device).map_err(|failure| match failure {
             Failure::Device(broken) if !last => Trouble::broken(self.path, &broken, Force::NotAndLeft),
             other => Trouble::commit(self.path, other),
-        })?;
-        self.done += stores;
-        if !last {
-            progress(format_args!("put {}: {} of {} stores", self.name, self.done, self.total));
-        } else if self.total > stores {
-            progress(format_args!(""));
+        });
+        self.done += answer.as_ref().unwrap_or(&0);
+        match &answer {
+            Ok(_) if !last => progress(format_args!("put {}: {} of {} stores", self.name, self.done, self.total)),
+            Ok(stores) if *stores == self.total => {}
+            _ => progress(format_args!("")),
         }
-        Ok(stores)
+        answer
     }
 
     fn left_over(&mut self) {

@@ -73,7 +73,7 @@ impl Refusal {
             Refusal::TooLarge => "the file would be longer than 1048576 bytes",
             Refusal::BadHeader(_) => "the list in the commit block is damaged",
             Refusal::Unsound => "the device holds no sound store",
-            Refusal::NotReady => "the store is not ready: not opened, or its log is not stored to the end",
+            Refusal::NotReady => "the session is closed, committing or recovering",
             Refusal::Unknown => "no file has this name",
             Refusal::Taken => "a file has this name",
             Refusal::NoRecord => "all 128 file records are in use",

@@ -80,7 +80,7 @@ fn sound(image: &[u8], all: &[Record], record: &Record) -> Result<(Name, Vec<u8>
     let name = record.name.ok_or("the record has no name")?;
     let (mut lone, mut work) = (alone(image, record), vec![0; WORK_SIZE]);
     let mut store = Store::new(&mut lone, &mut work);
-    store.open().map_err(|refusal| format!("its record is not sound ({refusal})"))?;
+    store.open().map_err(|refusal| format!("its record is not sound (refused {})", refusal.number()))?;
     if let Some((block, other)) = contest(all, record) {
         return Err(format!("block {block} is claimed by record {other} too"));
     }

@@ -35,11 +35,15 @@ fn named_files(dir: &Path) -> Answer<Vec<(Name, PathBuf)>> {
     paths.sort();
     let mut files = Vec::new();
     for path in paths {
+        let left = |why: &str| tell(format_args!("left: {}, {why}", path.display()));
         match path.file_name().and_then(Name::of) {
-            Some(SECOND) => tell(format_args!("left: {}, the reserved name", path.display())),
-            Some(_) if !path.is_file() => tell(format_args!("left: {}, not a regular file", path.display())),
-            Some(name) => files.push((name, path)),
-            None => tell(format_args!("left: {}, not the name of a purse", path.display())),
+            None => left("not the name of a purse"),
+            Some(SECOND) => left("the reserved name"),
+            // A file that cannot be looked at must not be left out.
+            Some(name) => match fs::metadata(&path).map_err(|e| Trouble::file(&path, &e))?.is_file() {
+                true => files.push((name, path)),
+                false => left("not a regular file"),
+            },
         }
     }
     files.sort();

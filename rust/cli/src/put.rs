@@ -81,11 +81,22 @@ fn run(store: &mut Store, name: Name, bytes: &[u8], target: &mut dyn Target) -> 
         Ok(()) => stores += target.commit(store, true)?,
         Err(Refusal::TooManyStaged) => {
             store.abort()?;
-            stores += gather(store, name, bytes, target)?;
+            let old = store.size(&name.0).is_ok();
+            stores += gather(store, name, bytes, target).map_err(|t| if old { beside(t) } else { t })?;
         }
         Err(refusal) => return Err(refusal.into()),
     }
     Ok(stores)
+}
+
+/// Why a long put may be refused where a short one is not.
+fn beside(trouble: Trouble) -> Trouble {
+    match trouble {
+        Trouble::Refused(refusal, more) => {
+            Trouble::Refused(refusal, more + "; a put of this size needs a record and room beside the old purse")
+        }
+        other => other,
+    }
 }
 
 /// Removes what a put left that was broken off.

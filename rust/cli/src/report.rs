@@ -32,7 +32,7 @@ pub enum Force {
     Standing(Standing),
     /// It is not, and an earlier change still waits for its recovery.
     NotAndPending,
-    /// It is not, and what was put so far is left as a second purse.
+    /// It is not, and what was put so far may be left as a second purse.
     NotAndLeft,
 }
 
@@ -42,7 +42,7 @@ impl Force {
             Force::Now => "the change is in force".into(),
             Force::Standing(standing) => standing.to_string(),
             Force::NotAndPending => "not in force, and the log of an earlier change is still pending: run purse recover".into(),
-            Force::NotAndLeft => "not in force; what was put so far is left as a second purse, which the next put removes".into(),
+            Force::NotAndLeft => "not in force; what was put so far may be left as a second purse, which the next put removes".into(),
         }
     }
 }

@@ -47,6 +47,8 @@ pub struct Store<'a> {
     pub(crate) ahead: bool,
     /// Block 0 is known to be on the device as it is in the image.
     pub(crate) anchored: bool,
+    /// Blocks were stored in the image alone.
+    pub(crate) apart: bool,
 }
 
 impl fmt::Debug for Store<'_> {
@@ -99,7 +101,7 @@ impl<'a> Store<'a> {
     /// Goes on with a session that [`Store::session`] gave. A session that does not belong to this
     /// image and work space is harmless to memory, but what it changes is not what was meant.
     pub fn resume(image: &'a mut [u8], work: &'a mut [u8], session: RawSession) -> Self {
-        Store { image, work, session, ahead: false, anchored: false }
+        Store { image, work, session, ahead: false, anchored: false, apart: false }
     }
 
     /// The session as the last call left it.
@@ -128,8 +130,8 @@ impl<'a> Store<'a> {
     }
 
     /// Nothing reaches a device: opens the store, with a recovery and the second open where they are due, in the lent
-    /// image alone. A change that is stored on a device behind a recovery that is not spoils the device: there use
-    /// [`Store::open_on`].
+    /// image alone. A change stored on a device behind a recovery that is not would spoil the device: there use
+    /// [`Store::open_on`]. A store that has stored anything in memory alone refuses to go on with a device.
     pub fn open_in_memory(&mut self) -> Result<(), Refusal> {
         self.open()?;
         if self.phase() != Phase::Ready {
@@ -195,6 +197,7 @@ impl Store<'_> {
         let (d, n) = lend_mut(self.image, &mut own);
         let (s, c) = self.session.parts_mut();
         let answer = unsafe { ffi::purse_format_v(d, n, s, c) };
+        self.apart |= answer.refusal == 0;
         settle(answer.refusal, answer.fault, ())
     }
 
@@ -395,6 +398,7 @@ impl Iterator for Stores<'_, '_> {
             return None;
         }
         let step = self.store.advance().transpose();
+        self.store.apart |= matches!(step, Some(Ok(_)));
         self.over = !matches!(step, Some(Ok(BlockStore { last: false, .. })));
         step
     }

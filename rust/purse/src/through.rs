@@ -29,8 +29,7 @@ impl Store<'_> {
             }
             done.map_err(|(step, error)| Failure::Device(Broken { error, step, run: Run::Format, store, stores }))?;
         }
-        self.ahead = false;
-        self.anchored = true;
+        (self.ahead, self.apart, self.anchored) = (false, false, true);
         Ok(())
     }
 
@@ -55,6 +54,7 @@ impl Store<'_> {
     /// # Ok::<(), purse::Failure<purse::OutsideDevice>>(())
     /// ```
     pub fn open_on<D: Device>(&mut self, device: &mut D) -> Result<u64, Failure<D::Error>> {
+        self.together()?;
         let before = self.session;
         self.open()?;
         if !matches!(self.phase(), Phase::Recovering(_)) {
@@ -91,6 +91,7 @@ impl Store<'_> {
     /// # Ok::<(), purse::Failure<purse::OutsideDevice>>(())
     /// ```
     pub fn commit_on<D: Device>(&mut self, device: &mut D) -> Result<u64, Failure<D::Error>> {
+        self.together()?;
         self.commit()?;
         self.through_on(device)
     }
@@ -145,6 +146,14 @@ impl Store<'_> {
         }
     }
 
+    /// An image in which blocks were stored that the device never got must not be brought to it in part.
+    fn together(&self) -> Result<(), Refusal> {
+        match self.apart {
+            true => Err(Refusal::NotReady),
+            false => Ok(()),
+        }
+    }
+
     /// The device failed: nothing may build on this image.
     fn spend(&mut self) {
         self.ahead = true;
@@ -177,7 +186,7 @@ impl Store<'_> {
         if self.work.len() != WORK_SIZE {
             return Err(Refusal::WorkSize);
         }
-        let before = self.session;
+        let (before, apart) = (self.session, self.apart);
         let list = *self.bytes_of(0);
         for (kept, target) in self.work.chunks_mut(BLOCK_SIZE).zip(targets(&list)) {
             kept.copy_from_slice(block_in(self.image, target));
@@ -187,7 +196,7 @@ impl Store<'_> {
             self.image[BLOCK_SIZE * target as usize..][..BLOCK_SIZE].copy_from_slice(kept);
         }
         self.image[..BLOCK_SIZE].copy_from_slice(&list);
-        self.session = before;
+        (self.session, self.apart) = (before, apart);
         opened
     }
 

@@ -360,6 +360,22 @@ fn a_log_whose_redo_does_not_open_is_left() {
 }
 
 #[test]
+fn what_was_stored_in_memory_alone_does_not_reach_a_device_in_part() {
+    let mut kept = new_box();
+    power_on(&mut kept, 10, Way::Absent, 1);
+    let before = kept.clone();
+    let (mut image, mut work) = (kept.clone(), vec![0; WORK_SIZE]);
+    let mut device = never(&mut kept);
+    let mut store = Store::new(&mut image, &mut work);
+    store.open_in_memory().unwrap();
+    sale(&mut store, 3).unwrap();
+    assert_eq!(store.commit_on(&mut device), Err(Failure::Refused(Refusal::NotReady)));
+    assert_eq!(store.open_on(&mut device), Err(Failure::Refused(Refusal::NotReady)));
+    assert!(device.written.is_empty());
+    assert!(kept == before);
+}
+
+#[test]
 fn a_wrong_work_space_is_refused_before_anything_is_stored() {
     let mut kept = new_box();
     power_on(&mut kept, 10, Way::Absent, 1);

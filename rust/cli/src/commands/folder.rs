@@ -65,7 +65,7 @@ fn loaded(dir: &Path) -> Answer<Vec<(Name, Vec<u8>)>> {
 
 /// Puts each file of a folder that has the name of a purse. If one would be refused, nothing is stored.
 pub fn restore(dir: &Path, path: &Path) -> Answer {
-    let purses = loaded(dir)?;
+    let purses = loaded(dir).map_err(|t| t.at("nothing was restored"))?;
     let mut image = Image::to_store(path)?;
     let (mut store, mut device) = image.ready()?;
     let mut copy = store.image().to_vec();

@@ -2,6 +2,7 @@
 
 use std::fs::{self, File, OpenOptions, TryLockError};
 use std::io::{self, ErrorKind, Read};
+use std::os::fd::AsFd;
 use std::path::{Path, PathBuf};
 
 use purse::{Failure, FileDevice, Phase, Store, FILE_MOST, WORK_SIZE};
@@ -107,11 +108,12 @@ pub fn locked(path: &Path, file: &File, lock: fn(&File) -> Result<(), TryLockErr
 pub fn read_whole(path: &Path) -> Answer<Vec<u8>> {
     let mut bytes = Vec::new();
     let limit = FILE_MOST as u64 + 1;
-    let read = match path.as_os_str() == "-" {
-        true => io::stdin().lock().take(limit).read_to_end(&mut bytes),
-        false => File::open(path).and_then(|file| file.take(limit).read_to_end(&mut bytes)),
+    // Standard input as a file of its own: the library's would take one that cannot be read for an empty one.
+    let file = match path.as_os_str() == "-" {
+        true => io::stdin().as_fd().try_clone_to_owned().map(File::from),
+        false => File::open(path),
     };
-    match read {
+    match file.and_then(|file| file.take(limit).read_to_end(&mut bytes)) {
         Ok(_) => Ok(bytes),
         Err(e) => Err(Trouble::file(path, &e)),
     }

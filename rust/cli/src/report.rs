@@ -126,3 +126,28 @@ pub fn status(answer: Answer, changes: bool) -> ExitCode {
         }
     }
 }
+
+#[cfg(test)]
+mod tests {
+    use super::*;
+
+    #[test]
+    fn what_is_in_force() {
+        assert_eq!(Force::Standing(Standing::NotInForce).words(), "not in force");
+        assert_eq!(Force::Standing(Standing::InForceAfterRecovery).words(), "in force after recover");
+        assert_eq!(Force::Standing(Standing::MayBeInForce).words(), "may be in force: recover tells");
+        for force in [Force::NotAndPending, Force::NotAndLeft] {
+            assert!(force.words().starts_with("not in force"));
+            assert!(!force.words().contains("in force after"));
+        }
+    }
+
+    #[test]
+    fn places() {
+        let refused = Trouble::from(Refusal::NoSpace).at("line 3");
+        assert!(matches!(refused, Trouble::Refused(Refusal::NoSpace, more) if more == ", line 3"));
+        let exists = Trouble::file(Path::new("a.img"), &io::Error::from(ErrorKind::AlreadyExists));
+        assert!(matches!(exists, Trouble::System(what, None) if what.starts_with("a.img: there is a file of this name")));
+        assert_eq!((counted(1, "block"), counted(2, "block")), ("1 block".into(), "2 blocks".into()));
+    }
+}

@@ -38,6 +38,8 @@ typedef struct {
     int fd;
     int made;         /* by this run */
     long stores_left; /* before the plug is pulled; below 0: it is not */
+    int settled;      /* the disk has block 0 as it was read */
+    uint8_t header[PURSE_BLOCK];
 } till;
 
 /* ---- The image file */
@@ -95,20 +97,37 @@ static int flush(int fd, int (*sync)(int))
     return 0;
 }
 
-/* One block to the image file, and on to the disk: the purse_write_block of this program. */
+/* One block to the image file, and on to the disk. */
+static int store_at(int fd, uint64_t block, const uint8_t *bytes)
+{
+    int error = write_at(fd, bytes, PURSE_BLOCK, (off_t)(block * PURSE_BLOCK));
+    return error == 0 ? flush(fd, fdatasync) : error;
+}
+
+/* Before the first store block 0 is stored as it was read: a program that was killed, or whose flush failed, may have left the system
+ * believing what the disk does not hold. */
+static int settle(till *t)
+{
+    int error = t->settled ? 0 : store_at(t->fd, 0, t->header);
+    if (error == 0)
+        t->settled = 1;
+    return error;
+}
+
+/* The purse_write_block of this program. */
 static int write_block(void *context, uint64_t block, const uint8_t *bytes)
 {
     till *t = context;
-    int error;
+    int error = settle(t);
+    if (error != 0)
+        return error;
     if (t->stores_left == 0) {
         printf("the plug is pulled\n");
         exit(0);
     }
     if (t->stores_left > 0)
         t->stores_left--;
-    error = write_at(t->fd, bytes, PURSE_BLOCK, (off_t)(block * PURSE_BLOCK));
-    if (error == 0)
-        error = flush(t->fd, fdatasync);
+    error = store_at(t->fd, block, bytes);
     if (error == 0)
         printf("stored block %" PRIu64 "\n", block);
     return error;
@@ -232,8 +251,10 @@ static void open_box(purse_box *b, till *t)
         purse_box_lend(b, image, NEW_BLOCKS * PURSE_BLOCK, work, sizeof work);
         must("format", purse_box_format(b));
         make_image(t, b->len);
+        t->settled = 1;
     } else {
         read_image(t, (size_t)size);
+        memcpy(t->header, image, sizeof t->header);
         purse_box_lend(b, image, (size_t)size, work, sizeof work);
     }
     o = purse_box_open(b, write_block, t);

@@ -17,10 +17,9 @@ use Rattle.spec.specs.declared.Refusal.{Refusal}
 use Rattle.spec.specs.declared.Refusal.the-variants.{ListShort}
 use Rattle.spec.specs.declared.Phase.{Phase}
 use Rattle.spec.specs.Inode.{extent}
-use Rattle.spec.specs.declared.Session.{Session}
-use Rattle.spec.specs.Answers.{Answer, refuse, accept, countedOf as answerOf}
+use Rattle.spec.specs.Answers.{refuse, accept, countedOf as answerOf}
 use Rattle.spec.specs.Transaction.{State}
-use Rattle.spec.specs.Calls.{Outcome, left, fileOk, runsOf, runList}
+use Rattle.spec.specs.Calls.{Outcome, fileOk, runsOf, runList}
 use Rattle.spec.specs.Disk.{Disk}
 use Rattle.block.proofs.Laws.{lt-or-le}
 use Rattle.extents.specs.declared.Growing.{Growing}
@@ -31,16 +30,12 @@ use Rattle.runlist.specs.Lists.{countsOf, countOk, namedRuns, manyOf, filled}
 use Rattle.runlist.proofs.Laws.{Told, told, count-bad, count-fine, count-short}
 use Rattle.mirror.specs.declared.CCounted.{CCounted}
 use Rattle.mirror.specs.declared.Head.{Head}
-use Rattle.mirror.specs.declared.CFinished.{CFinished}
-use Rattle.transaction.specs.Places.{sessionOf}
-use Rattle.mirror.proofs.Laws.{ends}
-use Rattle.journal.specs.Entries.{behind}
-use Rattle.spec.specs.declared.Stored.{Stored}
-use Rattle.mirror.specs.Mirror.{phaseOf, headIn, numbersOf, headOf, encode, decode, countedOf, finishedOf, Ends, Lists, extentsOf, withExtents}
+use Rattle.mirror.specs.Mirror.{phaseOf, decode, countedOf, Stays, Lists, extentsOf, withExtents}
 use Rattle.checks.specs.Checks.{Seen}
 use Rattle.lookup.proofs.Laws.{seen-lent}
 use Rattle.transaction.proofs.Laws.{length-staged, lent-few}
 use Rattle.capi.specs.Cells.{putAt, Put, Last, Listed}
+use Rattle.capi.proofs.Kept.{true≢false}
 use Rattle.mirror.proofs.Cells.{length-extents, with-none, with-next, with-rest}
 
 -- ---- the cells as they are filled
@@ -196,12 +191,12 @@ module _ (s : State) (name : List ℕ) (from n : ℕ) (cells : List ℕ) where
         let l : length (take m es) ≡ m = simp (length-take) (omega (arith, i)) in
         with-rest (take m es) cells (omega (arith, f, l)) ∙ ap (λ (k : ℕ). withExtents cells (take m es ++ drop k (extentsOf cells))) l
 
-    listed : (after : List ℕ) → after ≡ withExtents cells (take (manyOf a) (namedRuns s name from n))
+    listed : (after : List ℕ) → after ≡ withExtents cells (take (manyOf a) (namedRuns s name from n)) → Stays (answerOf a) cells after
         → Lists (countedOf (answerOf a)) cells after (runList s name from n (extentsOf cells))
-    listed after g = subst (λ (o : Outcome). Lists (countedOf (answerOf a)) cells after o) (told-in .outcome) (refl, g ∙ rest)
+    listed after g k = subst (λ (o : Outcome). Lists (countedOf (answerOf a)) cells after o) (told-in .outcome) (refl, g ∙ rest, k)
 
   pub list-bad : (r : Refusal) → refuse r ≡ fileOk s name → Lists (countedOf (answerOf (Refused r))) cells cells (runList s name from n (extentsOf cells))
-  list-bad r e = listed (Refused r) (count-bad s name from n (length cells / 2) r e) cells (sym (with-none cells))
+  list-bad r e = listed (Refused r) (count-bad s name from n (length cells / 2) r e) cells (sym (with-none cells)) (λ t. refl)
 
   module _ (i count : ℕ) (e : accept i ≡ fileOk s name) (c : count ≡ length (runsOf s i from n)) where
     all-runs : runsOf s i from n ≡ take count (namedRuns s name from n)
@@ -210,10 +205,10 @@ module _ (s : State) (name : List ℕ) (from n : ℕ) (cells : List ℕ) where
 
     pub list-fine : (after : List ℕ) → count ≤ length cells / 2 → after ≡ withExtents cells (runsOf s i from n)
         → Lists (countedOf (answerOf (Count count))) cells after (runList s name from n (extentsOf cells))
-    list-fine after h g = listed (Count count) (count-fine s name from n (length cells / 2) i count e c h) after (g ∙ ap (withExtents cells) all-runs)
+    list-fine after h g = listed (Count count) (count-fine s name from n (length cells / 2) i count e c h) after (g ∙ ap (withExtents cells) all-runs) (λ t. absurd (true≢false (sym t)))
 
     pub list-short : length cells / 2 < count → Lists (countedOf (answerOf (Refused ListShort))) cells cells (runList s name from n (extentsOf cells))
-    list-short h = listed (Refused ListShort) (count-short s name from n (length cells / 2) i count e c h) cells (sym (with-none cells))
+    list-short h = listed (Refused ListShort) (count-short s name from n (length cells / 2) i count e c h) cells (sym (with-none cells)) (λ t. refl)
 
 -- ---- the session that numbers and cells stand for
 
@@ -229,22 +224,3 @@ module _ (h : Head) (l : List ℕ) (n : ℕ) (k : length l ≡ 32) (e : n ≡ mi
 -- the run list in numbers
 pub in-numbers : (r q : CCounted) (before after : List ℕ) (o : Outcome) → r ≡ q → Lists q before after o → Lists r before after o
 in-numbers r q before after o e l = rw e l
-
--- ---- the numbers behind an answer of advance that stores nothing
-
-pub head-same : (h : Head) (p : Phase) (l : List ℕ) → p ≡ phaseOf (h .phase) (h .place) → (a : Stored) → behind p (decode h l) a ≡ decode h l
-    → headOf (h .blocks) p (h .count) ≡ encode (behind p (decode h l) a)
-head-same h p l e a f = rw f (ap (λ (q : Phase). headOf (h .blocks) q (h .count)) e)
-
--- a call on the session that lent numbers and cells stand for, given its parts
-module _ (f : Session → Outcome) (ns : List ℕ) (h : Head) (is : h ≡ headIn ns) where
-  pub ends-of : {R : Type 0} (m : Answer → R) (cells : List ℕ) (s : Session) (d w : List ℕ) (a : Answer) → left s d w a ≡ f (decode h cells)
-      → (r : R) → r ≡ m a → (after l : List ℕ) → after ≡ numbersOf (encode s) → l ≡ s .staged → Ends m r after l d w (f (decode (headIn ns) cells))
-  ends-of m cells s d w a q r g after l n k = ends f (decode h cells) (decode (headIn ns) cells) (ap (λ (x : Head). decode x cells) is) s d w a q m r g after l n k
-
-  pub ends-in : (p : Phase) (cells left-cells : List ℕ) (count : ℕ) (d w : List ℕ) (a : Answer) → p ≡ phaseOf (h .phase) (h .place)
-      → left (sessionOf (h .blocks) p left-cells count) d w a ≡ f (sessionOf (h .blocks) p cells (h .count))
-      → (r : CFinished) (after : List ℕ) → (r ≡ finishedOf a) × (after ≡ numbersOf (headOf (h .blocks) p count))
-      → Ends finishedOf r after left-cells d w (f (decode (headIn ns) cells))
-  ends-in p cells left-cells count d w a e q r after g =
-      ends-of finishedOf cells (sessionOf (h .blocks) p left-cells count) d w a (q ∙ ap (λ (x : Phase). f (sessionOf (h .blocks) x cells (h .count))) e) r (g .0) after left-cells (g .1) refl

@@ -158,7 +158,7 @@ abbrev pub Stays : {A : Type 0} → Answer → A → A → Type 0
 Stays a before after = isRefused a ≡ true → after ≡ before
 
 -- before where the call is refused, else after
-abbrev pub unlessRefused : Answer → List ℕ → List ℕ → List ℕ
+unfoldable pub unlessRefused : Answer → List ℕ → List ℕ → List ℕ
 unlessRefused a before after = cond (isRefused a) before after
 
 -- ---- the form of a promise

@@ -38,7 +38,7 @@ recorded-requires c κs = search needs
 
 returns : tie.Need-returns
 returns c = let a = c .before .before .before .before .before .before .before .before .before .before .args in let l : length (a .staged .now) ≡ 32 = search (needs, c .before .before .before .before .before .before .before .before .before .before .good) in let s = decode (c .before .before .before .before .before .before .before .head-in .result) (a .staged .now) in
-    names (λ (x : Session). recordAt (stateOf x (a .device .now) (a .work .now)) (a .i)) s (decode (headIn (a .numbers .now)) (a .staged .now)) (ap (λ (h : Head). decode h (a .staged .now)) (c .before .before .before .before .before .before .before .head-in .ensures)) _ _ _ _ (c .before .before .record-in .ensures s (seen (c .before .before .before .before .before .before .before .head-in .result) (a .staged .now) _ l (c .before .before .before .before .staged-in .ensures) _ (c .before .before .before .before .before .before .phase-in .ensures)) .0) _ _ (c .recorded .ensures)
+    names (λ (x : Session). recordAt (stateOf x (a .device .now) (a .work .now)) (a .i)) s (decode (headIn (a .numbers .now)) (a .staged .now)) (ap (λ (h : Head). decode h (a .staged .now)) (c .before .before .before .before .before .before .before .head-in .ensures)) _ _ _ _ (c .before .before .record-in .ensures s (seen (c .before .before .before .before .before .before .before .head-in .result) (a .staged .now) _ l (c .before .before .before .before .staged-in .ensures) _ (c .before .before .before .before .before .before .phase-in .ensures)) .0) _ _ _ (c .recorded .ensures)
 
 pub purse-record-v-spec : {M : Type 1} → statement M
 purse-record-v-spec =

@@ -12,6 +12,8 @@ use lib.Dec.{eqb}
 use lib.ListN.{length, take, drop, getD, set, length-drop, take-append-drop, List·getD-append, List·getD-eq-default}
 use lib.Seq.{length-take-le, getD-drop, take-set-le, take-take}
 use Rattle.spec.specs.Bytes.{occurs, place, placeFrom, pieces}
+use Rattle.spec.specs.declared.DiskBlock.{DiskBlock}
+use Rattle.spec.specs.Disk.{diskBlock}
 use Rattle.spec.specs.Bitmap.{bitsOfByte, bitsOf, byteOf, bytesOf, freeBits}
 use Rattle.bitmap.specs.declared.Found.the-variants.{At, Nothing}
 use Rattle.bitmap.specs.Words.{Below, Table, foundOf}
@@ -187,9 +189,9 @@ taken-below bits b e =
     fewer k xs h = omega (arith, occurs-append 0 (take k xs) (drop k xs), ap freeBits (take-append-drop k xs))
 
 -- the code's answer tells the place
-pub found-at : (o : Option ℕ) (b : ℕ) → At b ≡ foundOf o → o ≡ some b
+pub found-at : (o : Option ℕ) (b : DiskBlock) → At b ≡ foundOf o → o ≡ some (b .0)
 found-at none b e = cc
-found-at (some a) b e = cc
+found-at (some a) b e = let q : diskBlock a ≡ b = cc in ap (λ (x : DiskBlock). some (x .0)) q
 
 pub found-nothing : (o : Option ℕ) → Nothing ≡ foundOf o → o ≡ none
 found-nothing none e = refl
@@ -202,9 +204,10 @@ pub record Next (bits : List ℕ) (b : ℕ) : Type 0 where
   pub fewer : freeBits (set bits b 1) + 1 ≡ freeBits bits
   pub below : freeBits (take (64 * (b / 64)) (set bits b 1)) ≡ 0
 
-pub next-free : (t : List ℕ) (b : ℕ) → Table t → At b ≡ foundOf (place 0 (bitsOf t)) → Next (bitsOf t) b
-next-free t b table e =
-    let p = found-at (place 0 (bitsOf t)) b e in
+pub next-free : (t : List ℕ) (found : DiskBlock) → Table t → At found ≡ foundOf (place 0 (bitsOf t)) → Next (bitsOf t) (found .0)
+next-free t found table e =
+    let b = found .0 in
+    let p = found-at (place 0 (bitsOf t)) found e in
     let l = lowest-says (bitsOf t) b p in
     record {
       within = omega (arith, l .inside, length-bits t, table .full);

@@ -4,6 +4,7 @@ use mathlib.Core.Path.{_≡_}
 use mathlib.Core.List.{List}
 use mathlib.Core.Option.{Option, none, some}
 use lib.ListN.{length, getD}
+use Rattle.spec.specs.Disk.{diskBlock}
 use Rattle.bitmap.specs.declared.Found.{Found}
 use Rattle.bitmap.specs.declared.Found.the-variants.{At, Nothing}
 
@@ -29,4 +30,4 @@ Bytes t w = (j : ℕ) → j < 8 → getD t (8 * w + j) 0 < 256
 -- a place as the code tells it
 abbrev pub foundOf : Option ℕ → Found
 foundOf none = Nothing
-foundOf (some b) = At b
+foundOf (some b) = At (diskBlock b)

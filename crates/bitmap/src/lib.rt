@@ -1,4 +1,5 @@
 // The bitmap (document 01: bit table): 512 bytes, one bit to a block, read by whole words.
+use spec::DiskBlock;
 use spec::Limits;
 ghost use mathlib.Core.Path.{_≡_};
 ghost use Prim.Native.Nat.{_*_, _<_, _≤_};
@@ -8,7 +9,7 @@ ghost use Rattle.spec.specs.Bitmap.{bitsOf, freeBits};
 ghost use Rattle.bitmap.specs.Words.{Table, Bytes, wordOf, foundOf};
 
 pub enum Found {
-    At(u32),
+    At(DiskBlock),
     Nothing,
 }
 
@@ -82,7 +83,7 @@ pub fn lowest_free_from(t: &[u8; Limits::BLOCK_SIZE], from: usize) -> Found
         let x = !word_at(t, at);
         if x != 0 {
             let b = 64 * (at as u32) + u64::trailing_zeros(x);
-            return Found::At(b);
+            return Found::At(DiskBlock(b));
         }
         at += 1;
     }
@@ -96,22 +97,22 @@ pub fn lowest_free(t: &[u8; Limits::BLOCK_SIZE]) -> Found
     lowest_free_from(t, 0)
 }
 
-// Bit b becomes 1.
-pub fn set_bit(t: &mut [u8; Limits::BLOCK_SIZE], b: u32)
-    requires { ⌜ b < 4096 ⌝ }
-    ensures { λ _. ⌜ bitsOf (now (t .exit)) ≡ set (bitsOf (now (t .entry))) b 1 ⌝ }
+// The bit of block b becomes 1.
+pub fn set_bit(t: &mut [u8; Limits::BLOCK_SIZE], b: DiskBlock)
+    requires { ⌜ b .0 < 4096 ⌝ }
+    ensures { λ _. ⌜ bitsOf (now (t .exit)) ≡ set (bitsOf (now (t .entry))) (b .0) 1 ⌝ }
 {
-    let i = (b / 8) as usize;
-    let m = 1u8 << (b % 8);
+    let i = (b.0 / 8) as usize;
+    let m = 1u8 << (b.0 % 8);
     t[i] = t[i] | m;
 }
 
-// Bit b becomes 0.
-pub fn clear_bit(t: &mut [u8; Limits::BLOCK_SIZE], b: u32)
-    requires { ⌜ b < 4096 ⌝ }
-    ensures { λ _. ⌜ bitsOf (now (t .exit)) ≡ set (bitsOf (now (t .entry))) b 0 ⌝ }
+// The bit of block b becomes 0.
+pub fn clear_bit(t: &mut [u8; Limits::BLOCK_SIZE], b: DiskBlock)
+    requires { ⌜ b .0 < 4096 ⌝ }
+    ensures { λ _. ⌜ bitsOf (now (t .exit)) ≡ set (bitsOf (now (t .entry))) (b .0) 0 ⌝ }
 {
-    let i = (b / 8) as usize;
-    let m = !(1u8 << (b % 8));
+    let i = (b.0 / 8) as usize;
+    let m = !(1u8 << (b.0 % 8));
     t[i] = t[i] & m;
 }

@@ -1,6 +1,7 @@
 // Runs the bitmap's functions on a few tables, and prints of each how many bits are 0 and which is the lowest.
 use bitmap::Found;
 use libc::STDOUT_FILENO;
+use spec::DiskBlock;
 use spec::Limits;
 ghost use mathlib.Core.Path.{_≡_};
 ghost use Prim.Native.Nat.{_<_};
@@ -15,7 +16,7 @@ fn show(name: &[u8], t: &[u8; Limits::BLOCK_SIZE]) {
     io::write_all(STDOUT_FILENO, name);
     number(bitmap::free_count(t) as u64);
     match bitmap::lowest_free(t) {
-        Found::At(b) => number(b as u64),
+        Found::At(b) => number(b.0 as u64),
         Found::Nothing => {
             io::write_all(STDOUT_FILENO, b" none");
         }
@@ -34,7 +35,7 @@ fn take_all(table: [u8; Limits::BLOCK_SIZE]) -> usize
         match bitmap::lowest_free_from(&t, from) {
             Found::At(b) => {
                 bitmap::set_bit(&mut t, b);
-                from = (b / 64) as usize;
+                from = (b.0 / 64) as usize;
                 n += 1;
             }
             Found::Nothing => {
@@ -49,10 +50,10 @@ fn border(name: &[u8], b: u32)
     requires { ⌜ b < 4095 ⌝ }
 {
     let mut t = [255u8; Limits::BLOCK_SIZE];
-    bitmap::clear_bit(&mut t, b);
-    bitmap::clear_bit(&mut t, b + 1);
+    bitmap::clear_bit(&mut t, DiskBlock(b));
+    bitmap::clear_bit(&mut t, DiskBlock(b + 1));
     show(name, &t);
-    bitmap::set_bit(&mut t, b);
+    bitmap::set_bit(&mut t, DiskBlock(b));
     show(name, &t);
 }
 
@@ -61,9 +62,9 @@ fn main() {
     show(b"empty", &empty);
     let mut t = [255u8; Limits::BLOCK_SIZE];
     show(b"full", &t);
-    bitmap::clear_bit(&mut t, 4095);
+    bitmap::clear_bit(&mut t, DiskBlock(4095));
     show(b"last", &t);
-    bitmap::set_bit(&mut t, 4095);
+    bitmap::set_bit(&mut t, DiskBlock(4095));
     t[5] = 3;
     t[6] = 0;
     t[7] = 0;

@@ -3,7 +3,7 @@ use spec::Area;
 use spec::DiskBlock;
 use spec::Limits;
 ghost use mathlib.Core.Path.{_≡_};
-ghost use Prim.Native.Nat.{_+_, _*_, _<_, _≤_, min};
+ghost use Prim.Native.Nat.{_+_, _*_, _%_, _<_, _≤_, min};
 ghost use lib.ListN.{length, take, drop, getD};
 ghost use Rattle.spec.specs.Bytes.{zeros, exactly, patch, number2, number4, bytes2, bytes4, same};
 ghost use Rattle.spec.specs.Disk.{areaOf, inData, isTarget, sliceOf};
@@ -103,6 +103,13 @@ pub fn store4(bytes: &mut [u8], at: usize, n: u32)
 {
     store2(bytes, at, n % 65536);
     store2(bytes, at + 2, n / 65536);
+}
+
+// Where record i of the table begins in its block: "32 bytes, 16 to a block".
+pub fn place_in_block(i: usize) -> usize
+    ensures { λ r. ⌜ (r ≡ 32 * (i % 16)) × (r + 32 ≤ 512) ⌝ }
+{
+    Limits::INODE_SIZE * (i % Limits::INODES_PER_BLOCK)
 }
 
 // So many bytes, but no more than a block.

@@ -44,13 +44,13 @@ fn record_targets(head: &[u8]) -> [u32; Limits::LOG_LENGTH]
 }
 
 // Whether b stands in a list. No entry ends the loop early, so it compiles to vector code.
-fn is_among(l: &[u32], b: u32) -> bool
-    ensures { λ r. ⌜ r ≡ member b (now (l .entry)) ⌝ }
+fn is_among(l: &[u32], b: DiskBlock) -> bool
+    ensures { λ r. ⌜ r ≡ member (b .0) (now (l .entry)) ⌝ }
 {
     let mut among = false;
     let mut i: usize = 0;
     while i < l.len() {
-        among = among | (l[i] == b);
+        among = among | (l[i] == b.0);
         i += 1;
     }
     among
@@ -79,8 +79,8 @@ fn is_record_wrong(blocks: usize, head: &[u8], l: &[u32], i: usize) -> bool
     let t = l[i];
     let before = &l[0..i];
     let outside = !is_target(blocks, DiskBlock(t));
-    let seen = is_among(before, t);
-    let late = is_among(before, 0);
+    let seen = is_among(before, DiskBlock(t));
+    let late = is_among(before, DiskBlock(0));
     let blank = is_blank(head, i);
     (!(t == 0) & (outside | seen | late)) | !blank
 }
@@ -160,7 +160,7 @@ fn is_distinct(l: &[u32]) -> bool
 {
     let mut i: usize = 0;
     while i < l.len() {
-        if is_among(&l[i + 1..], l[i]) {
+        if is_among(&l[i + 1..], DiskBlock(l[i])) {
             return false;
         }
         i += 1;

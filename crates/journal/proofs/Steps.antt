@@ -11,6 +11,7 @@ use lib.Dec.{leb}
 use lib.ListN.{length, take, getD, getElem?, replicate}
 use lib.Seq.{length-take-le, take-all, take-length}
 use Rattle.spec.specs.Bytes.{zeros, patch, bytes2, distinct, place}
+use Rattle.spec.specs.declared.DiskBlock.{DiskBlock}
 use Rattle.spec.specs.Disk.{Slice, blocksOf, sliceOf}
 use Rattle.spec.specs.declared.Advanced.{Advanced}
 use Rattle.spec.specs.declared.Phase.{Phase}
@@ -357,7 +358,7 @@ module _ (N : ℕ) (device : List ℕ) (d k : ℕ) (l : List ℕ) (h : Held l k 
 
 -- ---- the session behind a store
 
-module _ (p : Phase) (s : Session) (b n : ℕ) (last : Bool) (a : Stored) (f : a ≡ answers.Stored b last n) where
+module _ (p : Phase) (s : Session) (b : DiskBlock) (n : ℕ) (last : Bool) (a : Stored) (f : a ≡ answers.Stored b last n) where
   pub behind-last : last ≡ true → opened (s .blocks) (lastPhase p) ≡ behind p s a
   behind-last e = rw (f, e)
 

@@ -8,7 +8,7 @@ use mathlib.Core.List.{List}
 use mathlib.Core.Option.{some}
 use Rattle.spec.specs.Layout.{blockSize}
 use Rattle.spec.specs.Bytes.{zeros, distinct}
-use Rattle.spec.specs.Disk.{blocksOf, sliceOf}
+use Rattle.spec.specs.Disk.{diskBlock, blocksOf, sliceOf}
 use Rattle.spec.specs.Session.{opened, inPhase}
 use Rattle.spec.specs.Answers.{stored, idle, storedOf}
 use Rattle.spec.specs.Transaction.{BlockStore, put, stateOf}
@@ -78,7 +78,7 @@ behind p s answer.Idle = s
 
 -- what is told of store d of n, at block b
 abbrev pub storeOf : ℕ → ℕ → ℕ → Stored
-storeOf b d n = answer.Stored b (eqb (d + 1) n) (d + 1)
+storeOf b d n = answer.Stored (diskBlock b) (eqb (d + 1) n) (d + 1)
 
 -- what is to be done next makes advance: nothing leaves all as it is, a store leaves the device with it
 abbrev pub Leads : Session → List ℕ → List ℕ → List ℕ → Phase → Next → Type 0

@@ -7,6 +7,7 @@ use lib.ListN.{length}
 use native.Mathlib.Omega.{arith}
 use borrow.Author.Tests.{ltb-false}
 use Rattle.spec.specs.Layout.{fewestBlocks, mostBlocks, bitmapBlock, nameSize, maxFileSize}
+use Rattle.spec.specs.Disk.{Disk}
 use Rattle.spec.specs.Inode.{isName, inodeBytes}
 use Rattle.spec.specs.Map.{filesOf}
 use Rattle.spec.specs.Transaction.{State, view}
@@ -75,3 +76,8 @@ files N lo hi =
 -- Demand 3: the cut rule of the store that `step` is, with nothing assumed
 pub crash-safe : CutRule step
 crash-safe = cut-rule files
+
+-- what `files` calls good
+pub files-good : (N : ℕ) (lo : fewestBlocks ≤ N) (hi : N ≤ mostBlocks) (v : Disk) → files N lo hi .Good v → Good N v
+unfolding files
+files-good N lo hi v g = g

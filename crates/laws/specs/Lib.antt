@@ -50,3 +50,12 @@ pub mod Exact
 pub mod Tie
 pub mod Tampered
 pub mod OneStore
+pub mod Starts
+pub mod CallRuns
+pub mod OneReply
+pub mod SameVolume
+pub mod OwnBlocks
+pub mod SameChange
+pub mod StepBytes
+pub mod Determined
+pub mod Programs

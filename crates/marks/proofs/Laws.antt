@@ -16,6 +16,7 @@ use lib.Seq.{getD-set-same, getD-set-other}
 use Rattle.spec.specs.Bytes.{exactly, all, occurs, upFrom, concat, lowest}
 use Rattle.spec.specs.Bitmap.{bitsOf}
 use Rattle.spec.specs.Disk.{Disk, isDataArea, areaOf, inData}
+use Rattle.spec.specs.declared.Area.{Area}
 use Rattle.spec.specs.declared.Area.the-variants.{Header, Log, Bitmap, Inodes, Data}
 use Rattle.spec.specs.Inode.{reachedFrom, reached}
 use Rattle.spec.specs.Sound.{blockSound, bitFault, blockFault}
@@ -52,6 +53,21 @@ data-low N x h =
 data-in : (N x : ℕ) → 42 ≤ x → x < N → inData N x ≡ true
 unfolding inData areaOf
 data-in N x l h = rw (le-ltb x 1 (omega arith), le-ltb x 33 (omega arith), le-ltb x 34 (omega arith), le-ltb x 42 l, lt-ltb x N h)
+
+-- a block lies from 42 on exactly where its area is that of data
+data-from-42 : (b : ℕ) → 42 ≤ b → isDataArea (areaOf b) ≡ true
+unfolding areaOf
+data-from-42 b l = rw (le-ltb b 1 (omega arith), le-ltb b 33 (omega arith), le-ltb b 34 (omega arith), le-ltb b 42 l)
+
+module _ (b : ℕ) (x a : Area) (e : x ≡ areaOf b) (q : x ≡ a) where
+  pub area-low : isDataArea a ≡ false → 42 ≡ max 42 b
+  area-low h = ⊎-elim (λ l. omega arith) (λ l. absurd (true≢false (sym (data-from-42 b l) ∙ ap isDataArea (sym e ∙ q) ∙ h))) (lt-or-le b 42)
+
+  pub area-data : isDataArea a ≡ true → b ≡ max 42 b
+  unfolding areaOf
+  area-data h =
+      let l = ltb-false b 42 (data-area (ltb b 1) (ltb b 33) (ltb b 34) (ltb b 42) (ap isDataArea (sym e ∙ q) ∙ h)) in
+      omega arith
 
 -- ---- bits
 
@@ -273,7 +289,7 @@ module _ (N : ℕ) (o t L o₀ t₀ L₀ : List ℕ) (k : Kept N o t L o₀ t₀
 -- ---- a run of blocks
 
 -- those within 42 to N-1 alone count
-pub run-start : (N a m b e : ℕ) (o t : List ℕ) → b ≡ max a 42 → e ≡ min (a + m) N → Kept N o t (upFrom b (e - b)) o t (upFrom a m)
+pub run-start : (N a m b e : ℕ) (o t : List ℕ) → b ≡ max 42 a → e ≡ min (a + m) N → Kept N o t (upFrom b (e - b)) o t (upFrom a m)
 run-start N a m b e o t eb ee = record { once = λ x. rw (same x); twice = λ x. rw (same x) }
   where
     inner : (x : ℕ) → inData N x ≡ true → occurs x (upFrom b (e - b)) ≡ occurs x (upFrom a m)

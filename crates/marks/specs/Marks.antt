@@ -7,8 +7,12 @@ use lib.ListN.{getD}
 use lib.Dec.{eqb}
 use Rattle.spec.specs.Bytes.{occurs, upFrom, concat}
 use Rattle.spec.specs.Bitmap.{bitsOf}
-use Rattle.spec.specs.Disk.{Disk, inData}
+use Rattle.spec.specs.Disk.{Disk, diskBlock, inData}
 use Rattle.spec.specs.Inode.{reachedFrom}
+use Rattle.inode.specs.declared.Found.{Found}
+use Rattle.inode.specs.declared.Found.the-variants.{At, Nothing}
+use Rattle.bitmap.specs.declared.Found as block
+use Rattle.bitmap.specs.declared.Found.the-variants as blocks
 
 -- bit x of a table
 unfoldable pub bit : List ℕ → ℕ → ℕ
@@ -35,3 +39,8 @@ wrong o t bits b = eqb (bit t b) 1 || not (Bool·beq (eqb (bit o b) 1) (eqb (bit
 unfoldable pub rightTo : ℕ → List ℕ → List ℕ → List ℕ → Bool
 rightTo zero o t bits = true
 rightTo (suc n) o t bits = rightTo n o t bits && (eqb (getD o n 0) (getD bits n 0) && eqb (getD t n 0) 0)
+
+-- a number that was looked for, as a block
+abbrev pub blockFound : Found → block.Found
+blockFound (At b) = blocks.At (diskBlock b)
+blockFound Nothing = blocks.Nothing

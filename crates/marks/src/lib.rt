@@ -1,8 +1,10 @@
 // S1 and S7: the blocks that files reach are marked in two tables, one bit to a block, and compared with the bitmap.
+use bitmap::Found;
 use bitmap::known;
+use block::area_of;
 use block::in_data;
-use inode::Found;
 use mkfs::empty_table;
+use spec::Area;
 use spec::DiskBlock;
 use spec::Limits;
 ghost use mathlib.Core.Path.{_≡_};
@@ -12,29 +14,36 @@ ghost use lib.Dec.{eqb};
 ghost use Rattle.spec.specs.Bytes.{upFrom};
 ghost use Rattle.mkfs.specs.Table.{Cleared};
 ghost use Rattle.inode.specs.Records.{lowestTo};
-ghost use Rattle.marks.specs.Marks.{bit, Kept, wrong, rightTo};
+ghost use Rattle.marks.specs.Marks.{bit, Kept, wrong, rightTo, blockFound};
 
-// Whether bit b is 1.
-fn bit_is(t: &[u8; Limits::BLOCK_SIZE], b: u32) -> bool
-    requires { ⌜ b < 4096 ⌝ }
-    ensures { λ r. ⌜ r ≡ eqb (bit (now (t .entry)) b) 1 ⌝ }
+// Whether the bit of block b is 1.
+fn bit_is(t: &[u8; Limits::BLOCK_SIZE], b: DiskBlock) -> bool
+    requires { ⌜ b .0 < 4096 ⌝ }
+    ensures { λ r. ⌜ r ≡ eqb (bit (now (t .entry)) (b .0)) 1 ⌝ }
 {
     known(*t);
-    let i = (b / 8) as usize;
-    (t[i] >> (b % 8)) % 2 == 1
+    let i = (b.0 / 8) as usize;
+    (t[i] >> (b.0 % 8)) % 2 == 1
 }
 
-// The lower of two numbers, and the higher.
+// The lower of two numbers.
 fn least(a: u32, b: u32) -> u32
     ensures { λ r. ⌜ r ≡ min a b ⌝ }
 {
     if a < b { a } else { b }
 }
 
-fn most(a: u32, b: u32) -> u32
-    ensures { λ r. ⌜ r ≡ max a b ⌝ }
+// Block b, or the first one of the data area where b lies before that.
+fn data_from(b: DiskBlock) -> DiskBlock
+    ensures { λ r. ⌜ r .0 ≡ max 42 (b .0) ⌝ }
 {
-    if a < b { b } else { a }
+    match area_of(b) {
+        Area::Header => DiskBlock(Limits::DATA_START),
+        Area::Log => DiskBlock(Limits::DATA_START),
+        Area::Bitmap => DiskBlock(Limits::DATA_START),
+        Area::Inodes => DiskBlock(Limits::DATA_START),
+        Area::Data => b,
+    }
 }
 
 // No block marked yet: ones outside 42 to N-1, where the bitmap has them.
@@ -42,23 +51,24 @@ pub fn no_marks(blocks: usize) -> [u8; Limits::BLOCK_SIZE]
     requires { ⌜ blocks ≤ 4096 ⌝ }
     ensures { λ t. ⌜ Cleared t (max 42 blocks) ⌝ }
 {
-    empty_table(most(Limits::DATA_START, blocks as u32))
+    let first = data_from(DiskBlock(blocks as u32));
+    empty_table(first.0)
 }
 
 // `n` blocks from b on reached, whose bits lie in one byte: marked in `once`, and in `twice` where they were marked before.
 fn mark_byte(
     once: &mut [u8; Limits::BLOCK_SIZE],
     twice: &mut [u8; Limits::BLOCK_SIZE],
-    b: u32,
+    b: DiskBlock,
     n: u32,
 )
-    requires { ⌜ (42 ≤ b) × (0 < n) × (b % 8 + n ≤ 8) × (b < 4096) ⌝ }
-    ensures { λ _. ⌜ ((N : ℕ) → b + n ≤ N → Kept N (now (once .exit)) (now (twice .exit)) [] (now (once .entry)) (now (twice .entry)) (upFrom b n)) ⌝ }
+    requires { ⌜ (42 ≤ b .0) × (0 < n) × (b .0 % 8 + n ≤ 8) × (b .0 < 4096) ⌝ }
+    ensures { λ _. ⌜ ((N : ℕ) → b .0 + n ≤ N → Kept N (now (once .exit)) (now (twice .exit)) [] (now (once .entry)) (now (twice .entry)) (upFrom (b .0) n)) ⌝ }
 {
     known(*once);
     known(*twice);
-    let i = (b / 8) as usize;
-    let m = (255u8 >> (8 - n)) << (b % 8);
+    let i = (b.0 / 8) as usize;
+    let m = (255u8 >> (8 - n)) << (b.0 % 8);
     let o = once[i];
     twice[i] = twice[i] | (o & m);
     once[i] = o | m;
@@ -69,12 +79,12 @@ pub fn mark(
     once: &mut [u8; Limits::BLOCK_SIZE],
     twice: &mut [u8; Limits::BLOCK_SIZE],
     blocks: usize,
-    b: u32,
+    b: DiskBlock,
 )
     requires { ⌜ blocks ≤ 4096 ⌝ }
-    ensures { λ _. ⌜ Kept blocks (now (once .exit)) (now (twice .exit)) [] (now (once .entry)) (now (twice .entry)) (b ∷ []) ⌝ }
+    ensures { λ _. ⌜ Kept blocks (now (once .exit)) (now (twice .exit)) [] (now (once .entry)) (now (twice .entry)) (b .0 ∷ []) ⌝ }
 {
-    if !in_data(blocks, DiskBlock(b)) {
+    if !in_data(blocks, b) {
         return;
     }
     mark_byte(once, twice, b, 1);
@@ -85,17 +95,19 @@ pub fn mark_run(
     once: &mut [u8; Limits::BLOCK_SIZE],
     twice: &mut [u8; Limits::BLOCK_SIZE],
     blocks: usize,
-    first: u32,
+    first: DiskBlock,
     count: u32,
 )
-    requires { ⌜ (blocks ≤ 4096) × (first < 65536) × (count < 65536) ⌝ }
-    ensures { λ _. ⌜ Kept blocks (now (once .exit)) (now (twice .exit)) [] (now (once .entry)) (now (twice .entry)) (upFrom first count) ⌝ }
+    requires { ⌜ (blocks ≤ 4096) × (first .0 < 65536) × (count < 65536) ⌝ }
+    ensures { λ _. ⌜ Kept blocks (now (once .exit)) (now (twice .exit)) [] (now (once .entry)) (now (twice .entry)) (upFrom (first .0) count) ⌝ }
 {
-    let end = least(first + count, blocks as u32);
-    let mut b = most(first, Limits::DATA_START);
+    let at = first.0;
+    let end = least(at + count, blocks as u32);
+    let from = data_from(first);
+    let mut b = from.0;
     while b < end {
         let n = least(8 - b % 8, end - b);
-        mark_byte(once, twice, b, n);
+        mark_byte(once, twice, DiskBlock(b), n);
         b += n;
     }
 }
@@ -105,10 +117,10 @@ fn is_wrong(
     once: &[u8; Limits::BLOCK_SIZE],
     twice: &[u8; Limits::BLOCK_SIZE],
     bitmap: &[u8; Limits::BLOCK_SIZE],
-    b: u32,
+    b: DiskBlock,
 ) -> bool
-    requires { ⌜ b < 4096 ⌝ }
-    ensures { λ r. ⌜ r ≡ wrong (now (once .entry)) (now (twice .entry)) (now (bitmap .entry)) b ⌝ }
+    requires { ⌜ b .0 < 4096 ⌝ }
+    ensures { λ r. ⌜ r ≡ wrong (now (once .entry)) (now (twice .entry)) (now (bitmap .entry)) (b .0) ⌝ }
 {
     bit_is(twice, b) | (bit_is(once, b) != bit_is(bitmap, b))
 }
@@ -140,7 +152,7 @@ pub fn lowest_wrong(
     twice: &[u8; Limits::BLOCK_SIZE],
     bitmap: &[u8; Limits::BLOCK_SIZE],
 ) -> Found
-    ensures { λ r. ⌜ r ≡ lowestTo 4096 (wrong (now (once .entry)) (now (twice .entry)) (now (bitmap .entry))) 0 ⌝ }
+    ensures { λ r. ⌜ r ≡ blockFound (lowestTo 4096 (wrong (now (once .entry)) (now (twice .entry)) (now (bitmap .entry))) 0) ⌝ }
 {
     known(*once);
     known(*twice);
@@ -150,8 +162,8 @@ pub fn lowest_wrong(
     }
     let mut b: u32 = 0;
     while b < Limits::BITMAP_BITS {
-        if is_wrong(once, twice, bitmap, b) {
-            return Found::At(b as usize);
+        if is_wrong(once, twice, bitmap, DiskBlock(b)) {
+            return Found::At(DiskBlock(b));
         }
         b += 1;
     }

@@ -34,7 +34,7 @@ fn clear_bits(t: &mut [u8; Limits::BLOCK_SIZE], from: u32, end: u32)
 {
     let mut b = from;
     while b < end {
-        clear_bit(t, b);
+        clear_bit(t, DiskBlock(b));
         known(*t);
         b += 1;
     }

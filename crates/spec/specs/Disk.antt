@@ -8,6 +8,11 @@ use Rattle.spec.specs.Layout.{blockSize, fewestBlocks, mostBlocks, bitma
 use Rattle.spec.specs.Bytes.{exactly}
 pub use Rattle.spec.specs.declared.Area.{Area}
 pub use Rattle.spec.specs.declared.Area.the-variants.{Header, Log, Bitmap, Inodes, Data}
+pub use Rattle.spec.specs.declared.DiskBlock.{DiskBlock}
+
+-- a block number as the code tells it
+abbrev pub diskBlock : ℕ → DiskBlock
+diskBlock b = record { 0 = b }
 
 abbrev pub Disk : Type 0
 Disk = ℕ → List ℕ

@@ -6,6 +6,7 @@ use marks::mark;
 use marks::mark_run;
 use spec::DiskBlock;
 use spec::Extent;
+use spec::FileBlock;
 use spec::Limits;
 ghost use mathlib.Core.Path.{_≡_};
 ghost use mathlib.Core.List.{[], _∷_};
@@ -50,10 +51,10 @@ pub struct Tops {
 }
 
 // Block b of a device.
-pub fn block_at(device: &[u8], b: u32) -> &[u8]
-    ensures { λ r. ⌜ exactly 512 (now r) ≡ blocksOf (now (device .entry)) b ⌝ }
+pub fn block_at(device: &[u8], b: DiskBlock) -> &[u8]
+    ensures { λ r. ⌜ exactly 512 (now r) ≡ blocksOf (now (device .entry)) (b .0) ⌝ }
 {
-    block_in(device, DiskBlock(b))
+    block_in(device, b)
 }
 
 // "Extents stay within 42 to N-1."
@@ -66,22 +67,22 @@ fn extent_inside(blocks: usize, e: Extent) -> bool
 }
 
 // Block k of the file, if it lies in this extent; else what was found before.
-fn tail_at(r: Run, k: usize, e: Extent) -> u32
+fn tail_at(r: Run, k: FileBlock, e: Extent) -> DiskBlock
     requires { ⌜ (e .first < 65536) × (e .count < 65536) × (r .blocks < 4294967296) ⌝ }
-    ensures { λ b. ⌜ b ≡ tailAt k r e ⌝ }
+    ensures { λ b. ⌜ b .0 ≡ tailAt (k .0) r e ⌝ }
 {
     let from = r.blocks;
     let count = e.count as usize;
-    if (from <= k) & (k < from + count) {
-        return e.first + (k - from) as u32;
+    if (from <= k.0) & (k.0 < from + count) {
+        return DiskBlock(e.first + (k.0 - from) as u32);
     }
-    r.tail
+    DiskBlock(r.tail)
 }
 
 // One more extent.
-fn with_extent(r: Run, blocks: usize, k: usize, e: Extent) -> Run
+fn with_extent(r: Run, blocks: usize, k: FileBlock, e: Extent) -> Run
     requires { ⌜ (e .first < 65536) × (0 < e .count) × (e .count < 65536) × (r .blocks < 4294967296) × (r .extents < 65536) ⌝ }
-    ensures { λ q. ⌜ q ≡ withExtent blocks k r e ⌝ }
+    ensures { λ q. ⌜ q ≡ withExtent blocks (k .0) r e ⌝ }
 {
     let inside = extent_inside(blocks, e);
     let tail = tail_at(r, k, e);
@@ -91,7 +92,7 @@ fn with_extent(r: Run, blocks: usize, k: usize, e: Extent) -> Run
         end: e.first + e.count,
         extents: r.extents + 1,
         blocks: r.blocks + e.count as usize,
-        tail: tail,
+        tail: tail.0,
     }
 }
 
@@ -135,15 +136,21 @@ fn take_extent(
     once: &mut [u8; Limits::BLOCK_SIZE],
     twice: &mut [u8; Limits::BLOCK_SIZE],
     blocks: usize,
-    k: usize,
+    k: FileBlock,
     r: Run,
     e: Extent,
 ) -> Run
     requires { ⌜ (blocks ≤ 4096) × (e .first < 65536) × (0 < e .count) × (e .count < 65536) × (r .blocks < 4294967296) × (r .extents < 65536) ⌝ }
-    ensures { λ q. ⌜ (q ≡ withExtent blocks k r e)
+    ensures { λ q. ⌜ (q ≡ withExtent blocks (k .0) r e)
         × Kept blocks (now (once .exit)) (now (twice .exit)) [] (now (once .entry)) (now (twice .entry)) (blocksFrom (r .blocks) (e ∷ [])) ⌝ }
 {
-    mark_run(once, twice, blocks, e.first, to_mark(e.count, r.blocks));
+    mark_run(
+        once,
+        twice,
+        blocks,
+        DiskBlock(e.first),
+        to_mark(e.count, r.blocks),
+    );
     with_extent(r, blocks, k, e)
 }
 
@@ -153,13 +160,13 @@ pub fn extents_over(
     twice: &mut [u8; Limits::BLOCK_SIZE],
     block: &[u8],
     blocks: usize,
-    k: usize,
+    k: FileBlock,
     at: usize,
     n: usize,
     r: Run,
 ) -> Run
     requires { ⌜ (blocks ≤ 4096) × (at + 4 * n ≤ 512) × (r .extents ≤ 512) × (r .blocks ≤ 33554432) ⌝ }
-    ensures { λ q. ⌜ (q ≡ overExtents blocks k r (used (slotsIn n (drop at (exactly 512 (now (block .entry)))))))
+    ensures { λ q. ⌜ (q ≡ overExtents blocks (k .0) r (used (slotsIn n (drop at (exactly 512 (now (block .entry)))))))
         × (q .extents ≤ r .extents + n) × (q .blocks ≤ r .blocks + 65536 * n)
         × Kept blocks (now (once .exit)) (now (twice .exit)) [] (now (once .entry)) (now (twice .entry))
         (blocksFrom (r .blocks) (used (slotsIn n (drop at (exactly 512 (now (block .entry))))))) ⌝ }
@@ -201,13 +208,13 @@ fn with_node(
     twice: &mut [u8; Limits::BLOCK_SIZE],
     device: &[u8],
     blocks: usize,
-    k: usize,
+    k: FileBlock,
     f: Nodes,
     more: bool,
     e: Extent,
 ) -> Nodes
     requires { ⌜ (blocks ≤ 4096) × (e .count < 65536) × (f .run .extents ≤ 384) × (f .run .blocks ≤ 25165824) × (f .tops ≤ 3) × (f .counts ≤ 196608) ⌝ }
-    ensures { λ q. ⌜ (q ≡ overNodes blocks k (blocksOf (now (device .entry))) f (usedFrom more (e ∷ [])))
+    ensures { λ q. ⌜ (q ≡ overNodes blocks (k .0) (blocksOf (now (device .entry))) f (usedFrom more (e ∷ [])))
         × (q .run .extents ≤ f .run .extents + 128) × (q .run .blocks ≤ f .run .blocks + 8388608)
         × Kept blocks (now (once .exit)) (now (twice .exit)) [] (now (once .entry)) (now (twice .entry))
         (treeFrom (blocksOf (now (device .entry))) (f .run .blocks) (usedFrom more (e ∷ []))) ⌝ }
@@ -216,8 +223,8 @@ fn with_node(
         return f;
     }
     let old = f.run;
-    mark(once, twice, blocks, e.first);
-    let node = block_at(device, e.first);
+    mark(once, twice, blocks, DiskBlock(e.first));
+    let node = block_at(device, DiskBlock(e.first));
     let r = extents_over(once, twice, node, blocks, k, 0, Limits::SLOTS_PER_NODE, old);
     let many = r.extents - old.extents;
     let packed = are_packed(node, 0, Limits::SLOTS_PER_NODE, many);
@@ -256,11 +263,11 @@ pub fn nodes_over(
     device: &[u8],
     table: &[u8],
     blocks: usize,
-    k: usize,
+    k: FileBlock,
     at: usize,
 ) -> Tops
     requires { ⌜ (blocks ≤ 4096) × (at + 16 ≤ 512) ⌝ }
-    ensures { λ q. ⌜ (q .nodes ≡ overNodes blocks k (blocksOf (now (device .entry))) noNodes (used (slotsIn 4 (drop at (exactly 512 (now (table .entry)))))))
+    ensures { λ q. ⌜ (q .nodes ≡ overNodes blocks (k .0) (blocksOf (now (device .entry))) noNodes (used (slotsIn 4 (drop at (exactly 512 (now (table .entry)))))))
         × (q .packed ≡ slotsPacked (slotsIn 4 (drop at (exactly 512 (now (table .entry))))))
         × Kept blocks (now (once .exit)) (now (twice .exit)) [] (now (once .entry)) (now (twice .entry))
         (treeFrom (blocksOf (now (device .entry))) 0 (used (slotsIn 4 (drop at (exactly 512 (now (table .entry))))))) ⌝ }

@@ -10,7 +10,7 @@ use Rattle.header.proofs.is_among.Statement.{statement}
 use Rattle.header.proofs.is_among.Tie as tie
 
 abbrev Inv-loop : tie.InvT-loop
-Inv-loop l b among₀ i₀ among i = (i ≤ length l) × (member b l ≡ (among || member b (drop i l)))
+Inv-loop l b among₀ i₀ among i = (i ≤ length l) × (member (b .0) l ≡ (among || member (b .0) (drop i l)))
 
 abbrev μ-loop : tie.MeasureT-loop
 μ-loop l b among₀ i₀ among i = length l - i
@@ -31,7 +31,7 @@ loop-less : tie.Need-loop-less Inv-loop μ-loop
 loop-less c = search needs
 
 loop-again : tie.Need-loop-again Inv-loop μ-loop
-loop-again c = let l = c .before .before .loop in (omega arith, among-more _ _ (l .i) (l .among) (l .inv .1) (omega arith))
+loop-again c = let l = c .before .before .before .loop in (omega arith, among-more _ _ (l .i) (l .among) (l .inv .1) (omega arith))
 
 returns : tie.Need-returns Inv-loop μ-loop
 returns c = let l = c .before .loop in among-end _ _ (l .i) (l .among) (l .inv .1) (c .loop-test .left)

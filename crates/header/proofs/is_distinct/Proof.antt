@@ -32,11 +32,11 @@ part-is-among-start c = search needs
 part-is-among-end : tie.Need-part-is-among-end Inv-loop μ-loop
 part-is-among-end c = search needs
 
-mul-is-among-2 : tie.Need-mul-is-among-2 Inv-loop μ-loop
-mul-is-among-2 c = search needs
+mul-t11 : tie.Need-mul-t11 Inv-loop μ-loop
+mul-t11 c = search needs
 
-shared-slice-read-is-among : tie.Need-shared-slice-read-is-among Inv-loop μ-loop
-shared-slice-read-is-among c = search needs
+shared-slice-read-t13 : tie.Need-shared-slice-read-t13 Inv-loop μ-loop
+shared-slice-read-t13 c = search needs
 
 is-among-requires : tie.Need-is-among-requires Inv-loop μ-loop
 is-among-requires c κs = search needs
@@ -68,8 +68,8 @@ is-distinct-spec =
     sub-is-among
     part-is-among-start
     part-is-among-end
-    mul-is-among-2
-    shared-slice-read-is-among
+    mul-t11
+    shared-slice-read-t13
     is-among-requires
     returns
     add-i

@@ -19,7 +19,7 @@ shr-result : tie.Need-shr-result
 shr-result c = search needs
 
 returns : tie.Need-returns
-returns c = bit-read _ _ (c .before .known .ensures .full) (c .before .before .before .pre)
+returns c = bit-read _ _ (c .before .before .before .known .ensures .full) (c .before .before .before .before .before .pre)
 
 pub bit-is-spec : {M : Type 1} → statement M
 bit-is-spec =

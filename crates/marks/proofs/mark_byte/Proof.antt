@@ -43,7 +43,7 @@ element-write-once c = search needs
 
 returns : tie.Need-returns
 unfolding mask
-returns c = let p = c .before .before .before .before .before .before .pre in λ N h. byte-marked _ _ _ _ (c .before .before .before .before .known .ensures .full) (c .before .before .known2 .ensures .full) (p .0) (p .1) (p .2) (p .3) N h _ _ refl refl
+returns c = let p = c .before .before .before .before .before .before .before .before .pre in λ N h. byte-marked _ _ _ _ (c .before .before .before .before .before .before .known .ensures .full) (c .before .before .before .before .known2 .ensures .full) (p .0) (p .1) (p .2) (p .3) N h _ _ refl refl
 
 pub mark-byte-spec : {M : Type 1} → statement M
 mark-byte-spec =

@@ -9,10 +9,10 @@ use Rattle.marks.proofs.mark_run.Statement.{statement}
 use Rattle.marks.proofs.mark_run.Tie as tie
 
 abbrev Inv-loop : tie.InvT-loop
-Inv-loop once₀ twice₀ blocks first count end b₀ once twice b = (42 ≤ b) × (end ≤ blocks) × (blocks ≤ 4096) × Kept blocks once twice (upFrom b (end - b)) once₀ twice₀ (upFrom first count)
+Inv-loop once₀ twice₀ blocks count at end b₀ once twice b = (42 ≤ b) × (end ≤ blocks) × (blocks ≤ 4096) × Kept blocks once twice (upFrom b (end - b)) once₀ twice₀ (upFrom at count)
 
 abbrev μ-loop : tie.MeasureT-loop
-μ-loop once₀ twice₀ blocks first count end b₀ once twice b = end - b
+μ-loop once₀ twice₀ blocks count at end b₀ once twice b = end - b
 
 add-least : tie.Need-add-least Inv-loop μ-loop
 add-least c = search needs
@@ -23,11 +23,11 @@ cast-least c = search needs
 least-requires : tie.Need-least-requires Inv-loop μ-loop
 least-requires c κs = search needs
 
-most-requires : tie.Need-most-requires Inv-loop μ-loop
-most-requires c κs = search needs
+data-from-requires : tie.Need-data-from-requires Inv-loop μ-loop
+data-from-requires c κs = search needs
 
 loop-holds : tie.Need-loop-holds Inv-loop μ-loop
-loop-holds c = (omega (arith, c .most .ensures), omega (arith, c .before .least .ensures), c .before .before .pre .0, run-start _ _ _ _ _ _ _ (c .most .ensures) (c .before .least .ensures))
+loop-holds c = (omega (arith, c .data-from .ensures), omega (arith, c .before .least .ensures), c .before .before .pre .0, run-start _ _ _ _ _ _ _ (c .data-from .ensures) (c .before .least .ensures))
 
 sub-least : tie.Need-sub-least Inv-loop μ-loop
 sub-least c = search needs
@@ -63,7 +63,7 @@ mark-run-spec =
     add-least
     cast-least
     least-requires
-    most-requires
+    data-from-requires
     loop-holds
     sub-least
     sub-least-2

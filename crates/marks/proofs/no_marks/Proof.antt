@@ -3,17 +3,17 @@ use borrow.Author.Needs.{needs}
 use Rattle.marks.proofs.no_marks.Statement.{statement}
 use Rattle.marks.proofs.no_marks.Tie as tie
 
-cast-most : tie.Need-cast-most
-cast-most c = search needs
+cast-t3 : tie.Need-cast-t3
+cast-t3 c = search needs
 
-most-requires : tie.Need-most-requires
-most-requires c κs = search needs
+data-from-requires : tie.Need-data-from-requires
+data-from-requires c κs = search needs
 
 empty-table-requires : tie.Need-empty-table-requires
 empty-table-requires c κs = search needs
 
 returns : tie.Need-returns
-returns c = cleared-on _ _ _ (c .empty-table .ensures .1) (c .before .most .ensures)
+returns c = cleared-on _ _ _ (c .empty-table .ensures .1) (c .before .data-from .ensures)
 
 pub no-marks-spec : {M : Type 1} → statement M
-no-marks-spec = tie.close (tie.spec cast-most most-requires empty-table-requires returns)
+no-marks-spec = tie.close (tie.spec cast-t3 data-from-requires empty-table-requires returns)

@@ -9,7 +9,7 @@ use Rattle.tree.proofs.extents_over.Tie as tie
 
 abbrev Inv-loop : tie.InvT-loop
 Inv-loop once₀ twice₀ block blocks k at n q₀ p₀ left₀ once twice q p left =
-    Going blocks k (exactly 512 block) once twice q p left once₀ twice₀ q₀ (slotsIn n (drop at (exactly 512 block))) n
+    Going blocks (k .0) (exactly 512 block) once twice q p left once₀ twice₀ q₀ (slotsIn n (drop at (exactly 512 block))) n
 
 abbrev μ-loop : tie.MeasureT-loop
 μ-loop once₀ twice₀ block blocks k at n q₀ p₀ left₀ once twice q p left = left

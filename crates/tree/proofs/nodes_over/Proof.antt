@@ -10,7 +10,7 @@ use Rattle.tree.proofs.nodes_over.Tie as tie
 
 abbrev Inv-loop : tie.InvT-loop
 Inv-loop once₀ twice₀ device table blocks k at f₀ more₀ packed₀ p₀ left₀ once twice f more packed p left =
-    Noding blocks k (blocksOf device) (exactly 512 table) once twice f more packed p left once₀ twice₀ (slotsIn 4 (drop at (exactly 512 table)))
+    Noding blocks (k .0) (blocksOf device) (exactly 512 table) once twice f more packed p left once₀ twice₀ (slotsIn 4 (drop at (exactly 512 table)))
 
 abbrev μ-loop : tie.MeasureT-loop
 μ-loop once₀ twice₀ device table blocks k at f₀ more₀ packed₀ p₀ left₀ once twice f more packed p left =

@@ -11,21 +11,21 @@ cast-count c = search needs
 add-if1 : tie.Need-add-if1
 add-if1 c = search needs
 
-sub-result : tie.Need-sub-result
-sub-result c = let a = c .before .before .args in tail-within (a .r .blocks) (a .k) (a .e .count) (c .if1 .taken) .0
+sub-t10 : tie.Need-sub-t10
+sub-t10 c = let a = c .before .before .before .before .before .args in tail-within (a .r .blocks) (a .k .0) (a .e .count) (c .before .if1 .taken) .0
 
-cast-result : tie.Need-cast-result
-cast-result c = let a = c .before .before .args in omega (arith, tail-within (a .r .blocks) (a .k) (a .e .count) (c .if1 .taken))
+cast-t11 : tie.Need-cast-t11
+cast-t11 c = let a = c .before .before .before .before .before .args in omega (arith, tail-within (a .r .blocks) (a .k .0) (a .e .count) (c .before .if1 .taken))
 
-add-result : tie.Need-add-result
-add-result c = let a = c .before .before .before .args in omega (arith, tail-within (a .r .blocks) (a .k) (a .e .count) (c .before .if1 .taken))
+add-t12 : tie.Need-add-t12
+add-t12 c = let a = c .before .before .before .before .before .before .args in omega (arith, tail-within (a .r .blocks) (a .k .0) (a .e .count) (c .before .before .if1 .taken))
 
 returns : tie.Need-returns
-returns c = tail-in _ _ _ _ refl (c .before .if1 .taken)
+returns c = tail-in _ _ _ _ refl (c .before .before .if1 .taken)
 
 returns-2 : tie.Need-returns-2
 returns-2 c = tail-out _ _ _ _ refl (c .if1 .left)
 
 pub tail-at-spec : {M : Type 1} → statement M
 tail-at-spec =
-    tie.close (tie.spec cast-count add-if1 sub-result cast-result add-result returns returns-2)
+    tie.close (tie.spec cast-count add-if1 sub-t10 cast-t11 add-t12 returns returns-2)

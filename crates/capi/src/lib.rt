@@ -45,7 +45,6 @@ use query::record_in;
 use query::size_in;
 use spec::ByteOffset;
 use spec::Counted;
-use spec::DiskBlock;
 use spec::Done;
 use spec::Extent;
 use spec::FileBlock;
@@ -403,14 +402,14 @@ pub extern "C" fn purse_read_v<'a>(
     let head = head_in(numbers);
     let blocks = head.blocks as usize;
     let phase = phase_in(head);
-    let cells: &[u32] = staged;
-    let used = &cells[0..staged_in(head)];
+    let many = head.count as usize;
     let answer = read_in(
         device,
         work,
         blocks,
         phase,
-        used,
+        staged,
+        many,
         name,
         ByteOffset(x as usize),
         buffer,
@@ -432,9 +431,8 @@ pub extern "C" fn purse_size_v<'a>(
     let head = head_in(numbers);
     let blocks = head.blocks as usize;
     let phase = phase_in(head);
-    let cells: &[u32] = staged;
-    let used = &cells[0..staged_in(head)];
-    let answer = size_in(device, work, blocks, phase, used, name);
+    let many = head.count as usize;
+    let answer = size_in(device, work, blocks, phase, staged, many, name);
     counted(answer)
 }
 
@@ -451,9 +449,8 @@ pub extern "C" fn purse_free_count_v<'a>(
     let head = head_in(numbers);
     let blocks = head.blocks as usize;
     let phase = phase_in(head);
-    let cells: &[u32] = staged;
-    let used = &cells[0..staged_in(head)];
-    let answer = free_count_in(device, work, blocks, phase, used);
+    let many = head.count as usize;
+    let answer = free_count_in(device, work, blocks, phase, staged, many);
     counted(answer)
 }
 
@@ -472,9 +469,8 @@ pub extern "C" fn purse_record_v<'a>(
     let head = head_in(numbers);
     let blocks = head.blocks as usize;
     let phase = phase_in(head);
-    let cells: &[u32] = staged;
-    let used = &cells[0..staged_in(head)];
-    let answer = record_in(device, work, blocks, phase, used, i as usize);
+    let many = head.count as usize;
+    let answer = record_in(device, work, blocks, phase, staged, many, i as usize);
     recorded(answer, name)
 }
 
@@ -495,14 +491,14 @@ pub extern "C" fn purse_nth_extent_v<'a>(
     let head = head_in(numbers);
     let blocks = head.blocks as usize;
     let phase = phase_in(head);
-    let cells: &[u32] = staged;
-    let used = &cells[0..staged_in(head)];
+    let many = head.count as usize;
     let answer = nth_extent_in(
         device,
         work,
         blocks,
         phase,
-        used,
+        staged,
+        many,
         name,
         FileBlock(from as usize),
         n as usize,
@@ -539,12 +535,12 @@ fn put_runs<'a>(
     work: &'a [u8],
     staged: &[u32],
     i: usize,
-    from: usize,
+    from: FileBlock,
     n: usize,
     list: &mut [u32],
 ) -> usize
     requires { ⌜ (i < 128) × (length (now staged) ≤ 32) ⌝ }
-    ensures { λ r. ⌜ Listed (runsIn (viewIn (now (staged .entry)) (now (device .entry)) (now (work .entry))) i from n) (now (list .entry)) (now (list .exit)) r ⌝ }
+    ensures { λ r. ⌜ Listed (runsIn (viewIn (now (staged .entry)) (now (device .entry)) (now (work .entry))) i (from .0) n) (now (list .entry)) (now (list .exit)) r ⌝ }
 {
     let table = inode_block_in(device, work, staged, i);
     let mut scan = stretch_at(table, i, from, n);
@@ -570,7 +566,7 @@ fn put_runs<'a>(
             }
             AtSlot::Unused => match take_node(table, scan) {
                 AtNode::Node(b, then) => {
-                    block = view_in(device, work, staged, DiskBlock(b));
+                    block = view_in(device, work, staged, b);
                     scan = then;
                 }
                 AtNode::End => {
@@ -588,11 +584,11 @@ fn count_runs<'a>(
     work: &'a [u8],
     staged: &[u32],
     i: usize,
-    from: usize,
+    from: FileBlock,
     n: usize,
 ) -> usize
     requires { ⌜ (i < 128) × (length (now staged) ≤ 32) ⌝ }
-    ensures { λ r. ⌜ r ≡ length (runsIn (viewIn (now (staged .entry)) (now (device .entry)) (now (work .entry))) i from n) ⌝ }
+    ensures { λ r. ⌜ r ≡ length (runsIn (viewIn (now (staged .entry)) (now (device .entry)) (now (work .entry))) i (from .0) n) ⌝ }
 {
     let mut none = [0u32; 1];
     put_runs(device, work, staged, i, from, n, &mut none)
@@ -606,13 +602,13 @@ fn list_runs<'a>(
     phase: Phase,
     staged: &[u32],
     name: &[u8],
-    from: usize,
+    from: FileBlock,
     n: usize,
     list: &mut [u32],
 ) -> Counted
     requires { ⌜ length (now staged) ≤ 32 ⌝ }
     ensures { λ r. ⌜ ((s : Session) → Seen blocks phase (now (staged .entry)) s → Lists (countedOf (answerOf r)) (now (list .entry)) (now (list .exit))
-        (runList (stateOf s (now (device .entry)) (now (work .entry))) (now (name .entry)) from n (extentsOf (now (list .entry))))) ⌝ }
+        (runList (stateOf s (now (device .entry)) (now (work .entry))) (now (name .entry)) (from .0) n (extentsOf (now (list .entry))))) ⌝ }
 {
     match look_up(device, work, blocks, phase, staged, name) {
         Looked::Bad(why) => Counted::Refused(why),
@@ -655,7 +651,7 @@ pub extern "C" fn purse_run_list_v<'a>(
         phase,
         used,
         name,
-        from as usize,
+        FileBlock(from as usize),
         n as usize,
         list,
     );

@@ -1,4 +1,5 @@
-/* Calls every function once or more, and compares with the worked examples of the paper (E1 to E13). Prints each difference, then the result. */
+/* Calls every function once or more, and compares with the worked examples of the paper (E1 to E13); then with sessions that the store did not
+ * make, refused and accepted, all that is lent compared before and behind. Prints the first 20 differences, then the result. */
 #include <inttypes.h>
 #include <stdio.h>
 #include <string.h>
@@ -17,10 +18,8 @@ static const uint8_t B[8] = { 8, 7, 6, 5, 4, 3, 2, 1 };
 static void same(const char *what, uint64_t got, uint64_t want)
 {
     tests++;
-    if (got != want) {
-        failures++;
+    if (got != want && failures++ < 20)
         printf("%s: %" PRIu64 ", not %" PRIu64 "\n", what, got, want);
-    }
 }
 
 #define LENT device, len, work, sizeof work
@@ -78,7 +77,7 @@ static void one_file(void)
     purse_file f;
     purse_extent e;
     purse_store done;
-    uint32_t list[5] = { 7, 7, 7, 7, 7 };
+    purse_extent list[3] = { { 7, 7 }, { 7, 7 }, { 7, 7 } };
 
     fresh(64);
     same("bitmap", device[33 * PURSE_BLOCK + 5], 3);
@@ -120,11 +119,11 @@ static void one_file(void)
     same("E3 count", e.count, 2);
     same("extent 1", purse_nth_extent(LENT, &s, A, 8, 0, 9, 1, &e), 0);
     same("no extent", e.first + e.count, 0);
-    same("run list", purse_run_list(LENT, &s, A, 8, 0, 9, list, 5, &n), 0);
+    same("run list", purse_run_list(LENT, &s, A, 8, 0, 9, list, 3, &n), 0);
     same("runs", n, 1);
-    same("run", list[0] * 100 + list[1], 4202);
-    same("cells behind", list[2] + list[3] + list[4], 21);
-    same("short list", purse_run_list(LENT, &s, A, 8, 0, 9, list, 1, &n), PURSE_LIST_SHORT);
+    same("run", list[0].first * 100 + list[0].count, 4202);
+    same("places behind", list[1].first + list[1].count + list[2].first + list[2].count, 28);
+    same("short list", purse_run_list(LENT, &s, A, 8, 0, 9, list, 0, &n), PURSE_LIST_SHORT);
     same("count of a refusal", n, 0);
 
     same("E9", set_size(A, 100), 0);
@@ -190,7 +189,7 @@ static void pieces(void)
 {
     uint64_t n;
     purse_extent e;
-    uint32_t list[10];
+    purse_extent list[5];
 
     fresh(64);
     create(A);
@@ -202,15 +201,15 @@ static void pieces(void)
     same("fifth piece", purse_nth_extent(LENT, &s, A, 8, 0, 5, 4, &e), 0);
     same("E11 fifth block", e.first, 50);
     same("free", free_blocks(), 22 - 10);
-    same("run list", purse_run_list(LENT, &s, A, 8, 0, 5, list, 10, &n), 0);
+    same("run list", purse_run_list(LENT, &s, A, 8, 0, 5, list, 5, &n), 0);
     same("five pieces", n, 5);
     for (uint32_t k = 0; k < 5; k++) {
-        same("first of a piece", list[2 * k], 42 + 2 * k);
-        same("count of a piece", list[2 * k + 1], 1);
+        same("first of a piece", list[k].first, 42 + 2 * k);
+        same("count of a piece", list[k].count, 1);
     }
-    same("run list too long", purse_run_list(LENT, &s, A, 8, 0, 5, list, 9, &n), PURSE_LIST_SHORT);
-    same("middle", purse_run_list(LENT, &s, A, 8, 1, 2, list, 4, &n), 0);
-    same("two pieces", n * 10000 + list[0] * 100 + list[2], 24446);
+    same("run list too long", purse_run_list(LENT, &s, A, 8, 0, 5, list, 4, &n), PURSE_LIST_SHORT);
+    same("middle", purse_run_list(LENT, &s, A, 8, 1, 2, list, 2, &n), 0);
+    same("two pieces", n * 10000 + list[0].first * 100 + list[1].first, 24446);
     same("E11 cut", set_size(A, 2048), 0);
     same("E11 free", free_blocks(), 22 - 8);
 }
@@ -253,9 +252,361 @@ static void refusals(void)
     device[16] = 0;
     device[33 * PURSE_BLOCK] = 0;
     same("unsound", purse_open(device, len, &s, &record), PURSE_UNSOUND);
-    s.phase = 99;
-    same("no phase", purse_abort(LENT, &s), PURSE_NOT_READY);
-    same("taken as closed", s.phase, PURSE_CLOSED);
+}
+
+/* ---- Sessions that the store did not make: each call, refused and accepted */
+
+/* All that the calls below are lent. */
+typedef struct {
+    purse_session s;
+    uint8_t device[64 * PURSE_BLOCK];
+    uint8_t work[PURSE_WORK];
+    uint8_t name[8], new_name[8], record[8], buffer[20], bytes[20];
+    uint32_t list[6];
+    size_t len, work_len;
+} lent;
+
+static lent base, at, before;
+static purse_advanced stored; /* the answer of the last advance */
+static uint64_t answered;     /* the count, stores or size of the last answer */
+
+#define DEVICE at.device, at.len
+#define WORK at.work, at.work_len
+#define NUMBERS purse_numbers_in(&at.s)
+#define NAME at.name, sizeof at.name
+
+static uint32_t with_count(purse_counted r)
+{
+    answered = r.count;
+    return r.refusal;
+}
+
+static uint32_t do_format(void) { return purse_format_v(DEVICE, NUMBERS, at.s.staged).refusal; }
+
+static uint32_t do_open(void) { return purse_open_v(DEVICE, NUMBERS, at.s.staged).refusal; }
+
+static uint32_t do_advance(void)
+{
+    stored = purse_advance_v(DEVICE, WORK, NUMBERS, at.s.staged);
+    return stored.refusal;
+}
+
+static uint32_t do_commit(void)
+{
+    purse_committed r = purse_commit_v(DEVICE, WORK, NUMBERS, at.s.staged);
+    answered = r.stores;
+    return r.refusal;
+}
+
+static uint32_t do_abort(void) { return purse_abort_v(DEVICE, WORK, NUMBERS, at.s.staged).refusal; }
+
+static uint32_t do_create(void) { return purse_create_v(DEVICE, WORK, NUMBERS, at.s.staged, NAME).refusal; }
+
+static uint32_t do_remove(void) { return purse_remove_v(DEVICE, WORK, NUMBERS, at.s.staged, NAME).refusal; }
+
+static uint32_t do_rename(void) { return purse_rename_v(DEVICE, WORK, NUMBERS, at.s.staged, NAME, at.new_name, 8).refusal; }
+
+static uint32_t do_write(void) { return purse_write_v(DEVICE, WORK, NUMBERS, at.s.staged, NAME, 590, at.bytes, sizeof at.bytes).refusal; }
+
+static uint32_t do_write_far(void) { return purse_write_v(DEVICE, WORK, NUMBERS, at.s.staged, NAME, 1048570, at.bytes, sizeof at.bytes).refusal; }
+
+static uint32_t do_set_size(void) { return purse_set_size_v(DEVICE, WORK, NUMBERS, at.s.staged, NAME, 100).refusal; }
+
+static uint32_t do_set_large(void) { return purse_set_size_v(DEVICE, WORK, NUMBERS, at.s.staged, NAME, 20000).refusal; }
+
+static uint32_t do_read(void) { return with_count(purse_read_v(DEVICE, WORK, NUMBERS, NAME, at.s.staged, 590, at.buffer, sizeof at.buffer)); }
+
+static uint32_t do_size(void) { return with_count(purse_size_v(DEVICE, WORK, NUMBERS, NAME, at.s.staged)); }
+
+static uint32_t do_free_count(void) { return with_count(purse_free_count_v(DEVICE, WORK, NUMBERS, at.s.staged)); }
+
+static uint32_t record(uint64_t i)
+{
+    purse_recorded r = purse_record_v(DEVICE, WORK, NUMBERS, i, at.s.staged, at.record);
+    answered = r.used * 10000 + r.size;
+    return r.refusal;
+}
+
+static uint32_t do_record(void) { return record(0); }
+
+static uint32_t do_empty_record(void) { return record(5); }
+
+static uint32_t do_far_record(void) { return record(UINT64_MAX); }
+
+static uint32_t do_nth_extent(void)
+{
+    purse_run r = purse_nth_extent_v(DEVICE, WORK, NUMBERS, NAME, at.s.staged, 0, 9, 0);
+    answered = r.first * 10 + r.count;
+    return r.refusal;
+}
+
+static uint32_t do_run_list(void) { return with_count(purse_run_list_v(DEVICE, WORK, NUMBERS, NAME, at.s.staged, 0, 9, at.list, 6)); }
+
+static uint32_t do_short_list(void) { return with_count(purse_run_list_v(DEVICE, WORK, NUMBERS, NAME, at.s.staged, 0, 9, at.list, 1)); }
+
+/* A call on the base: file A of 600 bytes, and file C made in this transaction. */
+typedef struct {
+    const char *what;
+    uint32_t (*call)(void);
+    const uint8_t *name, *new_name; /* NULL: it has none */
+    uint32_t refusal;               /* where the session is ready */
+    uint64_t count;                 /* staged behind it, where it is accepted and may change the session */
+    uint64_t answer;                /* the number answered */
+    int any_phase, no_work, reads;
+} odd_call;
+
+static const uint8_t C[8] = { 9, 9, 9, 9, 9, 9, 9, 9 };
+static const uint8_t zero[8];
+
+static const odd_call odd_calls[] = {
+    { "format", do_format, NULL, NULL, 0, 0, 0, 1, 1, 0 },
+    { "open", do_open, NULL, NULL, 0, 0, 0, 1, 1, 0 },
+    { "advance", do_advance, NULL, NULL, 0, 1, 0, 1, 0, 0 },
+    { "commit", do_commit, NULL, NULL, 0, 1, 4, 0, 0, 0 },
+    { "abort", do_abort, NULL, NULL, 0, 0, 0, 0, 0, 0 },
+    { "create", do_create, B, NULL, 0, 1, 0, 0, 0, 0 },
+    { "create taken", do_create, A, NULL, 14, 0, 0, 0, 0, 0 },
+    { "remove", do_remove, A, NULL, 0, 2, 0, 0, 0, 0 },
+    { "remove unknown", do_remove, B, NULL, 13, 0, 0, 0, 0, 0 },
+    { "rename", do_rename, A, B, 0, 1, 0, 0, 0, 0 },
+    { "rename unknown", do_rename, B, C, 13, 0, 0, 0, 0, 0 },
+    { "rename taken", do_rename, A, C, 14, 0, 0, 0, 0, 0 },
+    { "rename to zero", do_rename, A, zero, 3, 0, 0, 0, 0, 0 },
+    { "write", do_write, A, NULL, 0, 2, 0, 0, 0, 0 },
+    { "write unknown", do_write, B, NULL, 13, 0, 0, 0, 0, 0 },
+    { "write too far", do_write_far, A, NULL, 4, 0, 0, 0, 0, 0 },
+    { "set size", do_set_size, A, NULL, 0, 3, 0, 0, 0, 0 },
+    { "set size unknown", do_set_size, B, NULL, 13, 0, 0, 0, 0, 0 },
+    { "set size too large", do_set_large, A, NULL, 16, 0, 0, 0, 0, 0 },
+    { "read", do_read, A, NULL, 0, 0, 10, 0, 0, 1 },
+    { "read unknown", do_read, B, NULL, 13, 0, 0, 0, 0, 1 },
+    { "size", do_size, A, NULL, 0, 0, 600, 0, 0, 1 },
+    { "size unknown", do_size, B, NULL, 13, 0, 0, 0, 0, 1 },
+    { "free count", do_free_count, NULL, NULL, 0, 0, 20, 0, 0, 1 },
+    { "record", do_record, NULL, NULL, 0, 0, 10600, 0, 0, 1 },
+    { "empty record", do_empty_record, NULL, NULL, 0, 0, 0, 0, 0, 1 },
+    { "far record", do_far_record, NULL, NULL, 0, 0, 0, 0, 0, 1 },
+    { "n-th extent", do_nth_extent, A, NULL, 0, 0, 422, 0, 0, 1 },
+    { "n-th extent unknown", do_nth_extent, B, NULL, 13, 0, 0, 0, 0, 1 },
+    { "run list", do_run_list, A, NULL, 0, 0, 1, 0, 0, 1 },
+    { "run list unknown", do_run_list, B, NULL, 13, 0, 0, 0, 0, 1 },
+    { "run list too long", do_short_list, A, NULL, 19, 0, 0, 0, 0, 1 },
+};
+
+enum damage { NONE, SHORT_DEVICE, OTHER_DEVICE, SHORT_WORK, ZERO_NAME, DAMAGES };
+
+static const uint64_t odd_phases[] = { 0, 1, 2, 3, 7, (UINT64_C(1) << 32) + 1, UINT64_MAX };
+static const uint64_t odd_places[] = { 0, 5, 9, UINT64_MAX };
+static const uint64_t odd_counts[] = { 1, 33, UINT64_MAX };
+
+/* The lowest refusal that is due: tests go in the order of their numbers. */
+static uint32_t due(const odd_call *c, enum damage d, uint64_t phase)
+{
+    int has_session = c->call != do_format && c->call != do_open;
+    if (d == SHORT_DEVICE || (d == OTHER_DEVICE && has_session))
+        return PURSE_DEVICE_SIZE;
+    if (d == SHORT_WORK && !c->no_work)
+        return PURSE_WORK_SIZE;
+    if ((d == ZERO_NAME && c->name != NULL) || c->refusal == PURSE_BAD_NAME)
+        return PURSE_BAD_NAME;
+    if (c->refusal == PURSE_TOO_LARGE)
+        return PURSE_TOO_LARGE;
+    if (!c->any_phase && phase != PURSE_READY)
+        return PURSE_NOT_READY;
+    return c->refusal;
+}
+
+static void same_in(const odd_call *c, enum damage d, const char *what, uint64_t got, uint64_t want)
+{
+    char text[200];
+    snprintf(text, sizeof text, "%s, damage %d, phase %" PRIu64 ", place %" PRIu64 ", count %" PRIu64 ": %s", c->what, (int)d, before.s.phase,
+        before.s.place, before.s.count, what);
+    same(text, got, want);
+}
+
+/* Nothing that was lent is another. Compared piece by piece, so that a failure names the piece. */
+static void unchanged(const odd_call *c, enum damage d)
+{
+    same_in(c, d, "session changed", (uint64_t)(memcmp(&at.s, &before.s, 32) != 0), 0);
+    same_in(c, d, "cells changed", (uint64_t)(memcmp(at.s.staged, before.s.staged, sizeof at.s.staged) != 0), 0);
+    same_in(c, d, "device changed", (uint64_t)(memcmp(at.device, before.device, sizeof at.device) != 0), 0);
+    same_in(c, d, "work space changed", (uint64_t)(memcmp(at.work, before.work, sizeof at.work) != 0), 0);
+    same_in(c, d, "name of the record changed", (uint64_t)(memcmp(at.record, before.record, 8) != 0), 0);
+    same_in(c, d, "buffer changed", (uint64_t)(memcmp(at.buffer, before.buffer, sizeof at.buffer) != 0), 0);
+    same_in(c, d, "list changed", (uint64_t)(memcmp(at.list, before.list, sizeof at.list) != 0), 0);
+    same_in(c, d, "names and bytes changed",
+        (uint64_t)(memcmp(at.name, before.name, 8) != 0 || memcmp(at.new_name, before.new_name, 8) != 0
+            || memcmp(at.bytes, before.bytes, sizeof at.bytes) != 0), 0);
+}
+
+/* The phase of the session behind an accepted call that may change it. */
+static uint64_t phase_behind(const odd_call *c)
+{
+    if (c->call == do_format)
+        return PURSE_CLOSED;
+    if (c->call == do_advance)
+        return before.s.phase == PURSE_READY ? PURSE_READY : PURSE_CLOSED;
+    return c->call == do_commit ? PURSE_COMMITTING : PURSE_READY;
+}
+
+/* What an accepted call leaves. */
+static void accepted(const odd_call *c, enum damage d)
+{
+    if (c->reads) {
+        same_in(c, d, "session of a reading call", (uint64_t)(memcmp(&at.s, &before.s, sizeof at.s) != 0), 0);
+        same_in(c, d, "device of a reading call", (uint64_t)(memcmp(at.device, before.device, sizeof at.device) != 0), 0);
+        same_in(c, d, "work space of a reading call", (uint64_t)(memcmp(at.work, before.work, sizeof at.work) != 0), 0);
+    } else {
+        same_in(c, d, "blocks", at.s.blocks, 64);
+        same_in(c, d, "phase left", at.s.phase, phase_behind(c));
+        same_in(c, d, "place left", at.s.place, 0);
+        same_in(c, d, "count left", at.s.count, c->count);
+    }
+    same_in(c, d, "answer", answered, c->answer);
+    if (c->call == do_empty_record || c->call == do_far_record)
+        same_in(c, d, "name of an empty record", (uint64_t)(memcmp(at.record, zero, 8) != 0), 0);
+    if (c->call == do_record)
+        same_in(c, d, "name of the record", (uint64_t)(memcmp(at.record, A, 8) != 0), 0);
+}
+
+/* An advance of a commit or a recovery that nobody began stores one block at most, and leaves the other pieces. */
+static void odd_advance(const odd_call *c, enum damage d)
+{
+    unsigned stores = 0;
+    for (unsigned b = 0; b < 64; b++)
+        if (memcmp(at.device + b * PURSE_BLOCK, before.device + b * PURSE_BLOCK, PURSE_BLOCK) != 0)
+            stores += b == stored.block && stored.number != 0 ? 1 : 2;
+    same_in(c, d, "more than one block stored", stores > 1, 0);
+    same_in(c, d, "work space changed", (uint64_t)(memcmp(at.work, before.work, sizeof at.work) != 0), 0);
+    if (stored.number == 0)
+        unchanged(c, d);
+}
+
+/* One call on one session. */
+static void odd_case(const odd_call *c, enum damage d, uint64_t phase, uint64_t place, uint64_t count)
+{
+    uint32_t want = due(c, d, phase), got;
+    int under_way = c->call == do_advance && (phase == PURSE_COMMITTING || phase == PURSE_RECOVERING);
+    if (count != 1 && (want == 0 || want > PURSE_NOT_READY))
+        return;
+    at = base;
+    at.s.phase = phase;
+    at.s.place = place;
+    at.s.count = count;
+    if (c->name != NULL)
+        memcpy(at.name, c->name, 8);
+    if (c->new_name != NULL)
+        memcpy(at.new_name, c->new_name, 8);
+    if (d == SHORT_DEVICE)
+        at.len--;
+    if (d == OTHER_DEVICE)
+        at.s.blocks = 65;
+    if (d == SHORT_WORK)
+        at.work_len--;
+    if (d == ZERO_NAME)
+        memset(at.name, 0, 8);
+    if (want != 0) /* cells that no session has, to see that a refusal leaves them */
+        memset(at.s.staged + 20, 0xab, 12 * sizeof at.s.staged[0]);
+    before = at;
+    answered = 0;
+    got = c->call();
+    same_in(c, d, "refusal", got, want);
+    if (want != 0) {
+        unchanged(c, d);
+        same_in(c, d, "answer of a refusal", answered, 0);
+    } else if (under_way) {
+        odd_advance(c, d);
+    } else {
+        accepted(c, d);
+    }
+}
+
+/* The base of all cases. */
+static void make_base(void)
+{
+    static const uint64_t stores[] = { 1, 2, 3, 4, 0, 33, 34, 42, 43, 0 };
+    static const uint8_t bytes[600];
+    fresh(64);
+    create(A);
+    same("write", purse_write(LENT, &s, A, 8, 0, bytes, sizeof bytes), 0);
+    commit(stores, 10);
+    create(C);
+    memset(&base, 0x77, sizeof base);
+    base.s = s;
+    base.len = sizeof base.device;
+    base.work_len = sizeof base.work;
+    memcpy(base.device, device, sizeof base.device);
+    memcpy(base.work, work, sizeof base.work);
+}
+
+static void odd_sessions(void)
+{
+    make_base();
+    for (size_t c = 0; c < sizeof odd_calls / sizeof odd_calls[0]; c++)
+        for (int d = NONE; d < DAMAGES; d++)
+            for (size_t p = 0; p < sizeof odd_phases / sizeof odd_phases[0]; p++)
+                for (size_t k = 0; k < sizeof odd_places / sizeof odd_places[0]; k++)
+                    for (size_t n = 0; n < sizeof odd_counts / sizeof odd_counts[0]; n++)
+                        odd_case(&odd_calls[c], (enum damage)d, odd_phases[p], odd_places[k], odd_counts[n]);
+}
+
+/* A refused open, format and record, and a commit of nothing, on sessions that the store did not make. */
+static void odd_others(void)
+{
+    static const odd_call open_call = { "open refused", do_open, NULL, NULL, 0, 0, 0, 1, 1, 0 };
+    static const odd_call empty = { "commit of nothing", do_commit, NULL, NULL, 0, 0, 0, 0, 0, 0 };
+    purse_file f;
+    for (size_t p = 0; p < sizeof odd_phases / sizeof odd_phases[0]; p++) {
+        at = base;
+        at.s.phase = odd_phases[p];
+        at.s.place = 9;
+        at.device[0] = 33;
+        at.device[16] = 33;
+        before = at;
+        same("E10 on an odd session", do_open(), PURSE_BAD_HEADER);
+        unchanged(&open_call, NONE);
+        at.device[0] = 0;
+        at.device[16] = 0;
+        at.device[33 * PURSE_BLOCK] = 0;
+        before = at;
+        same("unsound on an odd session", do_open(), PURSE_UNSOUND);
+        unchanged(&open_call, NONE);
+    }
+    at = base;
+    at.s.place = 5;
+    at.s.count = 0;
+    before = at;
+    same("commit of nothing", do_commit(), 0);
+    answered = 0;
+    same_in(&empty, NONE, "phase left", at.s.phase, PURSE_READY);
+    same_in(&empty, NONE, "place left", at.s.place, 0);
+
+    memset(&f, 0x77, sizeof f);
+    at.s.phase = 7;
+    same("record refused", purse_record(DEVICE, WORK, &at.s, 0, &f), PURSE_NOT_READY);
+    same("used and size", f.used + f.size, 0);
+    same("the name stays", f.name[0] * 256u + f.name[7], 0x7777);
+}
+
+/* NULL where the length is 0. */
+static void nothing_lent(void)
+{
+    uint64_t n = 5;
+    fresh(64);
+    same("no device to format", purse_format(NULL, 0, &s), PURSE_DEVICE_SIZE);
+    same("no device to open", purse_open(NULL, 0, &s, &n), PURSE_DEVICE_SIZE);
+    same("no device", purse_create(NULL, 0, NULL, 0, &s, NULL, 0), PURSE_DEVICE_SIZE);
+    same("no work space", purse_create(device, len, NULL, 0, &s, NULL, 0), PURSE_WORK_SIZE);
+    same("no name", purse_create(LENT, &s, NULL, 0), PURSE_BAD_NAME);
+    create(A);
+    same("no new name", purse_rename(LENT, &s, A, 8, NULL, 0), PURSE_BAD_NAME);
+    same("no bytes", purse_write(LENT, &s, A, 8, 1000, NULL, 0), 0);
+    same("no buffer", purse_read(LENT, &s, A, 8, 0, NULL, 0, &n), 0);
+    same("none read", n, 0);
+    same("no list", purse_run_list(LENT, &s, A, 8, 0, 9, NULL, 0, &n), PURSE_LIST_SHORT);
+    same("no list of no blocks", purse_run_list(LENT, &s, A, 8, 0, 0, NULL, 0, &n), 0);
+    same("E6 size", purse_size(LENT, &s, A, 8, &n), 0);
+    same("E6", n, 1000);
 }
 
 int main(void)
@@ -266,6 +617,9 @@ int main(void)
     limits();
     pieces();
     refusals();
+    odd_sessions();
+    odd_others();
+    nothing_lent();
     printf("%u tests, %u failed\n", tests, failures);
     return failures != 0;
 }

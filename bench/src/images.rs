@@ -16,7 +16,7 @@ fn grow(store: &mut Store, file: u32, from: u64, to: u64) {
     while size < to {
         size = to.min(size + 20 * 512);
         store.set_size(&name(file), size).expect("room");
-        store.commit_whole().expect("stores");
+        store.commit_in_memory().expect("stores");
     }
 }
 
@@ -29,7 +29,7 @@ impl Image {
         store.open().expect("empty");
         for i in 0..sizes.len() as u32 {
             store.create(&name(i)).expect("a record");
-            store.commit_whole().expect("stores");
+            store.commit_in_memory().expect("stores");
         }
         fill(&mut store);
         Image { device, sizes }
@@ -57,7 +57,7 @@ impl Image {
                 for i in 0..2 {
                     s.set_size(&name(i), 512 * k).expect("room");
                 }
-                s.commit_whole().expect("stores");
+                s.commit_in_memory().expect("stores");
             }
         })
     }

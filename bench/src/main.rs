@@ -24,7 +24,7 @@ impl Bench {
         let mut device = image.device.clone();
         let mut work = vec![0u8; purse::WORK_SIZE];
         let mut store = Store::new(&mut device, &mut work);
-        store.open_whole().expect("the image opens");
+        store.open_in_memory().expect("the image opens");
         let raw = store.session();
         let mut plain = plain::Session::never_opened();
         plain::open(&device, &mut plain).expect("the image opens");
@@ -123,7 +123,7 @@ fn stores(b: &mut Bench, raw: RawSession, plain: plain::Session) -> Pair {
     b.raw = raw;
     b.plain = plain;
     b.time(
-        |s| _ = black_box(s.commit_whole()),
+        |s| _ = black_box(s.commit_in_memory()),
         |d, w, s| {
             _ = black_box(plain::commit(d, w, s));
             while let Ok(Some(plain::Store { last: false, .. })) = plain::advance(d, w, s) {}
@@ -164,7 +164,7 @@ fn cold(b: &Bench, raw: RawSession, boxes: usize) -> (f64, f64) {
             pool.iter_mut().for_each(|(d, w)| f(d, w));
             start.elapsed().as_nanos() as f64 / boxes as f64
         };
-        best.0 = best.0.min(turn(&mut |d, w| _ = black_box(Store::resume(d, w, raw).commit_whole())));
+        best.0 = best.0.min(turn(&mut |d, w| _ = black_box(Store::resume(d, w, raw).commit_in_memory())));
         best.1 = best.1.min(turn(&mut |d, w| copy_blocks(d, w, &raw)));
     }
     best

@@ -7,5 +7,5 @@ ghost use Rattle.examples.specs.Table.{table};
 pub fn rows() -> usize
     ensures { λ r. ⌜ r ≡ length table ⌝ }
 {
-    16
+    18
 }

@@ -58,13 +58,13 @@ part-part : (xs : List ℕ) (a n o m : ℕ) → o + m ≤ n → part o m (part a
 part-part xs a n o m h =
     ap (take m) (drop-take n o (drop a xs)) ∙ take-take m (n - o) (drop o (drop a xs)) (omega arith) ∙ ap (take m) (drop-drop o a xs)
 
-pub limits-by : (t : List ℕ) (i size depth : ℕ) (c : Bool) → size ≡ inodeOf (recordIn t i) .size → depth ≡ inodeOf (recordIn t i) .depth
-    → c ≡ allZero (bytesIn t (placeOfInode i + 13) (placeOfInode i + 16 - (placeOfInode i + 13)))
+pub limits-by : (t : List ℕ) (i at size depth : ℕ) (c : Bool) → at ≡ placeOfInode i → size ≡ inodeOf (recordIn t i) .size
+    → depth ≡ inodeOf (recordIn t i) .depth → c ≡ allZero (bytesIn t (at + 13) (at + 16 - (at + 13)))
     → leb size 1048576 && leb depth 1 && c ≡ limitsHold (recordIn t i)
 unfolding bytesIn
-limits-by t i size depth c es ed ec =
-    let z : placeOfInode i + 16 - (placeOfInode i + 13) ≡ 3 = omega arith in
-    rw (es, ed, ec, z, part-part (exactly 512 t) (placeOfInode i) 32 13 3 (omega arith))
+limits-by t i at size depth c ea es ed ec =
+    let z : at + 16 - (at + 13) ≡ 3 = omega arith in
+    rw (es, ed, ec, z, ea, part-part (exactly 512 t) (placeOfInode i) 32 13 3 (omega arith))
 
 pub limits-say : (n : Inode) (c : Bool) → leb (n .size) 1048576 && leb (n .depth) 1 && c ≡ true → (n .size ≤ 1048576) × (n .depth ≤ 1)
 limits-say n c h = let p = both _ _ (both _ c h .0) in (leb-true (n .size) 1048576 (p .0), leb-true (n .depth) 1 (p .1))
@@ -173,16 +173,17 @@ module _ (N : ℕ) (v : Disk) (i size : ℕ) (X : List ℕ) (lend : X ≡ v (blo
         (Bool·beq (eqb (n .depth) 1) (ltb 4 (length (extentsOf v n)))) (eqb (length (nodesOf v n)) (nodesFor (length (extentsOf v n)))) (all (levelPacked v) (levelsOf v n)) (tailZero v n)
         (rw flat-levels) (rw flat) (deep-or (n .depth) 0 (ltb 4 (length (extentsOf v n))) false depth (le-ltb 4 (length (extentsOf v n)) len)) (rw (flat-levels, ← nodes-few (length (extentsOf v n)) len)) (rw flat-levels))
 
-    pub flat-marked : (z r : Run) (w : ℕ) (p c : Bool) (o t o₀ t₀ : List ℕ) → z ≡ noRun → r ≡ overExtents N (size / 512) z (used (slotsIn 4 (drop (placeOfInode i + 16) X)))
-        → p ≡ slotsPacked (slotsIn 4 (drop (placeOfInode i + 16) X)) → r .extents ≤ z .extents + 4
-        → Kept N o t [] o₀ t₀ (blocksFrom (z .blocks) (used (slotsIn 4 (drop (placeOfInode i + 16) X)))) → c ≡ lastClear v size (r .tail) → w ≡ blocksFor size
+    pub flat-marked : (z r : Run) (at w : ℕ) (p c : Bool) (o t o₀ t₀ : List ℕ) → at ≡ placeOfInode i → z ≡ noRun
+        → r ≡ overExtents N (size / 512) z (used (slotsIn 4 (drop (at + 16) X)))
+        → p ≡ slotsPacked (slotsIn 4 (drop (at + 16) X)) → r .extents ≤ z .extents + 4
+        → Kept N o t [] o₀ t₀ (blocksFrom (z .blocks) (used (slotsIn 4 (drop (at + 16) X)))) → c ≡ lastClear v size (r .tail) → w ≡ blocksFor size
         → Marked N (p && r .inside && eqb (r .blocks) w && r .apart && c) (treeSound N v (inodeAt v i)) o t o₀ t₀ (fileBlocks v i)
-    flat-marked z r w p c o t o₀ t₀ ez er ep few m ec ew =
+    flat-marked z r at w p c o t o₀ t₀ ea ez er ep few m ec ew =
         let y : z .extents ≡ 0 = ap (λ (q : Run). q .extents) ez in
-        let h : r ≡ overExtents N (size / 512) noRun (used (inodeAt v i .slots)) = er ∙ rw (ez, used-at) in
+        let h : r ≡ overExtents N (size / 512) noRun (used (inodeAt v i .slots)) = er ∙ rw (ez, ea, used-at) in
         record {
-          answer = flat-by r w p c h (omega arith) (packed-at p ep) ec ew;
-          marks = λ _. kept-end N o t [] o₀ t₀ _ m _ refl (rw (ez, used-at) flat-blocks);
+          answer = flat-by r w p c h (omega arith) (packed-at p (ep ∙ rw ea)) ec ew;
+          marks = λ _. kept-end N o t [] o₀ t₀ _ m _ refl (rw (ez, ea, used-at) flat-blocks);
         }
 
   module _ (depth : inodeAt v i .depth ≡ 1) where
@@ -234,15 +235,16 @@ module _ (N : ℕ) (v : Disk) (i size : ℕ) (X : List ℕ) (lend : X ≡ v (blo
         ∙ tail-is v n (f .run .tail) (rw (← es) most) (ap (λ (q : Run). q .tail) r ∙ run-tail N k (extentsOf v n) ∙ ap (λ (z : ℕ). getD (blocksIn (extentsOf v n)) (z / 512) 0) es) in
         rw (pP, pA, pI, pC, pB, pW, pS, pD, pN, pM, pL, pT)
 
-    pub deep-marked : (f : Nodes) (w m : ℕ) (p c : Bool) (o t o₀ t₀ : List ℕ) → f ≡ overNodes N (size / 512) v noNodes (used (slotsIn 4 (drop (placeOfInode i + 16) X)))
-        → p ≡ slotsPacked (slotsIn 4 (drop (placeOfInode i + 16) X)) → Kept N o t [] o₀ t₀ (treeFrom v 0 (used (slotsIn 4 (drop (placeOfInode i + 16) X))))
+    pub deep-marked : (f : Nodes) (at w m : ℕ) (p c : Bool) (o t o₀ t₀ : List ℕ) → at ≡ placeOfInode i
+        → f ≡ overNodes N (size / 512) v noNodes (used (slotsIn 4 (drop (at + 16) X)))
+        → p ≡ slotsPacked (slotsIn 4 (drop (at + 16) X)) → Kept N o t [] o₀ t₀ (treeFrom v 0 (used (slotsIn 4 (drop (at + 16) X))))
         → c ≡ lastClear v size (f .run .tail) → w ≡ blocksFor size → m ≡ nodesFor (f .run .extents)
         → Marked N (p && f .sound && f .run .inside && f .agree && eqb (f .counts) w && f .run .apart && ltb 4 (f .run .extents) && eqb (f .tops) m && f .filled && c)
         (treeSound N v (inodeAt v i)) o t o₀ t₀ (fileBlocks v i)
-    deep-marked f w m p c o t o₀ t₀ ef ep k ec ew em =
+    deep-marked f at w m p c o t o₀ t₀ ea ef ep k ec ew em =
         record {
-          answer = deep-by f w m p c (ef ∙ ap (overNodes N (size / 512) v noNodes) used-at) (packed-at p ep) ec ew em;
-          marks = λ _. kept-end N o t [] o₀ t₀ _ k _ refl (rw used-at deep-blocks);
+          answer = deep-by f w m p c (ef ∙ rw (ea, used-at)) (packed-at p (ep ∙ rw ea)) ec ew em;
+          marks = λ _. kept-end N o t [] o₀ t₀ _ k _ refl (rw (ea, used-at) deep-blocks);
         }
 
 -- ---- S2 to S6 and S8

@@ -1,6 +1,9 @@
 // S3 to S6 and S8 of one file.
+use block::place_in_block;
 use inode::depth_of;
 use inode::size_of;
+use spec::DiskBlock;
+use spec::FileBlock;
 use spec::Limits;
 use tree::are_packed;
 use tree::block_at;
@@ -36,13 +39,13 @@ fn limits_hold(table: &[u8], i: usize, size: usize, depth: u32) -> bool
     requires { ⌜ (size ≡ inodeOf (recordIn (now table) i) .size) × (depth ≡ inodeOf (recordIn (now table) i) .depth) ⌝ }
     ensures { λ r. ⌜ r ≡ limitsHold (recordIn (now (table .entry)) i) ⌝ }
 {
-    let at = Limits::INODE_SIZE * (i % Limits::INODES_PER_BLOCK);
+    let at = place_in_block(i);
     (size <= Limits::MAX_FILE_SIZE) & (depth <= 1) & clear_in(table, at + 13, at + 16)
 }
 
 // "Bytes after the size in a file's last block are zero": b is that block, where the size ends within it.
-fn last_clear(device: &[u8], size: usize, b: u32) -> bool
-    ensures { λ r. ⌜ r ≡ lastClear (blocksOf (now (device .entry))) size b ⌝ }
+fn last_clear(device: &[u8], size: usize, b: DiskBlock) -> bool
+    ensures { λ r. ⌜ r ≡ lastClear (blocksOf (now (device .entry))) size (b .0) ⌝ }
 {
     let over = size % Limits::BLOCK_SIZE;
     if over == 0 {
@@ -85,8 +88,8 @@ fn flat_sound(
     ensures { λ r. ⌜ Marked blocks r (treeSound blocks (blocksOf (now (device .entry))) (inodeAt (blocksOf (now (device .entry))) i))
         (now (once .exit)) (now (twice .exit)) (now (once .entry)) (now (twice .entry)) (fileBlocks (blocksOf (now (device .entry))) i) ⌝ }
 {
-    let at = Limits::INODE_SIZE * (i % Limits::INODES_PER_BLOCK) + 16;
-    let k = size / Limits::BLOCK_SIZE;
+    let at = place_in_block(i) + 16;
+    let k = FileBlock(size / Limits::BLOCK_SIZE);
     let r = extents_over(
         once,
         twice,
@@ -98,7 +101,7 @@ fn flat_sound(
         no_run(),
     );
     let packed = are_packed(table, at, Limits::SLOTS_PER_INODE, r.extents);
-    let clear = last_clear(device, size, r.tail);
+    let clear = last_clear(device, size, DiskBlock(r.tail));
     let want = blocks_for(size);
     packed & r.inside & (r.blocks == want) & r.apart & clear
 }
@@ -119,12 +122,12 @@ fn deep_sound(
     ensures { λ r. ⌜ Marked blocks r (treeSound blocks (blocksOf (now (device .entry))) (inodeAt (blocksOf (now (device .entry))) i))
         (now (once .exit)) (now (twice .exit)) (now (once .entry)) (now (twice .entry)) (fileBlocks (blocksOf (now (device .entry))) i) ⌝ }
 {
-    let at = Limits::INODE_SIZE * (i % Limits::INODES_PER_BLOCK) + 16;
-    let k = size / Limits::BLOCK_SIZE;
+    let at = place_in_block(i) + 16;
+    let k = FileBlock(size / Limits::BLOCK_SIZE);
     let w = nodes_over(once, twice, device, table, blocks, k, at);
     let f = w.nodes;
     let r = f.run;
-    let clear = last_clear(device, size, r.tail);
+    let clear = last_clear(device, size, DiskBlock(r.tail));
     let want = blocks_for(size);
     let nodes = nodes_for(r.extents);
     let shape = w.packed & f.sound & r.inside & f.agree & (f.counts == want);

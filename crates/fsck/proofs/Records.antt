@@ -9,7 +9,8 @@ use lib.Dec.{eqb}
 use lib.ListN.{length, take, drop, take-append-drop}
 use lib.Seq.{drop-drop}
 use Rattle.spec.specs.Bytes.{exactly, part, all, allZero, isSome}
-use Rattle.spec.specs.Disk.{Disk}
+use Rattle.spec.specs.declared.DiskBlock.{DiskBlock}
+use Rattle.spec.specs.Disk.{Disk, diskBlock}
 use Rattle.spec.specs.Inode.{inodeBytes, nameAt, isEmpty, blockOfInode, placeOfInode, reachedFrom}
 use Rattle.filecheck.proofs.Shape.{not-marked}
 use Rattle.spec.specs.Sound.{firstOfName, fileSound, inodeSound, inodeFault, blockFault, volumeSound}
@@ -21,7 +22,9 @@ use Rattle.inode.specs.declared.Found.{Found}
 use Rattle.inode.specs.declared.Found.the-variants.{At, Nothing}
 use Rattle.inode.specs.Records.{bytesIn, recordIn, foundOf, lowestTo}
 use Rattle.inode.proofs.Laws.{drop-take, record-at, found-at, found-nothing}
-use Rattle.marks.specs.Marks.{Kept, reachTo}
+use Rattle.bitmap.specs.declared.Found as block
+use Rattle.bitmap.specs.declared.Found.the-variants as blocks
+use Rattle.marks.specs.Marks.{Kept, reachTo, blockFound}
 use Rattle.marks.proofs.Laws.{kept-start, kept-end, reach-none, reach-end}
 use Rattle.fsck.specs.Names.{Names, Seen, Passed}
 use Rattle.fsck.proofs.Names.{names-on, seen-on}
@@ -59,10 +62,11 @@ module _ (N : ℕ) (v : Disk) (i : ℕ) (r : Bool) (e : r ≡ isEmpty v i) where
     }
 
 -- an empty record, its name read: the other 24 bytes are zero too
-pub rest-zero : (v : Disk) (t : List ℕ) (i : ℕ) (s : Bool) → exactly 512 t ≡ v (blockOfInode i) → isEmpty v i ≡ true
-    → s ≡ allZero (bytesIn t (placeOfInode i + 8) (placeOfInode i + 32 - (placeOfInode i + 8))) → s ≡ allZero (inodeBytes v i)
+pub rest-zero : (v : Disk) (t : List ℕ) (i at : ℕ) (s : Bool) → at ≡ placeOfInode i → exactly 512 t ≡ v (blockOfInode i) → isEmpty v i ≡ true
+    → s ≡ allZero (bytesIn t (at + 8) (at + 32 - (at + 8))) → s ≡ allZero (inodeBytes v i)
 unfolding bytesIn
-rest-zero v t i s e z q =
+rest-zero v t i at s p e z lent =
+    let q : s ≡ allZero (part (placeOfInode i + 8) (placeOfInode i + 32 - (placeOfInode i + 8)) (exactly 512 t)) = lent ∙ rw p in
     let w : placeOfInode i + 32 - (placeOfInode i + 8) ≡ 24 = omega arith in
     let R = recordIn t i in
     let d : drop 8 R ≡ part (placeOfInode i + 8) 24 (exactly 512 t) = drop-take 32 8 (drop (placeOfInode i) (exactly 512 t)) ∙ ap (take 24) (drop-drop 8 (placeOfInode i) (exactly 512 t)) in
@@ -139,17 +143,29 @@ unsound-by N v i r t e h = ap not (sym e) ∙ h
 pub found-some : {P : Type 0} (i : ℕ) → At i ≡ foundOf none → P
 found-some i h = let z : _≡_ {A = ℕ} 0 1 = cc in absurd (omega arith)
 
+-- the block that was found
+block-told : (o : Option ℕ) (b : DiskBlock) → blockFound (foundOf o) ≡ blocks.At b → BlockAt b ≡ damageOf none o
+block-told none b e = let z : _≡_ {A = ℕ} 0 1 = cc in absurd (omega arith)
+block-told (some c) b e = let z : diskBlock c ≡ b = cc in ap BlockAt (sym z)
+
+no-block-told : (o : Option ℕ) → blockFound (foundOf o) ≡ blocks.Nothing → Whole ≡ damageOf none o
+no-block-told none e = refl
+no-block-told (some c) e = let z : _≡_ {A = ℕ} 0 1 = cc in absurd (omega arith)
+
 -- what is damaged, by the two searches
 module _ (N : ℕ) (v : Disk) (r : Found) (e : r ≡ foundOf (inodeFault N v)) where
   pub inode-damaged : (i : ℕ) → r ≡ At i → InodeAt i ≡ damageOf (inodeFault N v) (blockFault N v)
   inode-damaged i h = rw (found-at (inodeFault N v) i (sym e ∙ h))
 
-  module _ (s : Found) (h : r ≡ Nothing) (f : s ≡ foundOf (blockFault N v)) where
-    pub block-damaged : (b : ℕ) → s ≡ At b → BlockAt b ≡ damageOf (inodeFault N v) (blockFault N v)
-    block-damaged b q = rw (found-nothing (inodeFault N v) (sym e ∙ h), found-at (blockFault N v) b (sym f ∙ q))
+  module _ (s : block.Found) (x : Found) (h : r ≡ Nothing) (f : s ≡ blockFound x) (g : x ≡ foundOf (blockFault N v)) where
+    searched : blockFound (foundOf (blockFault N v)) ≡ s
+    searched = sym (f ∙ ap blockFound g)
 
-    pub nothing-damaged : s ≡ Nothing → Whole ≡ damageOf (inodeFault N v) (blockFault N v)
-    nothing-damaged q = rw (found-nothing (inodeFault N v) (sym e ∙ h), found-nothing (blockFault N v) (sym f ∙ q))
+    pub block-damaged : (b : DiskBlock) → s ≡ blocks.At b → BlockAt b ≡ damageOf (inodeFault N v) (blockFault N v)
+    block-damaged b q = rw (found-nothing (inodeFault N v) (sym e ∙ h)) (block-told (blockFault N v) b (searched ∙ q))
+
+    pub nothing-damaged : s ≡ blocks.Nothing → Whole ≡ damageOf (inodeFault N v) (blockFault N v)
+    nothing-damaged q = rw (found-nothing (inodeFault N v) (sym e ∙ h)) (no-block-told (blockFault N v) (searched ∙ q))
 
 -- sound, if nothing is damaged
 module _ (N : ℕ) (v : Disk) (r : Damage) (e : r ≡ damageOf (inodeFault N v) (blockFault N v)) where
@@ -165,7 +181,7 @@ module _ (N : ℕ) (v : Disk) (r : Damage) (e : r ≡ damageOf (inodeFault N v) 
       go q none (some b) w = refl
       go q none none w = cc
 
-  pub block-unsound : (b : ℕ) → r ≡ BlockAt b → false ≡ volumeSound N v
+  pub block-unsound : (b : DiskBlock) → r ≡ BlockAt b → false ≡ volumeSound N v
   block-unsound b h = sound-by false (go h)
     where
       go : r ≡ BlockAt b → (o p : Option ℕ) → r ≡ damageOf o p → false ≡ not (isSome o) && not (isSome p)

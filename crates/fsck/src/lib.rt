@@ -1,12 +1,14 @@
 // Decides S1 to S8 on any bytes: one pass over the records, in which each tree is walked once, tested and marked, then one over the bits.
 use block::copy_of;
 use block::load4;
+use block::place_in_block;
 use filecheck::clear_in;
 use filecheck::file_sound;
 use inode::Found;
 use inode::table_block;
 use marks::lowest_wrong;
 use marks::no_marks;
+use spec::DiskBlock;
 use spec::Limits;
 use tree::block_at;
 use zeros::is_zero;
@@ -32,7 +34,7 @@ const REMAINDERS: u64 = 1021;
 // What is damaged: the lowest record that is not sound; if all are, the lowest block.
 pub enum Damage {
     Inode(usize),
-    Block(usize),
+    Block(DiskBlock),
     Nothing,
 }
 
@@ -40,7 +42,7 @@ pub enum Damage {
 fn number_in(table: &[u8], i: usize) -> u64
     ensures { λ r. ⌜ (r ≡ wordOf (take 8 (recordIn (now (table .entry)) i)) 0) × Below 256 (take 8 (recordIn (now (table .entry)) i)) ⌝ }
 {
-    let at = Limits::INODE_SIZE * (i % Limits::INODES_PER_BLOCK);
+    let at = place_in_block(i);
     let low = load4(table, at) as u64;
     let high = load4(table, at + 4) as u64;
     low + 4294967296 * high
@@ -90,7 +92,7 @@ fn inode_sound(
         (now (once .exit)) (now (twice .exit)) (now (once .entry)) (now (twice .entry)) (reachedFrom (blocksOf (now (device .entry))) i) ⌝ }
 {
     if numbers[i] == 0 {
-        let at = Limits::INODE_SIZE * (i % Limits::INODES_PER_BLOCK);
+        let at = place_in_block(i);
         return clear_in(table, at + Limits::NAME_SIZE, at + Limits::INODE_SIZE);
     }
     if is_repeated(numbers, seen, i) {
@@ -174,10 +176,10 @@ pub fn find_damage(device: &[u8], blocks: usize) -> Damage
     match inode_fault(&mut once, &mut twice, device, blocks) {
         Found::At(i) => Damage::Inode(i),
         Found::Nothing => {
-            let bitmap = copy_of(block_at(device, Limits::BITMAP_BLOCK));
+            let bitmap = copy_of(block_at(device, DiskBlock(Limits::BITMAP_BLOCK)));
             match lowest_wrong(&once, &twice, &bitmap) {
-                Found::At(b) => Damage::Block(b),
-                Found::Nothing => Damage::Nothing,
+                bitmap::Found::At(b) => Damage::Block(b),
+                bitmap::Found::Nothing => Damage::Nothing,
             }
         }
     }

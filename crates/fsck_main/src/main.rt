@@ -83,7 +83,7 @@ fn show(name: &[u8], store: &[u8; 32768]) {
         }
         Damage::Block(b) => {
             io::write_all(STDOUT_FILENO, b": block ");
-            io::print_decimal(STDOUT_FILENO, b as u64);
+            io::print_decimal(STDOUT_FILENO, b.0 as u64);
         }
         Damage::Nothing => {
             io::write_all(STDOUT_FILENO, b": no damage");

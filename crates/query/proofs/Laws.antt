@@ -38,12 +38,12 @@ block-of s d w l block b e f = f ∙ ap (λ (v : Disk). v b) (view-of s d w l e)
 
 -- ---- the name of record i, in a whole block of the table
 
-module _ (t : List ℕ) (i : ℕ) (full : length t ≡ 512) where
+module _ (t : List ℕ) (i at : ℕ) (p : at ≡ 32 * (i % 16)) (full : length t ≡ 512) where
   abbrev own : List ℕ
-  own = take (32 * (i % 16) + 8 - 32 * (i % 16)) (drop (32 * (i % 16)) t)
+  own = take (at + 8 - at) (drop at t)
 
   own-is : own ≡ take 8 (recordIn t i)
-  own-is = name-part t i (32 * (i % 16)) refl (omega arith)
+  own-is = name-part t i at p (omega arith)
 
   own-length : length own ≡ 8
   own-length = simp (length-take, length-drop) (omega arith)

@@ -2,6 +2,7 @@
 use bitmap::free_in;
 use block::copy_of;
 use block::key_of;
+use block::place_in_block;
 use checks::Checked;
 use checks::ready;
 use extents::RunOf;
@@ -20,36 +21,37 @@ use spec::Phase;
 use spec::Recorded;
 use spec::Run;
 use spec::Session;
-use transaction::staged_count;
+use transaction::staged_in;
 use transaction::view_in;
 ghost use mathlib.Core.Path.{_≡_};
 ghost use mathlib.Core.Bool.{true};
 ghost use mathlib.Core.List.{List};
-ghost use Prim.Native.Nat.{ℕ, _<_, _≤_};
+ghost use Prim.Native.Nat.{ℕ, _<_};
 ghost use lib.ListN.{length, replicate};
 ghost use Rattle.spec.specs.declared.Session.{Session};
 ghost use Rattle.spec.specs.Answers.{countedOf, recordedOf, Blank, runOf, accept};
 ghost use Rattle.spec.specs.Inode.{blockOfInode};
 ghost use Rattle.spec.specs.Transaction.{stateOf, view};
-ghost use Rattle.checks.specs.Checks.{Seen};
+ghost use Rattle.transaction.specs.Places.{sessionOf};
 ghost use Rattle.spec.specs.Calls.{left, leftBuffer, readyOk, read, sizeOf, freeCount, recordAt, nthExtent};
 
-// Bytes of a file from byte x on, as many as the buffer takes and the file has; how many. Of every session with these parts.
+// Bytes of a file from byte x on, as many as the buffer takes and the file has; how many. Of the session of these parts: its cells are lent, so that no call copies them.
 pub fn read_in<'a>(
     device: &'a [u8],
     work: &'a [u8],
     blocks: usize,
     phase: Phase,
-    staged: &[u32],
+    cells: &[u32; Limits::LOG_LENGTH],
+    many: usize,
     name: &[u8],
     x: ByteOffset,
     buffer: &mut [u8],
 ) -> Counted
-    requires { ⌜ length (now staged) ≤ 32 ⌝ }
-    ensures { λ r. ⌜ ((s : Session) → Seen blocks phase (now (staged .entry)) s
-        → leftBuffer s (now (device .entry)) (now (work .entry)) (countedOf r) (now (buffer .exit))
-        ≡ read (stateOf s (now (device .entry)) (now (work .entry))) (now (name .entry)) (x .0) (now (buffer .entry))) ⌝ }
+    ensures { λ r. ⌜ leftBuffer (sessionOf blocks phase (now (cells .entry)) many) (now (device .entry)) (now (work .entry)) (countedOf r) (now (buffer .exit))
+        ≡ read (stateOf (sessionOf blocks phase (now (cells .entry)) many) (now (device .entry)) (now (work .entry))) (now (name .entry)) (x .0) (now (buffer .entry)) ⌝ }
 {
+    let l: &[u32] = cells;
+    let staged = &l[0..staged_in(many)];
     match look_up(device, work, blocks, phase, staged, name) {
         Looked::Bad(why) => Counted::Refused(why),
         Looked::At(i) => Counted::Count(read_file(device, work, staged, i, x, buffer)),
@@ -71,8 +73,17 @@ pub fn read<'a>(
     let blocks = session.blocks;
     let phase = session.phase;
     let l = session.staged;
-    let n = staged_count(session);
-    read_in(device, work, blocks, phase, &l[0..n], name, x, buffer)
+    read_in(
+        device,
+        work,
+        blocks,
+        phase,
+        &l,
+        session.count,
+        name,
+        x,
+        buffer,
+    )
 }
 
 // The size of a file in bytes.
@@ -81,13 +92,15 @@ pub fn size_in<'a>(
     work: &'a [u8],
     blocks: usize,
     phase: Phase,
-    staged: &[u32],
+    cells: &[u32; Limits::LOG_LENGTH],
+    many: usize,
     name: &[u8],
 ) -> Counted
-    requires { ⌜ length (now staged) ≤ 32 ⌝ }
-    ensures { λ r. ⌜ ((s : Session) → Seen blocks phase (now (staged .entry)) s
-        → left s (now (device .entry)) (now (work .entry)) (countedOf r) ≡ sizeOf (stateOf s (now (device .entry)) (now (work .entry))) (now (name .entry))) ⌝ }
+    ensures { λ r. ⌜ left (sessionOf blocks phase (now (cells .entry)) many) (now (device .entry)) (now (work .entry)) (countedOf r)
+        ≡ sizeOf (stateOf (sessionOf blocks phase (now (cells .entry)) many) (now (device .entry)) (now (work .entry))) (now (name .entry)) ⌝ }
 {
+    let l: &[u32] = cells;
+    let staged = &l[0..staged_in(many)];
     match look_up(device, work, blocks, phase, staged, name) {
         Looked::Bad(why) => Counted::Refused(why),
         Looked::At(i) => {
@@ -104,8 +117,7 @@ pub fn size<'a>(device: &'a [u8], work: &'a [u8], session: Session, name: &[u8])
     let blocks = session.blocks;
     let phase = session.phase;
     let l = session.staged;
-    let n = staged_count(session);
-    size_in(device, work, blocks, phase, &l[0..n], name)
+    size_in(device, work, blocks, phase, &l, session.count, name)
 }
 
 // How many blocks are free.
@@ -114,12 +126,14 @@ pub fn free_count_in<'a>(
     work: &'a [u8],
     blocks: usize,
     phase: Phase,
-    staged: &[u32],
+    cells: &[u32; Limits::LOG_LENGTH],
+    many: usize,
 ) -> Counted
-    requires { ⌜ length (now staged) ≤ 32 ⌝ }
-    ensures { λ r. ⌜ ((s : Session) → Seen blocks phase (now (staged .entry)) s
-        → left s (now (device .entry)) (now (work .entry)) (countedOf r) ≡ freeCount (stateOf s (now (device .entry)) (now (work .entry)))) ⌝ }
+    ensures { λ r. ⌜ left (sessionOf blocks phase (now (cells .entry)) many) (now (device .entry)) (now (work .entry)) (countedOf r)
+        ≡ freeCount (stateOf (sessionOf blocks phase (now (cells .entry)) many) (now (device .entry)) (now (work .entry))) ⌝ }
 {
+    let l: &[u32] = cells;
+    let staged = &l[0..staged_in(many)];
     match ready(device, work, blocks, phase) {
         Checked::Bad(why) => Counted::Refused(why),
         Checked::Fine => {
@@ -140,8 +154,7 @@ pub fn free_count<'a>(device: &'a [u8], work: &'a [u8], session: Session) -> Cou
     let blocks = session.blocks;
     let phase = session.phase;
     let l = session.staged;
-    let n = staged_count(session);
-    free_count_in(device, work, blocks, phase, &l[0..n])
+    free_count_in(device, work, blocks, phase, &l, session.count)
 }
 
 fn no_file(answer: Recorded) -> FileRecord
@@ -149,7 +162,7 @@ fn no_file(answer: Recorded) -> FileRecord
 {
     FileRecord {
         answer: answer,
-        name: [0; 8],
+        name: [0; Limits::NAME_SIZE],
         size: 0,
     }
 }
@@ -161,7 +174,7 @@ fn record_of(table: &[u8], i: usize) -> FileRecord
         → now (table .entry) ≡ view (stateOf s device work) (blockOfInode i)
         → (left s device work (recordedOf (r .answer) (r .name) (r .size)) ≡ recordAt (stateOf s device work) i) × Blank (r .answer) (r .name) (r .size)) ⌝ }
 {
-    let at = Limits::INODE_SIZE * (i % Limits::INODES_PER_BLOCK);
+    let at = place_in_block(i);
     let end = at + Limits::NAME_SIZE;
     let own = &table[at..end];
     if key_of(own) == 0 {
@@ -191,14 +204,15 @@ pub fn record_in<'a>(
     work: &'a [u8],
     blocks: usize,
     phase: Phase,
-    staged: &[u32],
+    cells: &[u32; Limits::LOG_LENGTH],
+    many: usize,
     i: usize,
 ) -> FileRecord
-    requires { ⌜ length (now staged) ≤ 32 ⌝ }
-    ensures { λ r. ⌜ ((s : Session) → Seen blocks phase (now (staged .entry)) s
-        → (left s (now (device .entry)) (now (work .entry)) (recordedOf (r .answer) (r .name) (r .size))
-        ≡ recordAt (stateOf s (now (device .entry)) (now (work .entry))) i) × Blank (r .answer) (r .name) (r .size)) ⌝ }
+    ensures { λ r. ⌜ (left (sessionOf blocks phase (now (cells .entry)) many) (now (device .entry)) (now (work .entry)) (recordedOf (r .answer) (r .name) (r .size))
+        ≡ recordAt (stateOf (sessionOf blocks phase (now (cells .entry)) many) (now (device .entry)) (now (work .entry))) i) × Blank (r .answer) (r .name) (r .size) ⌝ }
 {
+    let l: &[u32] = cells;
+    let staged = &l[0..staged_in(many)];
     match ready(device, work, blocks, phase) {
         Checked::Bad(why) => no_file(Recorded::Refused(why)),
         Checked::Fine => {
@@ -222,8 +236,7 @@ pub fn record_at<'a>(device: &'a [u8], work: &'a [u8], session: Session, i: usiz
     let blocks = session.blocks;
     let phase = session.phase;
     let l = session.staged;
-    let n = staged_count(session);
-    record_in(device, work, blocks, phase, &l[0..n], i)
+    record_in(device, work, blocks, phase, &l, session.count, i)
 }
 
 // The k-th extent of the run list of n blocks of a file from a block on, counted from 0.
@@ -232,20 +245,21 @@ pub fn nth_extent_in<'a>(
     work: &'a [u8],
     blocks: usize,
     phase: Phase,
-    staged: &[u32],
+    cells: &[u32; Limits::LOG_LENGTH],
+    many: usize,
     name: &[u8],
     from: FileBlock,
     n: usize,
     k: usize,
 ) -> Run
-    requires { ⌜ length (now staged) ≤ 32 ⌝ }
-    ensures { λ r. ⌜ ((s : Session) → Seen blocks phase (now (staged .entry)) s
-        → left s (now (device .entry)) (now (work .entry)) (runOf r) ≡ nthExtent (stateOf s (now (device .entry)) (now (work .entry))) (now (name .entry)) (from .0) n k) ⌝ }
+    ensures { λ r. ⌜ left (sessionOf blocks phase (now (cells .entry)) many) (now (device .entry)) (now (work .entry)) (runOf r)
+        ≡ nthExtent (stateOf (sessionOf blocks phase (now (cells .entry)) many) (now (device .entry)) (now (work .entry))) (now (name .entry)) (from .0) n k ⌝ }
 {
-    let first = from.0;
+    let l: &[u32] = cells;
+    let staged = &l[0..staged_in(many)];
     match look_up(device, work, blocks, phase, staged, name) {
         Looked::Bad(why) => Run::Refused(why),
-        Looked::At(i) => match extents::nth_extent(device, work, staged, i, first, n, k) {
+        Looked::At(i) => match extents::nth_extent(device, work, staged, i, from, n, k) {
             RunOf::Run(e) => Run::Extent(e),
             RunOf::Nothing => Run::Nothing,
         },
@@ -267,6 +281,16 @@ pub fn nth_extent<'a>(
     let blocks = session.blocks;
     let phase = session.phase;
     let l = session.staged;
-    let count = staged_count(session);
-    nth_extent_in(device, work, blocks, phase, &l[0..count], name, from, n, k)
+    nth_extent_in(
+        device,
+        work,
+        blocks,
+        phase,
+        &l,
+        session.count,
+        name,
+        from,
+        n,
+        k,
+    )
 }

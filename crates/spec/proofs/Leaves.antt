@@ -5,10 +5,10 @@ use mathlib.Core.Bool.{Bool, true, false}
 use mathlib.Core.List.{List, [], _∷_, _++_}
 use mathlib.Core.Option.{Option, none, some}
 use lib.ListN.{take, replicate}
-use Rattle.spec.specs.Bytes.{zeros, number4, bytes4}
+use Rattle.spec.specs.Bytes.{zeros, number2, number4, bytes2, bytes4}
 use Rattle.spec.specs.Disk.{Disk, withBlock, inData, isTarget, isAllowed, open-Disk}
 use Rattle.spec.specs.Bitmap.{bitsOf, bytesOf, mark, picks, open-Bitmap}
-use Rattle.spec.specs.Inode.{Extent, extent, runs, levelsFor, topSlots, inodeWith, bytesOfInode, inodeOf, extentsOf, levelsOf, dataOf, nodeBytes, open-Inode}
+use Rattle.spec.specs.Inode.{Extent, extent, slotsIn, bytesOfSlots, Inode, blockOfInode, placeOfInode, runs, levelsFor, topSlots, inodeWith, bytesOfInode, inodeOf, extentsOf, levelsOf, dataOf, nodeBytes, open-Inode}
 use Rattle.spec.specs.Sound.{apart, limitsHold}
 use Rattle.spec.specs.Session.{opened, stagedIn, withStaged, Ready, open-Session}
 use Rattle.spec.specs.Transaction.{BlockStore, put, ascending, stage, Staged, open-Transaction}
@@ -22,6 +22,12 @@ number-order = refl
 
 number-bytes : bytes4 67305985 ≡ 1 ∷ 2 ∷ 3 ∷ 4 ∷ []
 number-bytes = refl
+
+short-order : number2 1 (9 ∷ 44 ∷ 1 ∷ []) ≡ 300
+short-order = refl
+
+short-bytes : bytes2 300 ≡ 44 ∷ 1 ∷ []
+short-bytes = refl
 
 -- "N from 64 to 4,096"
 fewest : isAllowed 32768 ≡ true
@@ -62,6 +68,17 @@ bits-back : take 2 (bytesOf (1 ∷ 1 ∷ 0 ∷ 0 ∷ 0 ∷ 0 ∷ 0 ∷ 0 ∷ 0 �
 unfolding bytesOf
 bits-back = refl
 
+-- each of the eight bits of a byte at its place: no two of them are alike in these three bytes
+bits-apart : bitsOf (170 ∷ 204 ∷ 240 ∷ [])
+    ≡ 0 ∷ 1 ∷ 0 ∷ 1 ∷ 0 ∷ 1 ∷ 0 ∷ 1 ∷ 0 ∷ 0 ∷ 1 ∷ 1 ∷ 0 ∷ 0 ∷ 1 ∷ 1 ∷ 0 ∷ 0 ∷ 0 ∷ 0 ∷ 1 ∷ 1 ∷ 1 ∷ 1 ∷ []
+unfolding bitsOf
+bits-apart = refl
+
+bits-together : take 3 (bytesOf (0 ∷ 1 ∷ 0 ∷ 1 ∷ 0 ∷ 1 ∷ 0 ∷ 1 ∷ 0 ∷ 0 ∷ 1 ∷ 1 ∷ 0 ∷ 0 ∷ 1 ∷ 1 ∷ 0 ∷ 0 ∷ 0 ∷ 0 ∷ 1 ∷ 1 ∷ 1 ∷ 1 ∷ []))
+    ≡ 170 ∷ 204 ∷ 240 ∷ []
+unfolding bytesOf
+bits-together = refl
+
 -- "each the lowest free one"
 lowest-free : picks (1 ∷ 0 ∷ 1 ∷ 0 ∷ 0 ∷ []) 2 ≡ 1 ∷ 3 ∷ []
 unfolding open-Bitmap
@@ -84,6 +101,48 @@ nodes-of-five = refl
 nodes-of-many : levelsFor 513 ≡ 5 ∷ []
 unfolding levelsFor
 nodes-of-many = refl
+
+-- "A slot is a block number (2 bytes) and a count (2 bytes)", with numbers above 255
+slot-bytes : bytesOfSlots (extent 300 513 ∷ extent 42 2 ∷ []) ≡ 44 ∷ 1 ∷ 1 ∷ 2 ∷ 42 ∷ 0 ∷ 2 ∷ 0 ∷ []
+slot-bytes = refl
+
+slots-read : slotsIn 2 (44 ∷ 1 ∷ 1 ∷ 2 ∷ 42 ∷ 0 ∷ 2 ∷ 0 ∷ []) ≡ extent 300 513 ∷ extent 42 2 ∷ []
+unfolding slotsIn
+slots-read = refl
+
+node-bytes : nodeBytes (extent 300 513 ∷ extent 42 2 ∷ []) ≡ 44 ∷ 1 ∷ 1 ∷ 2 ∷ 42 ∷ 0 ∷ 2 ∷ 0 ∷ replicate 504 0
+unfolding open-Inode
+node-bytes = refl
+
+-- "Bytes 0 to 7 name; 8 to 11 size in bytes; 12 depth, 0 or 1; 13 to 15 zero; 16 to 31 four slots.": a size above 65,535
+large-record : List ℕ
+large-record =
+    65 ∷ 66 ∷ 67 ∷ 68 ∷ 69 ∷ 70 ∷ 71 ∷ 72 ∷ 112 ∷ 17 ∷ 1 ∷ 0 ∷ 1 ∷ 0 ∷ 0 ∷ 0
+    ∷ 44 ∷ 1 ∷ 1 ∷ 2 ∷ 42 ∷ 0 ∷ 2 ∷ 0 ∷ 0 ∷ 0 ∷ 0 ∷ 0 ∷ 0 ∷ 0 ∷ 0 ∷ 0 ∷ []
+
+large : Inode
+large =
+    record {
+      name = 65 ∷ 66 ∷ 67 ∷ 68 ∷ 69 ∷ 70 ∷ 71 ∷ 72 ∷ [];
+      size = 70000;
+      depth = 1;
+      slots = extent 300 513 ∷ extent 42 2 ∷ extent 0 0 ∷ extent 0 0 ∷ [];
+    }
+
+large-read : inodeOf large-record ≡ large
+unfolding open-Inode large large-record
+large-read = refl
+
+large-bytes : bytesOfInode large ≡ large-record
+unfolding open-Inode large large-record
+large-bytes = refl
+
+-- "128 file records of 32 bytes, 16 to a block"
+record-block : blockOfInode 17 ≡ 35
+record-block = refl
+
+record-place : placeOfInode 17 ≡ 32
+record-place = refl
 
 -- a record and an extent block read back: five extents of one block each below block 51
 five : List Extent
@@ -197,6 +256,18 @@ good-header = refl
 listed : targetsIn (headerOf (63 ∷ 33 ∷ [])) ≡ 63 ∷ 33 ∷ []
 unfolding open-Journal open-Disk zeros
 listed = refl
+
+-- "Bytes 0 and 1 of record i are a target block; the other 14 are zero.": block 0 with targets 33 and 300, byte by byte
+listing-two : List ℕ
+listing-two = 33 ∷ 0 ∷ replicate 14 0 ++ (44 ∷ 1 ∷ replicate 494 0)
+
+header-bytes : headerOf (33 ∷ 300 ∷ []) ≡ listing-two
+unfolding open-Journal zeros listing-two
+header-bytes = refl
+
+header-read : targetsIn listing-two ≡ 33 ∷ 300 ∷ []
+unfolding open-Journal zeros listing-two
+header-read = refl
 
 repeated : areTargets 64 (33 ∷ 42 ∷ 33 ∷ []) ≡ false
 unfolding open-Journal open-Disk

@@ -8,18 +8,26 @@
 #[repr(C)]
 #[derive(Clone, Copy, Debug, PartialEq, Eq)]
 pub struct RawSession {
+    /// Blocks of the device, 0 if never opened.
     pub blocks: u64,
+    /// The number of the phase.
     pub phase: u64,
+    /// How many stores were made.
     pub place: u64,
+    /// How many blocks the transaction changed.
     pub count: u64,
+    /// Their numbers.
     pub staged: [u32; 32],
 }
 
 impl RawSession {
+    /// A session never opened.
+    pub const NEVER_OPENED: RawSession = RawSession { blocks: 0, phase: 0, place: 0, count: 0, staged: [0; 32] };
+
     /// Its first four numbers and its cells, to be read.
     #[inline]
     pub(crate) fn parts(&self) -> (Numbers, Cells) {
-        (std::ptr::from_ref(self).cast(), &self.staged)
+        (core::ptr::from_ref(self).cast(), &self.staged)
     }
 
     /// The same, to be changed.
@@ -27,7 +35,7 @@ impl RawSession {
     pub(crate) fn parts_mut(&mut self) -> (NumbersMut, CellsMut) {
         let whole: *mut RawSession = self;
         // Both lie in `whole`, one behind the other.
-        (whole.cast(), unsafe { std::ptr::addr_of_mut!((*whole).staged) })
+        (whole.cast(), unsafe { core::ptr::addr_of_mut!((*whole).staged) })
     }
 }
 
@@ -81,7 +89,9 @@ pub struct Run {
 #[repr(C)]
 #[derive(Clone, Copy, Debug, Default, PartialEq, Eq)]
 pub struct Extent {
+    /// The first block.
     pub first: u32,
+    /// How many blocks there are.
     pub count: u32,
 }
 

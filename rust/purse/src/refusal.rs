@@ -1,9 +1,17 @@
 //! The refusals.
 
-use std::fmt;
+use core::error::Error;
+use core::fmt;
 
 /// Why a call was refused, in the order of document 01's numbers. A refusal changes nothing.
-#[derive(Clone, Copy, Debug, PartialEq, Eq)]
+///
+/// ```
+/// let refusal = purse::Refusal::NoSpace;
+/// assert_eq!(refusal.number(), 16);
+/// assert_eq!(refusal.to_string(), "refused 16: too few blocks are free");
+/// ```
+#[non_exhaustive]
+#[derive(Clone, Copy, Debug, PartialEq, Eq, Hash)]
 pub enum Refusal {
     /// 1: the device is not 64 to 4,096 blocks of 512 bytes, or not the one of the session.
     DeviceSize,
@@ -56,6 +64,26 @@ impl Refusal {
         }
     }
 
+    /// What the number says, in words.
+    pub fn sentence(self) -> &'static str {
+        match self {
+            Refusal::DeviceSize => "the device is not 64 to 4096 blocks of 512 bytes, or not the one that was opened",
+            Refusal::WorkSize => "the work space is not 16384 bytes",
+            Refusal::BadName => "a name is not 8 bytes, or all zero",
+            Refusal::TooLarge => "the file would be longer than 1048576 bytes",
+            Refusal::BadHeader(_) => "the list in the commit block is damaged",
+            Refusal::Unsound => "the device holds no sound store",
+            Refusal::NotReady => "the session is closed, committing or recovering",
+            Refusal::Unknown => "no file has this name",
+            Refusal::Taken => "a file has this name",
+            Refusal::NoRecord => "all 128 file records are in use",
+            Refusal::NoSpace => "too few blocks are free",
+            Refusal::TooManyExtents => "the file would lie in more than 512 pieces",
+            Refusal::TooManyStaged => "the transaction would change more than 32 blocks",
+            Refusal::ListShort => "the list lent is too short",
+        }
+    }
+
     /// The refusal of a number, with the record that goes with 10.
     #[cold]
     pub(crate) fn of(number: u32, record: u64) -> Refusal {
@@ -81,8 +109,12 @@ impl Refusal {
 
 impl fmt::Display for Refusal {
     fn fmt(&self, f: &mut fmt::Formatter) -> fmt::Result {
-        write!(f, "refused {}", self.number())
+        write!(f, "refused {}: {}", self.number(), self.sentence())?;
+        match self {
+            Refusal::BadHeader(record) => write!(f, ", record {record}"),
+            _ => Ok(()),
+        }
     }
 }
 
-impl std::error::Error for Refusal {}
+impl Error for Refusal {}

@@ -18,10 +18,10 @@ fn a_cut_after_each_store() {
         store.create(A).unwrap();
         store.write(A, 0, &[7; 600]).unwrap();
         assert_eq!(store.commit(), Ok(10));
-        assert_eq!(store.stores().take(cut).count(), cut);
+        assert_eq!(store.stores_in_memory().take(cut).count(), cut);
         work.fill(0x99);
         let mut store = Store::new(&mut device, &mut work);
-        store.open_whole().unwrap();
+        store.open_in_memory().unwrap();
         assert_eq!(store.phase(), Phase::Ready);
         let size = if cut < 5 { Err(Refusal::Unknown) } else { Ok(600) };
         assert_eq!(store.size(A), size);
@@ -45,7 +45,7 @@ fn a_session_is_resumed() {
     let session = store.session();
     let mut store = Store::resume(&mut device, &mut work, session);
     assert_eq!(store.phase(), Phase::Committing(1));
-    let rest: Vec<_> = store.stores().map(|s| s.unwrap().block).collect();
+    let rest: Vec<_> = store.stores_in_memory().map(|s| s.unwrap().block).collect();
     assert_eq!(rest, [0, 34, 0]);
     assert_eq!(store.advance(), Ok(None));
 }
@@ -69,14 +69,14 @@ fn values_and_refusals() {
     assert_eq!(store.nth_extent(A, 1, 9, 0), Ok(Some(Extent { first: 43, count: 1 })));
     assert_eq!(store.nth_extent(A, 1, 9, 1), Ok(None));
     assert_eq!(store.free_count(), Ok(20));
-    assert_eq!(store.files().unwrap().len(), 1);
+    assert_eq!(store.files().count(), 1);
     assert_eq!(store.record(u64::MAX), Ok(None));
     assert_eq!(store.rename(A, A), Err(Refusal::Taken));
     assert_eq!(store.write(A, u64::MAX, &[1]), Err(Refusal::TooLarge));
     assert_eq!(store.create(&[]), Err(Refusal::BadName));
     store.abort().unwrap();
     assert_eq!(store.remove(A), Err(Refusal::Unknown));
-    assert_eq!(store.commit_whole(), Ok(0));
+    assert_eq!(store.commit_in_memory(), Ok(0));
 }
 
 #[test]
@@ -86,7 +86,7 @@ fn a_wrong_commit_block_names_its_record() {
     (device[0], device[16]) = (33, 33);
     let mut store = Store::new(&mut device, &mut work);
     assert_eq!(store.open(), Err(Refusal::BadHeader(1)));
-    assert_eq!(store.open().unwrap_err().to_string(), "refused 10");
+    assert_eq!(store.open().unwrap_err().to_string(), "refused 10: the list in the commit block is damaged, record 1");
 }
 
 #[test]
@@ -95,7 +95,7 @@ fn the_stores_end_with_a_refusal() {
     let mut store = Store::new(&mut device, &mut work[..9]);
     store.format().unwrap();
     store.open().unwrap();
-    let steps: Vec<_> = store.stores().collect();
+    let steps: Vec<_> = store.stores_in_memory().collect();
     assert_eq!(steps, [Err(Refusal::WorkSize)]);
 }
 

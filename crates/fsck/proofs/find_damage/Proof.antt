@@ -37,11 +37,11 @@ returns c = inode-damaged _ _ _ (c .before .before .before .inode-fault .ensures
 
 returns-2 : tie.Need-returns-2
 returns-2 c = let f = c .before .before .before .before .before .before .before .before .before .before .before .inode-fault .ensures in let n = c .before .before .before .before .before .before .before .before .before .enum-told .given .1 in
-    block-damaged _ _ _ (f .0) _ n (disk-fault _ _ _ _ _ _ _ _ (c .before .before .before .before .before .before .before .before .block-at .result .now) _ refl (c .before .before .before .before .before .before .before .before .before .before .before .before .before .before .no-marks .ensures) refl (f .1 n) (c .before .before .before .before .before .before .before .before .block-at .ensures) (c .before .before .before .before .before .before .before .copy-of .ensures) (c .before .before .before .lowest-wrong .ensures)) _ (c .before .b .given .1)
+    block-damaged _ _ _ (f .0) _ _ n (c .before .before .before .lowest-wrong .ensures) (disk-fault _ _ _ _ _ _ _ _ (c .before .before .before .before .before .before .before .before .block-at .result .now) _ refl (c .before .before .before .before .before .before .before .before .before .before .before .before .before .before .no-marks .ensures) refl (f .1 n) (c .before .before .before .before .before .before .before .before .block-at .ensures) (c .before .before .before .before .before .before .before .copy-of .ensures) refl) _ (c .before .b .given .1)
 
 returns-3 : tie.Need-returns-3
 returns-3 c = let f = c .before .before .before .before .before .before .before .before .before .before .inode-fault .ensures in let n = c .before .before .before .before .before .before .before .before .enum-told .given .1 in
-    nothing-damaged _ _ _ (f .0) _ n (disk-fault _ _ _ _ _ _ _ _ (c .before .before .before .before .before .before .before .block-at .result .now) _ refl (c .before .before .before .before .before .before .before .before .before .before .before .before .before .no-marks .ensures) refl (f .1 n) (c .before .before .before .before .before .before .before .block-at .ensures) (c .before .before .before .before .before .before .copy-of .ensures) (c .before .before .lowest-wrong .ensures)) (c .enum-told2 .given .1)
+    nothing-damaged _ _ _ (f .0) _ _ n (c .before .before .lowest-wrong .ensures) (disk-fault _ _ _ _ _ _ _ _ (c .before .before .before .before .before .before .before .block-at .result .now) _ refl (c .before .before .before .before .before .before .before .before .before .before .before .before .before .no-marks .ensures) refl (f .1 n) (c .before .before .before .before .before .before .before .block-at .ensures) (c .before .before .before .before .before .before .copy-of .ensures) refl) (c .enum-told2 .given .1)
 
 pub find-damage-spec : {M : Type 1} → statement M
 find-damage-spec =

@@ -15,8 +15,8 @@ mul-if1 c = search needs
 element-copy-out-if1 : tie.Need-element-copy-out-if1
 element-copy-out-if1 c = search needs
 
-mul-at : tie.Need-mul-at
-mul-at c = search needs
+place-in-block-requires : tie.Need-place-in-block-requires
+place-in-block-requires c κs = search needs
 
 add-clear-in : tie.Need-add-clear-in
 add-clear-in c = search needs
@@ -28,9 +28,9 @@ clear-in-requires : tie.Need-clear-in-requires
 clear-in-requires c κs = search needs
 
 returns : tie.Need-returns
-returns c = let s = c .before .before .before .before .before in let a = s .args in let p = s .pre in let v = blocksOf (a .device .now) in let x = getD (a .numbers .now) (a .i) 0 in
-    let e = empty-by v (block-length (a .device .now)) (a .numbers .now) (a .i) (p .2) (p .1) in let h = eq-eqb x 0 (c .before .if1 .taken) in
-    inode-empty _ v (a .i) _ e _ _ _ h (rest-zero v _ (a .i) _ (p .4) (sym e ∙ h) (c .clear-in .ensures))
+returns c = let s = c .before .before .before .before .before .before in let a = s .args in let p = s .pre in let v = blocksOf (a .device .now) in let x = getD (a .numbers .now) (a .i) 0 in
+    let e = empty-by v (block-length (a .device .now)) (a .numbers .now) (a .i) (p .2) (p .1) in let h = eq-eqb x 0 (c .before .before .if1 .taken) in
+    inode-empty _ v (a .i) _ e _ _ _ h (rest-zero v _ (a .i) _ _ (c .before .place-in-block .ensures .0) (p .4) (sym e ∙ h) (c .clear-in .ensures))
 
 is-repeated-requires : tie.Need-is-repeated-requires
 is-repeated-requires c κs = search needs
@@ -52,7 +52,7 @@ inode-sound-spec =
     (tie.spec
     mul-if1
     element-copy-out-if1
-    mul-at
+    place-in-block-requires
     add-clear-in
     add-clear-in-2
     clear-in-requires

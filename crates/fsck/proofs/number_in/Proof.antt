@@ -1,4 +1,3 @@
-use mathlib.Core.Path.{refl}
 use lib.ListN.{getD}
 use mir.Syntax.{w8}
 use mir.Val.{Fits}
@@ -7,8 +6,8 @@ use borrow.Author.Needs.{needs}
 use Rattle.fsck.proofs.number_in.Statement.{statement}
 use Rattle.fsck.proofs.number_in.Tie as tie
 
-mul-at : tie.Need-mul-at
-mul-at c = search needs
+place-in-block-requires : tie.Need-place-in-block-requires
+place-in-block-requires c κs = search needs
 
 load4-requires : tie.Need-load4-requires
 load4-requires c κs = search needs
@@ -32,14 +31,14 @@ add-result : tie.Need-add-result
 add-result c = search needs
 
 returns : tie.Need-returns
-returns c = let a = c .before .before .before .args in let t = a .table .now in
-    (word-at t (a .i) _ refl _ _ (c .before .load4 .ensures) (c .load42 .ensures), word-bytes t (a .i) _ refl (λ k. let f : Fits w8 (getD t k 0) = c .before .before .shared-slice-known .given k in f .fits))
+returns c = let a = c .before .before .before .before .args in let t = a .table .now in
+    (word-at t (a .i) _ (c .before .before .place-in-block .ensures .0) _ _ (c .before .load4 .ensures) (c .load42 .ensures), word-bytes t (a .i) _ (c .before .before .place-in-block .ensures .0) (λ k. let f : Fits w8 (getD t k 0) = c .before .before .before .shared-slice-known .given k in f .fits))
 
 pub number-in-spec : {M : Type 1} → statement M
 number-in-spec =
     tie.close
     (tie.spec
-    mul-at
+    place-in-block-requires
     load4-requires
     cast-low
     add-load4

@@ -5,8 +5,8 @@ use borrow.Author.Needs.{needs}
 use Rattle.query.proofs.record_of.Statement.{statement}
 use Rattle.query.proofs.record_of.Tie as tie
 
-mul-at : tie.Need-mul-at
-mul-at c = search needs
+place-in-block-requires : tie.Need-place-in-block-requires
+place-in-block-requires c κs = search needs
 
 add-end : tie.Need-add-end
 add-end c = search needs
@@ -27,7 +27,7 @@ no-file-requires : tie.Need-no-file-requires
 no-file-requires c κs = search needs
 
 returns : tie.Need-returns
-returns c = let a = c .before .before .before .before .before .args in let n = c .before .before .before .before .before .pre in λ s d w e h g. none-told s d w _ _ _ (c .no-file .ensures) (record-empty s d w (a .i) (a .table .now) e h (exactly-all 512 (a .table .now) n ∙ g) (own-blank (a .table .now) (a .i) n _ (c .before .before .key-of .ensures .0) (c .before .if1 .taken)))
+returns c = let a = c .before .before .before .before .before .before .args in let n = c .before .before .before .before .before .before .pre in λ s d w e h g. none-told s d w _ _ _ (c .no-file .ensures) (record-empty s d w (a .i) (a .table .now) e h (exactly-all 512 (a .table .now) n ∙ g) (own-blank (a .table .now) (a .i) _ (c .before .before .before .before .place-in-block .ensures .0) n _ (c .before .before .key-of .ensures .0) (c .before .if1 .taken)))
 
 shared-slice-read-t15 : tie.Need-shared-slice-read-t15
 shared-slice-read-t15 c = search needs
@@ -57,13 +57,13 @@ size-of-requires : tie.Need-size-of-requires
 size-of-requires c κs = search needs
 
 returns-2 : tie.Need-returns-2
-returns-2 c = let a = c .before .before .before .before .before .before .before .before .before .before .before .before .before .args in let n = c .before .before .before .before .before .before .before .before .before .before .before .before .before .pre in λ s d w e h g. (record-file s d w (a .i) (a .table .now) e h (exactly-all 512 (a .table .now) n ∙ g) _ _ (own-used (a .table .now) (a .i) n _ (c .before .before .before .before .before .before .before .before .before .before .key-of .ensures .0) (c .before .before .before .before .before .before .before .before .before .if1 .left)) (own-bytes (a .table .now) (a .i) n) (c .size-of .ensures), tt)
+returns-2 c = let a = c .before .before .before .before .before .before .before .before .before .before .before .before .before .before .args in let n = c .before .before .before .before .before .before .before .before .before .before .before .before .before .before .pre in λ s d w e h g. (record-file s d w (a .i) (a .table .now) e h (exactly-all 512 (a .table .now) n ∙ g) _ _ (own-used (a .table .now) (a .i) _ (c .before .before .before .before .before .before .before .before .before .before .before .before .place-in-block .ensures .0) n _ (c .before .before .before .before .before .before .before .before .before .before .key-of .ensures .0) (c .before .before .before .before .before .before .before .before .before .if1 .left)) (own-bytes (a .table .now) (a .i) _ (c .before .before .before .before .before .before .before .before .before .before .before .before .place-in-block .ensures .0) n) (c .size-of .ensures), tt)
 
 pub record-of-spec : {M : Type 1} → statement M
 record-of-spec =
     tie.close
     (tie.spec
-    mul-at
+    place-in-block-requires
     add-end
     sub-own
     part-own-start

@@ -122,7 +122,7 @@ module _ (b : Lent) (o : Outcome) (k : Still (outcome (stateIn b)) o) (s : Sessi
 -- a call f on lent numbers and cells, in the parts in which it was handed on
 module _ (f : State → Outcome) (k : (s : State) → Still (outcome s) (f s)) (ns cells device work : List ℕ) (h : Head) (is : h ≡ headIn ns) where
   module _ {R : Type 0} (m : Answer → R) (s : Session) (d w : List ℕ) (a : Answer) (q : left s d w a ≡ f (stateOf (decode h cells) device work)) (r : R) (g : r ≡ m a) (after l : List ℕ)
-    (n : after ≡ unlessRefused a ns (numbersOf (encode s))) where
+      (n : after ≡ unlessRefused a ns (numbersOf (encode s))) where
     at-lent : left s d w a ≡ f (stateOf (decode (headIn ns) cells) device work)
     at-lent = q ∙ ap (λ (x : Head). f (stateOf (decode x cells) device work)) is
 

@@ -145,10 +145,7 @@ fn keep_behind(numbers: &mut [u64; 4], h: Head, phase: Phase, answer: Stored)
                 keep(numbers, head_of(h.blocks, last_phase(phase), 0));
                 return;
             }
-            keep(
-                numbers,
-                head_of(h.blocks, phase_at(phase, number), h.count),
-            );
+            keep(numbers, head_of(h.blocks, phase_at(phase, number), h.count));
         }
         Stored::Idle => keep(numbers, head_of(h.blocks, phase, h.count)),
     }

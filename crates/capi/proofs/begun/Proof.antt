@@ -33,7 +33,7 @@ returns : tie.Need-returns
 returns c = (c .committed .ensures, stays _ _ _ (started-refused _ _ (c .before .enum-told .given .1)))
 
 returns-2 : tie.Need-returns-2
-returns-2 c = 
+returns-2 c =
     let h = c .before .before .before .before .before .before .before .args .h in
     let t = ap (λ (x : Started). isRefused (startedOf x)) (c .before .before .before .before .before .enum-told2 .given .1) in
     let p = ap (λ (x : Phase). headOf (h .blocks) x (h .count)) (c .before .before .before .before .begun-phase .ensures) in

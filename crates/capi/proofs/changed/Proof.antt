@@ -29,7 +29,7 @@ returns : tie.Need-returns
 returns c = (c .finished .ensures, stays _ _ _ (done-refused _ _ (c .before .enum-told .given .1)))
 
 returns-2 : tie.Need-returns-2
-returns-2 c = 
+returns-2 c =
     let t = ap (λ (x : Done). isRefused (doneOf x)) (c .before .before .before .before .enum-told2 .given .1) in
     (c .finished2 .ensures, becomes _ _ _ _ t (c .before .keep .ensures ∙ ap numbersOf (c .before .before .head-of .ensures)))
 

@@ -26,12 +26,12 @@ finished-requires-2 : tie.Need-finished-requires-2
 finished-requires-2 c κs = search needs
 
 returns : tie.Need-returns
-returns c = 
+returns c =
     let t = done-refused _ _ (c .before .enum-told .given .1) in
     (c .finished .ensures, stays _ _ _ t, stays _ _ _ t)
 
 returns-2 : tie.Need-returns-2
-returns-2 c = 
+returns-2 c =
     let t = ap (λ (x : Done). isRefused (doneOf x)) (c .before .before .before .before .before .enum-told2 .given .1) in
     (c .finished2 .ensures, becomes _ _ _ _ t (c .before .keep .ensures ∙ ap numbersOf (c .before .before .encode .ensures)), becomes _ _ _ _ t refl)
 

@@ -162,7 +162,7 @@ isPlain Abort = true
 isPlain (Do c) = false
 isPlain (Ask q) = false
 
--- T2 of these: on every state, refused exactly where document 01 says so
+-- of these calls, on every state: refused exactly where document 01 says so
 pub plain-exact : (s : State) (c : Call) → isPlain c ≡ true → refusalIn (step s c .answer) ≡ dueOn s c
 unfolding advance commit abort
 plain-exact s Format h = format-exact s
@@ -307,7 +307,7 @@ early-passes s c h k = go (fronted s c h)
     go (refused r d e) = ap (λ (o : Outcome). early (refusalIn (o .answer))) e ∙ ap early (refusal-in r) ∙ sym (ap (λ (o : Option Refusal). early (Option·map refusalOf o)) d)
     go (passed p) = k p ∙ sym (ap (λ (o : Option Refusal). early (Option·map refusalOf o)) (p .late) ∙ late-tests (s .session .blocks) (plainOf s) s c)
 
--- T2 of 1 to 4 and 12: on every state they are given exactly where document 01 says so
+-- of every call, 1 to 4 and 12: on every state they are given exactly where document 01 says so
 pub early-exact : (s : State) (c : Call) → early (refusalIn (step s c .answer)) ≡ early (dueOn s c)
 early-exact s Format = ap early (plain-exact s Format refl)
 early-exact s Open = ap early (plain-exact s Open refl)

@@ -5,10 +5,17 @@ use inode::Cursor;
 use inode::Found;
 use inode::Step;
 use libc::STDOUT_FILENO;
+use spec::DiskBlock;
 use spec::Extent;
+use spec::FileBlock;
 use spec::Limits;
 use spec::Phase;
 use spec::Session;
+
+// Where the table begins, and its second block.
+const TABLE: usize = Limits::BLOCK_SIZE * (Limits::INODE_START as usize);
+
+const NEXT_TABLE: usize = TABLE + Limits::BLOCK_SIZE;
 
 fn text(bytes: &[u8]) {
     io::write_all(STDOUT_FILENO, bytes);
@@ -37,21 +44,29 @@ fn put(device: &mut [u8], at: usize, bytes: &[u8]) {
 fn fill_flat(device: &mut [u8]) {
     put(
         device,
-        34 * 512,
+        TABLE,
         b"alphabet\xdc\x05\0\0\0\0\0\0\x32\0\x02\0\x3c\0\x01\0",
     );
-    put(device, 35 * 512 + 32, b"voidfile");
+    put(device, NEXT_TABLE + Limits::INODE_SIZE, b"voidfile");
 }
 
 // Record 2, of depth 1 and damaged: the nodes 45 and 46 name blocks 52 to 54, 55, 48 to 49; 50, and 3,000 blocks from 61 on.
 fn fill_deep(device: &mut [u8]) {
     put(
         device,
-        34 * 512 + 64,
+        TABLE + 2 * Limits::INODE_SIZE,
         b"betatest\0\0\x10\0\x01\0\0\0\x2d\0\x06\0\x2e\0\xb9\x0b",
     );
-    put(device, 45 * 512, b"\x34\0\x03\0\x37\0\x01\0\x30\0\x02\0");
-    put(device, 46 * 512, b"\x32\0\x01\0\x3d\0\xb8\x0b");
+    put(
+        device,
+        45 * Limits::BLOCK_SIZE,
+        b"\x34\0\x03\0\x37\0\x01\0\x30\0\x02\0",
+    );
+    put(
+        device,
+        46 * Limits::BLOCK_SIZE,
+        b"\x32\0\x01\0\x3d\0\xb8\x0b",
+    );
 }
 
 fn show_found(f: Found) {
@@ -105,13 +120,13 @@ fn show_extent(e: Extent) {
     number(e.count as u64);
 }
 
-fn show_node(b: u32) {
+fn show_node(b: DiskBlock) {
     text(b" node");
-    number(b as u64);
+    number(b.0 as u64);
 }
 
 // The extents and nodes from a cursor on.
-fn walk_from<'a>(device: &'a [u8], work: &'a [u8], s: Session, tb: u32, cur: Cursor) {
+fn walk_from<'a>(device: &'a [u8], work: &'a [u8], s: Session, tb: DiskBlock, cur: Cursor) {
     let mut at = cur;
     loop {
         match inode::next(device, work, s, tb, at) {
@@ -151,7 +166,7 @@ fn show_block<'a>(device: &'a [u8], work: &'a [u8], s: Session, i: usize, place:
     text(b" of");
     number(i as u64);
     text(b":");
-    match extents::extent_at(device, work, s, i, place) {
+    match extents::extent_at(device, work, s, i, FileBlock(place)) {
         Place::In { extent, skip } => {
             show_extent(extent);
             text(b" skip");
@@ -178,7 +193,7 @@ fn show_run<'a>(
     }
     let l = s.staged;
     let many = transaction::staged_count(s);
-    match extents::nth_extent(device, work, &l[0..many], i, from, n, k) {
+    match extents::nth_extent(device, work, &l[0..many], i, FileBlock(from), n, k) {
         RunOf::Run(e) => {
             show_extent(e);
         }
@@ -215,7 +230,7 @@ fn show_runs<'a>(device: &'a [u8], work: &'a [u8], s: Session, i: usize, from: u
     number(i as u64);
     let l = s.staged;
     let staged = transaction::staged_count(s);
-    let many = extents::count_runs(device, work, &l[0..staged], i, from, n);
+    let many = extents::count_runs(device, work, &l[0..staged], i, FileBlock(from), n);
     text(b":");
     number(many as u64);
     text(b" runs");
@@ -246,8 +261,8 @@ fn show_places<'a>(device: &'a [u8], work: &'a [u8], s: Session) {
     show_block(device, work, s, 0, 3);
     show_block(device, work, s, 2, 2);
     show_block(device, work, s, 2, 5);
-    show_block(device, work, s, 2, 2047);
-    show_block(device, work, s, 2, 2048);
+    show_block(device, work, s, 2, Limits::MAX_FILE_BLOCKS - 1);
+    show_block(device, work, s, 2, Limits::MAX_FILE_BLOCKS);
     show_block(device, work, s, 17, 0);
     show_runs(device, work, s, 0, 0, 10);
     show_runs(device, work, s, 0, 1, 1);
@@ -267,6 +282,11 @@ fn main() {
     show_all(&device, &work, s);
     show_places(&device, &work, s);
     text(b"table block 34 staged as zeros\n");
-    let t = Session::with_cells(64, Phase::Ready, [34; Limits::LOG_LENGTH], 1);
+    let t = Session::with_cells(
+        64,
+        Phase::Ready,
+        [Limits::INODE_START; Limits::LOG_LENGTH],
+        1,
+    );
     show_all(&device, &work, t);
 }

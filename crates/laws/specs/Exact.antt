@@ -58,7 +58,7 @@ listed s v =
     let b = both-true (all (isTarget N) l) (distinct l) (holds (all (isTarget N) l && distinct l) (v .staged)) in
     record { targets = b .0; differ = b .1 }
 
--- T2: on every state with a sound view a call is refused exactly where document 01 says so
+-- on every state with a sound view a call is refused exactly where document 01 says so
 pub sound-exact : (s : State) → SoundView s → (c : Call) → refusalIn (step s c .answer) ≡ dueOn s c
 sound-exact s v Format = plain-exact s Format refl
 sound-exact s v Open = plain-exact s Open refl

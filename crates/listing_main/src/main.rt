@@ -2,7 +2,15 @@
 use libc::STDOUT_FILENO;
 use listing::LISTING_SIZE;
 use listing::list_image;
+use spec::Limits;
 use spec::Session;
+
+// The blocks named below: the last of the log, the bitmap, the first of the data.
+const LAST_LOG: u16 = Limits::LOG_LENGTH as u16;
+
+const BITMAP: u16 = Limits::BITMAP_BLOCK as u16;
+
+const DATA: u16 = Limits::DATA_START as u16;
 
 // One byte, and a number of two bytes.
 fn set(device: &mut [u8; 32768], at: usize, byte: u8) {
@@ -51,7 +59,7 @@ fn e3() -> [u8; 32768] {
     let mut device = empty();
     name_a(&mut device, 17408);
     set2(&mut device, 17416, 600);
-    slot(&mut device, 17424, 42, 2);
+    slot(&mut device, 17424, DATA, 2);
     set(&mut device, 16901, 15);
     device
 }
@@ -62,7 +70,7 @@ fn files() -> [u8; 32768] {
     let mut device = empty();
     set(&mut device, 17408, 171);
     set2(&mut device, 17416, 700);
-    slot(&mut device, 17424, 42, 2);
+    slot(&mut device, 17424, DATA, 2);
     set(&mut device, 17447, 205);
     set(&mut device, 17472, 3);
     set2(&mut device, 17480, 2560);
@@ -154,9 +162,9 @@ fn main() {
     let some = files();
     show(b"four files", &some);
     show_cut(b"four files in 20 bytes", &some);
-    logged(b"a log of two blocks", 33, 42);
-    logged(b"a log of a block twice", 33, 33);
-    logged(b"a log of a log block", 32, 33);
+    logged(b"a log of two blocks", BITMAP, DATA);
+    logged(b"a log of a block twice", BITMAP, BITMAP);
+    logged(b"a log of a log block", LAST_LOG, BITMAP);
     lengths();
     unsound();
 }

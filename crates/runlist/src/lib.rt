@@ -30,7 +30,6 @@ fn count_checked<'a>(
 ) -> Counted
     ensures { λ r. ⌜ countsOf r ≡ countOk (stateOf session (now (device .entry)) (now (work .entry))) (now (name .entry)) (from .0) n room ⌝ }
 {
-    let first = from.0;
     let blocks = session.blocks;
     let phase = session.phase;
     let l = session.staged;
@@ -38,7 +37,7 @@ fn count_checked<'a>(
     match look_up(device, work, blocks, phase, &l[0..many], name) {
         Looked::Bad(why) => Counted::Refused(why),
         Looked::At(i) => {
-            let count = count_runs(device, work, &l[0..many], i, first, n);
+            let count = count_runs(device, work, &l[0..many], i, from, n);
             if count <= room {
                 Counted::Count(count)
             } else {
@@ -60,14 +59,13 @@ fn nth<'a>(
 ) -> Extent
     ensures { λ r. ⌜ r ≡ getD (namedRuns (stateOf session (now (device .entry)) (now (work .entry))) (now (name .entry)) (from .0) n) k (extent 0 0) ⌝ }
 {
-    let first = from.0;
     let blocks = session.blocks;
     let phase = session.phase;
     let l = session.staged;
     let many = staged_count(session);
     match look_up(device, work, blocks, phase, &l[0..many], name) {
         Looked::Bad(_) => Extent { first: 0, count: 0 },
-        Looked::At(i) => match nth_extent(device, work, &l[0..many], i, first, n, k) {
+        Looked::At(i) => match nth_extent(device, work, &l[0..many], i, from, n, k) {
             RunOf::Run(e) => e,
             RunOf::Nothing => Extent { first: 0, count: 0 },
         },

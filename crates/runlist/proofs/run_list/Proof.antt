@@ -65,8 +65,8 @@ use Rattle.spec.proofs.Counted.Laws as K′
 use Rattle.spec.proofs.Extent as E
 use Rattle.spec.proofs.Extent.Laws as E′
 use Rattle.spec.specs.declared.FileBlock.{FileBlock}
-use Rattle.block.proofs.FileBlock as F
-use Rattle.block.proofs.FileBlock.Laws as F′
+use Rattle.spec.proofs.FileBlock as F
+use Rattle.spec.proofs.FileBlock.Laws as F′
 use Rattle.runlist.specs.Lists.{countsOf, countOk, namedRuns, manyOf, filled}
 use Rattle.runlist.proofs.Laws.{filled-more, length-filled, Told, told}
 use Rattle.runlist.proofs.count_checked as ck

@@ -1,7 +1,8 @@
 // The calls of the store for C: answers as structs of numbers, and lent slices, each a pointer and a length. include/purse.h declares them.
 // A session is lent: its four numbers and its 32 cells. Each promise: all that is returned and left is the call's outcome, in numbers, at the
 // session that the numbers and the cells given stand for.
-// A refusal hands back that session in its own numbers: phase 0 where the number given was none, place 0 where the phase has none.
+// A refusal leaves all that is lent as it was, numbers that the store did not make too. A call that is accepted leaves the session's own numbers:
+// phase 0 where the number given was none, place 0 where the phase has none.
 use checks::Changed;
 use extents::AtNode;
 use extents::AtSlot;
@@ -44,13 +45,14 @@ use query::record_in;
 use query::size_in;
 use spec::ByteOffset;
 use spec::Counted;
-use spec::DiskBlock;
+use spec::Done;
 use spec::Extent;
 use spec::FileBlock;
 use spec::Finished;
 use spec::Limits;
 use spec::Phase;
 use spec::Refusal;
+use spec::Started;
 use spec::Stored;
 use store::abort;
 use store::format;
@@ -65,29 +67,36 @@ ghost use mathlib.Core.Path.{_≡_};
 ghost use mathlib.Core.List.{List};
 ghost use Prim.Native.Nat.{ℕ, _<_, _≤_};
 ghost use lib.ListN.{length};
-ghost use Rattle.spec.specs.Answers.{doneOf, countedOf as answerOf};
+ghost use Rattle.spec.specs.Answers.{doneOf, startedOf, storedOf, countedOf as answerOf};
 ghost use Rattle.spec.specs.Transaction.{stateOf};
 ghost use Rattle.spec.specs.Calls.{format, openStore, advance, commit, abort, create, remove, rename, write, setSize, read, sizeOf, freeCount, recordAt, nthExtent, runList};
 ghost use Rattle.spec.specs.declared.Session.{Session};
 ghost use Rattle.spec.specs.declared.Phase.{Phase};
 ghost use Rattle.mirror.specs.declared.Head.{Head};
-ghost use Rattle.journal.specs.Entries.{behind};
+ghost use Rattle.journal.specs.Entries.{behind, begunPhase};
 ghost use Rattle.checks.specs.Checks.{Seen};
 ghost use Rattle.transaction.specs.Places.{viewIn};
 ghost use Rattle.extents.specs.Stretches.{runsIn};
 ghost use Rattle.capi.specs.Cells.{Put, Last, Listed};
-ghost use Rattle.mirror.specs.Mirror.{phaseOf, headIn, numbersOf, headOf, decode, encode, finishedOf, committedOf, advancedOf, countedOf, runOf, Ends, Reads, Names, Lists, extentsOf};
+ghost use Rattle.mirror.specs.Mirror.{phaseOf, headIn, numbersOf, headOf, decode, encode, finishedOf, committedOf, advancedOf, countedOf, runOf, unlessRefused, lent, Ends, Reads, Names, Lists, extentsOf};
 
-// What a call of a session by value leaves, in numbers.
+// What a call of a session by value leaves: nothing new where it is refused.
 fn settled(numbers: &mut [u64; 4], staged: &mut [u32; Limits::LOG_LENGTH], f: Finished) -> CFinished
-    ensures { λ r. ⌜ (r ≡ finishedOf (doneOf (f .answer))) × (now (numbers .exit) ≡ numbersOf (encode (f .session))) × (now (staged .exit) ≡ f .session .staged) ⌝ }
+    ensures { λ r. ⌜ (r ≡ finishedOf (doneOf (f .answer)))
+        × (now (numbers .exit) ≡ unlessRefused (doneOf (f .answer)) (now (numbers .entry)) (numbersOf (encode (f .session))))
+        × (now (staged .exit) ≡ unlessRefused (doneOf (f .answer)) (now (staged .entry)) (f .session .staged)) ⌝ }
 {
-    let s = f.session;
-    let cells = s.staged;
     let answer = f.answer;
-    *staged = cells;
-    keep(numbers, encode(s));
-    finished(answer)
+    let s = f.session;
+    match answer {
+        Done::Refused(_) => finished(answer),
+        Done::Done => {
+            let cells = s.staged;
+            *staged = cells;
+            keep(numbers, encode(s));
+            finished(answer)
+        }
+    }
 }
 
 // Makes an empty store. The work space is not lent: whatever it holds stays.
@@ -97,8 +106,8 @@ pub extern "C" fn purse_format_v(
     numbers: &mut [u64; 4],
     staged: &mut [u32; Limits::LOG_LENGTH],
 ) -> CFinished
-    ensures { λ r. ⌜ ((work : List ℕ) → Ends finishedOf r (now (numbers .exit)) (now (staged .exit)) (now (device .exit)) work
-        (format (stateOf (decode (headIn (now (numbers .entry))) (now (staged .entry))) (now (device .entry)) work))) ⌝ }
+    ensures { λ r. ⌜ ((work : List ℕ) → Ends finishedOf r (lent (now (numbers .entry)) (now (staged .entry)) (now (device .entry)) work)
+        (lent (now (numbers .exit)) (now (staged .exit)) (now (device .exit)) work) format) ⌝ }
 {
     let before = decode(head_in(numbers), *staged);
     let after = format(device, before);
@@ -112,31 +121,33 @@ pub extern "C" fn purse_open_v(
     numbers: &mut [u64; 4],
     staged: &mut [u32; Limits::LOG_LENGTH],
 ) -> CFinished
-    ensures { λ r. ⌜ ((work : List ℕ) → Ends finishedOf r (now (numbers .exit)) (now (staged .exit)) (now (device .entry)) work
-        (openStore (stateOf (decode (headIn (now (numbers .entry))) (now (staged .entry))) (now (device .entry)) work))) ⌝ }
+    ensures { λ r. ⌜ ((work : List ℕ) → Ends finishedOf r (lent (now (numbers .entry)) (now (staged .entry)) (now (device .entry)) work)
+        (lent (now (numbers .exit)) (now (staged .exit)) (now (device .entry)) work) openStore) ⌝ }
 {
     let before = decode(head_in(numbers), *staged);
     let after = open_store(device, before);
     settled(numbers, staged, after)
 }
 
-// The numbers behind an answer of advance.
-fn head_behind(h: Head, phase: Phase, answer: Stored) -> Head
-    ensures { λ r. ⌜ ((l : List ℕ) → phase ≡ phaseOf (h .phase) (h .place) → r ≡ encode (behind phase (decode h l) answer)) ⌝ }
+// The numbers behind an answer of advance: the same where it is a refusal.
+fn keep_behind(numbers: &mut [u64; 4], h: Head, phase: Phase, answer: Stored)
+    ensures { λ _. ⌜ ((l : List ℕ) → phase ≡ phaseOf (h .phase) (h .place)
+        → now (numbers .exit) ≡ unlessRefused (storedOf answer) (now (numbers .entry)) (numbersOf (encode (behind phase (decode h l) answer)))) ⌝ }
 {
     match answer {
-        Stored::Refused(_) => head_of(h.blocks, phase, h.count),
+        Stored::Refused(_) => {}
         Stored::Stored {
             block: _,
             last,
             number,
         } => {
             if last {
-                return head_of(h.blocks, last_phase(phase), 0);
+                keep(numbers, head_of(h.blocks, last_phase(phase), 0));
+                return;
             }
-            head_of(h.blocks, phase_at(phase, number), h.count)
+            keep(numbers, head_of(h.blocks, phase_at(phase, number), h.count));
         }
-        Stored::Idle => head_of(h.blocks, phase, h.count),
+        Stored::Idle => keep(numbers, head_of(h.blocks, phase, h.count)),
     }
 }
 
@@ -168,8 +179,8 @@ pub extern "C" fn purse_advance_v(
     numbers: &mut [u64; 4],
     staged: &mut [u32; Limits::LOG_LENGTH],
 ) -> CAdvanced
-    ensures { λ r. ⌜ Ends advancedOf r (now (numbers .exit)) (now (staged .exit)) (now (device .exit)) (now (work .entry))
-        (advance (stateOf (decode (headIn (now (numbers .entry))) (now (staged .entry))) (now (device .entry)) (now (work .entry)))) ⌝ }
+    ensures { λ r. ⌜ Ends advancedOf r (lent (now (numbers .entry)) (now (staged .entry)) (now (device .entry)) (now (work .entry)))
+        (lent (now (numbers .exit)) (now (staged .exit)) (now (device .exit)) (now (work .entry))) advance ⌝ }
 {
     let head = head_in(numbers);
     let blocks = head.blocks as usize;
@@ -178,8 +189,23 @@ pub extern "C" fn purse_advance_v(
     let used = &cells[0..staged_in(head)];
     let answer = advance_in(device, work, blocks, phase, used);
     forget(staged, answer);
-    keep(numbers, head_behind(head, phase, answer));
+    keep_behind(numbers, head, phase, answer);
     advanced(answer)
+}
+
+// What an answer of commit leaves in the numbers: the same where it is a refusal.
+fn begun(numbers: &mut [u64; 4], h: Head, phase: Phase, answer: Started) -> CCommitted
+    ensures { λ r. ⌜ (r ≡ committedOf (startedOf answer))
+        × (now (numbers .exit) ≡ unlessRefused (startedOf answer) (now (numbers .entry)) (numbersOf (headOf (h .blocks) (begunPhase phase answer) (h .count)))) ⌝ }
+{
+    match answer {
+        Started::Refused(_) => committed(answer),
+        Started::Stores(_) => {
+            let next = begun_phase(phase, answer);
+            keep(numbers, head_of(h.blocks, next, h.count));
+            committed(answer)
+        }
+    }
 }
 
 // Starts the stores of a commit and tells how many they are. No cell changes.
@@ -190,8 +216,8 @@ pub extern "C" fn purse_commit_v(
     numbers: &mut [u64; 4],
     staged: &[u32; Limits::LOG_LENGTH],
 ) -> CCommitted
-    ensures { λ r. ⌜ Ends committedOf r (now (numbers .exit)) (now (staged .entry)) (now (device .entry)) (now (work .entry))
-        (commit (stateOf (decode (headIn (now (numbers .entry))) (now (staged .entry))) (now (device .entry)) (now (work .entry)))) ⌝ }
+    ensures { λ r. ⌜ Ends committedOf r (lent (now (numbers .entry)) (now (staged .entry)) (now (device .entry)) (now (work .entry)))
+        (lent (now (numbers .exit)) (now (staged .entry)) (now (device .entry)) (now (work .entry))) commit ⌝ }
 {
     let head = head_in(numbers);
     let blocks = head.blocks as usize;
@@ -199,11 +225,7 @@ pub extern "C" fn purse_commit_v(
     let cells: &[u32] = staged;
     let used = &cells[0..staged_in(head)];
     let answer = commit_in(device, work, blocks, phase, used.len());
-    keep(
-        numbers,
-        head_of(head.blocks, begun_phase(phase, answer), head.count),
-    );
-    committed(answer)
+    begun(numbers, head, phase, answer)
 }
 
 // Empties the transaction.
@@ -214,21 +236,27 @@ pub extern "C" fn purse_abort_v(
     numbers: &mut [u64; 4],
     staged: &mut [u32; Limits::LOG_LENGTH],
 ) -> CFinished
-    ensures { λ r. ⌜ Ends finishedOf r (now (numbers .exit)) (now (staged .exit)) (now (device .entry)) (now (work .entry))
-        (abort (stateOf (decode (headIn (now (numbers .entry))) (now (staged .entry))) (now (device .entry)) (now (work .entry)))) ⌝ }
+    ensures { λ r. ⌜ Ends finishedOf r (lent (now (numbers .entry)) (now (staged .entry)) (now (device .entry)) (now (work .entry)))
+        (lent (now (numbers .exit)) (now (staged .exit)) (now (device .entry)) (now (work .entry))) abort ⌝ }
 {
     let before = decode(head_in(numbers), *staged);
     let after = abort(device, work, before);
     settled(numbers, staged, after)
 }
 
-// What a call that changed a session's cells leaves, in numbers: blocks and phase are as they were.
+// What a call that is lent a session's cells leaves in its numbers: the same where it is refused, else blocks and phase as they were.
 fn changed(numbers: &mut [u64; 4], blocks: u64, phase: Phase, c: Changed) -> CFinished
-    ensures { λ r. ⌜ (r ≡ finishedOf (doneOf (c .answer))) × (now (numbers .exit) ≡ numbersOf (headOf blocks phase (c .count))) ⌝ }
+    ensures { λ r. ⌜ (r ≡ finishedOf (doneOf (c .answer)))
+        × (now (numbers .exit) ≡ unlessRefused (doneOf (c .answer)) (now (numbers .entry)) (numbersOf (headOf blocks phase (c .count)))) ⌝ }
 {
     let answer = c.answer;
-    keep(numbers, head_of(blocks, phase, c.count as u64));
-    finished(answer)
+    match answer {
+        Done::Refused(_) => finished(answer),
+        Done::Done => {
+            keep(numbers, head_of(blocks, phase, c.count as u64));
+            finished(answer)
+        }
+    }
 }
 
 // Makes an empty file.
@@ -240,8 +268,8 @@ pub extern "C" fn purse_create_v(
     staged: &mut [u32; Limits::LOG_LENGTH],
     name: &[u8],
 ) -> CFinished
-    ensures { λ r. ⌜ Ends finishedOf r (now (numbers .exit)) (now (staged .exit)) (now (device .entry)) (now (work .exit))
-        (create (stateOf (decode (headIn (now (numbers .entry))) (now (staged .entry))) (now (device .entry)) (now (work .entry))) (now (name .entry))) ⌝ }
+    ensures { λ r. ⌜ Ends finishedOf r (lent (now (numbers .entry)) (now (staged .entry)) (now (device .entry)) (now (work .entry)))
+        (lent (now (numbers .exit)) (now (staged .exit)) (now (device .entry)) (now (work .exit))) (λ s. create s (now (name .entry))) ⌝ }
 {
     let head = head_in(numbers);
     let blocks = head.blocks as usize;
@@ -260,8 +288,8 @@ pub extern "C" fn purse_remove_v(
     staged: &mut [u32; Limits::LOG_LENGTH],
     name: &[u8],
 ) -> CFinished
-    ensures { λ r. ⌜ Ends finishedOf r (now (numbers .exit)) (now (staged .exit)) (now (device .entry)) (now (work .exit))
-        (remove (stateOf (decode (headIn (now (numbers .entry))) (now (staged .entry))) (now (device .entry)) (now (work .entry))) (now (name .entry))) ⌝ }
+    ensures { λ r. ⌜ Ends finishedOf r (lent (now (numbers .entry)) (now (staged .entry)) (now (device .entry)) (now (work .entry)))
+        (lent (now (numbers .exit)) (now (staged .exit)) (now (device .entry)) (now (work .exit))) (λ s. remove s (now (name .entry))) ⌝ }
 {
     let head = head_in(numbers);
     let blocks = head.blocks as usize;
@@ -281,8 +309,8 @@ pub extern "C" fn purse_rename_v(
     name: &[u8],
     new: &[u8],
 ) -> CFinished
-    ensures { λ r. ⌜ Ends finishedOf r (now (numbers .exit)) (now (staged .exit)) (now (device .entry)) (now (work .exit))
-        (rename (stateOf (decode (headIn (now (numbers .entry))) (now (staged .entry))) (now (device .entry)) (now (work .entry))) (now (name .entry)) (now (new .entry))) ⌝ }
+    ensures { λ r. ⌜ Ends finishedOf r (lent (now (numbers .entry)) (now (staged .entry)) (now (device .entry)) (now (work .entry)))
+        (lent (now (numbers .exit)) (now (staged .exit)) (now (device .entry)) (now (work .exit))) (λ s. rename s (now (name .entry)) (now (new .entry))) ⌝ }
 {
     let head = head_in(numbers);
     let blocks = head.blocks as usize;
@@ -303,8 +331,8 @@ pub extern "C" fn purse_write_v(
     x: u64,
     bytes: &[u8],
 ) -> CFinished
-    ensures { λ r. ⌜ Ends finishedOf r (now (numbers .exit)) (now (staged .exit)) (now (device .entry)) (now (work .exit))
-        (write (stateOf (decode (headIn (now (numbers .entry))) (now (staged .entry))) (now (device .entry)) (now (work .entry))) (now (name .entry)) x (now (bytes .entry))) ⌝ }
+    ensures { λ r. ⌜ Ends finishedOf r (lent (now (numbers .entry)) (now (staged .entry)) (now (device .entry)) (now (work .entry)))
+        (lent (now (numbers .exit)) (now (staged .exit)) (now (device .entry)) (now (work .exit))) (λ s. write s (now (name .entry)) x (now (bytes .entry))) ⌝ }
 {
     let head = head_in(numbers);
     let blocks = head.blocks as usize;
@@ -334,8 +362,8 @@ pub extern "C" fn purse_set_size_v(
     name: &[u8],
     size: u64,
 ) -> CFinished
-    ensures { λ r. ⌜ Ends finishedOf r (now (numbers .exit)) (now (staged .exit)) (now (device .entry)) (now (work .exit))
-        (setSize (stateOf (decode (headIn (now (numbers .entry))) (now (staged .entry))) (now (device .entry)) (now (work .entry))) (now (name .entry)) size) ⌝ }
+    ensures { λ r. ⌜ Ends finishedOf r (lent (now (numbers .entry)) (now (staged .entry)) (now (device .entry)) (now (work .entry)))
+        (lent (now (numbers .exit)) (now (staged .exit)) (now (device .entry)) (now (work .exit))) (λ s. setSize s (now (name .entry)) size) ⌝ }
 {
     let head = head_in(numbers);
     let blocks = head.blocks as usize;
@@ -365,20 +393,20 @@ pub extern "C" fn purse_read_v<'a>(
     x: u64,
     buffer: &mut [u8],
 ) -> CCounted
-    ensures { λ r. ⌜ Reads r (now (buffer .exit))
+    ensures { λ r. ⌜ Reads r (now (buffer .entry)) (now (buffer .exit))
         (read (stateOf (decode (headIn (now (numbers .entry))) (now (staged .entry))) (now (device .entry)) (now (work .entry))) (now (name .entry)) x (now (buffer .entry))) ⌝ }
 {
     let head = head_in(numbers);
     let blocks = head.blocks as usize;
     let phase = phase_in(head);
-    let cells: &[u32] = staged;
-    let used = &cells[0..staged_in(head)];
+    let many = head.count as usize;
     let answer = read_in(
         device,
         work,
         blocks,
         phase,
-        used,
+        staged,
+        many,
         name,
         ByteOffset(x as usize),
         buffer,
@@ -400,9 +428,8 @@ pub extern "C" fn purse_size_v<'a>(
     let head = head_in(numbers);
     let blocks = head.blocks as usize;
     let phase = phase_in(head);
-    let cells: &[u32] = staged;
-    let used = &cells[0..staged_in(head)];
-    let answer = size_in(device, work, blocks, phase, used, name);
+    let many = head.count as usize;
+    let answer = size_in(device, work, blocks, phase, staged, many, name);
     counted(answer)
 }
 
@@ -419,13 +446,12 @@ pub extern "C" fn purse_free_count_v<'a>(
     let head = head_in(numbers);
     let blocks = head.blocks as usize;
     let phase = phase_in(head);
-    let cells: &[u32] = staged;
-    let used = &cells[0..staged_in(head)];
-    let answer = free_count_in(device, work, blocks, phase, used);
+    let many = head.count as usize;
+    let answer = free_count_in(device, work, blocks, phase, staged, many);
     counted(answer)
 }
 
-// Name and size of record i, or that it is empty: the name lent is then zero.
+// Name and size of record i, or that it is empty: the name lent is then zero. A refusal leaves it.
 #[no_mangle]
 pub extern "C" fn purse_record_v<'a>(
     device: &'a [u8],
@@ -433,16 +459,15 @@ pub extern "C" fn purse_record_v<'a>(
     numbers: &[u64; 4],
     i: u64,
     staged: &[u32; Limits::LOG_LENGTH],
-    name: &mut [u8; 8],
+    name: &mut [u8; Limits::NAME_SIZE],
 ) -> CRecord
-    ensures { λ r. ⌜ Names r (now (name .exit)) (recordAt (stateOf (decode (headIn (now (numbers .entry))) (now (staged .entry))) (now (device .entry)) (now (work .entry))) i .answer) ⌝ }
+    ensures { λ r. ⌜ Names r (now (name .entry)) (now (name .exit)) (recordAt (stateOf (decode (headIn (now (numbers .entry))) (now (staged .entry))) (now (device .entry)) (now (work .entry))) i .answer) ⌝ }
 {
     let head = head_in(numbers);
     let blocks = head.blocks as usize;
     let phase = phase_in(head);
-    let cells: &[u32] = staged;
-    let used = &cells[0..staged_in(head)];
-    let answer = record_in(device, work, blocks, phase, used, i as usize);
+    let many = head.count as usize;
+    let answer = record_in(device, work, blocks, phase, staged, many, i as usize);
     recorded(answer, name)
 }
 
@@ -463,14 +488,14 @@ pub extern "C" fn purse_nth_extent_v<'a>(
     let head = head_in(numbers);
     let blocks = head.blocks as usize;
     let phase = phase_in(head);
-    let cells: &[u32] = staged;
-    let used = &cells[0..staged_in(head)];
+    let many = head.count as usize;
     let answer = nth_extent_in(
         device,
         work,
         blocks,
         phase,
-        used,
+        staged,
+        many,
         name,
         FileBlock(from as usize),
         n as usize,
@@ -507,12 +532,12 @@ fn put_runs<'a>(
     work: &'a [u8],
     staged: &[u32],
     i: usize,
-    from: usize,
+    from: FileBlock,
     n: usize,
     list: &mut [u32],
 ) -> usize
     requires { ⌜ (i < 128) × (length (now staged) ≤ 32) ⌝ }
-    ensures { λ r. ⌜ Listed (runsIn (viewIn (now (staged .entry)) (now (device .entry)) (now (work .entry))) i from n) (now (list .entry)) (now (list .exit)) r ⌝ }
+    ensures { λ r. ⌜ Listed (runsIn (viewIn (now (staged .entry)) (now (device .entry)) (now (work .entry))) i (from .0) n) (now (list .entry)) (now (list .exit)) r ⌝ }
 {
     let table = inode_block_in(device, work, staged, i);
     let mut scan = stretch_at(table, i, from, n);
@@ -538,7 +563,7 @@ fn put_runs<'a>(
             }
             AtSlot::Unused => match take_node(table, scan) {
                 AtNode::Node(b, then) => {
-                    block = view_in(device, work, staged, DiskBlock(b));
+                    block = view_in(device, work, staged, b);
                     scan = then;
                 }
                 AtNode::End => {
@@ -556,11 +581,11 @@ fn count_runs<'a>(
     work: &'a [u8],
     staged: &[u32],
     i: usize,
-    from: usize,
+    from: FileBlock,
     n: usize,
 ) -> usize
     requires { ⌜ (i < 128) × (length (now staged) ≤ 32) ⌝ }
-    ensures { λ r. ⌜ r ≡ length (runsIn (viewIn (now (staged .entry)) (now (device .entry)) (now (work .entry))) i from n) ⌝ }
+    ensures { λ r. ⌜ r ≡ length (runsIn (viewIn (now (staged .entry)) (now (device .entry)) (now (work .entry))) i (from .0) n) ⌝ }
 {
     let mut none = [0u32; 1];
     put_runs(device, work, staged, i, from, n, &mut none)
@@ -574,13 +599,13 @@ fn list_runs<'a>(
     phase: Phase,
     staged: &[u32],
     name: &[u8],
-    from: usize,
+    from: FileBlock,
     n: usize,
     list: &mut [u32],
 ) -> Counted
     requires { ⌜ length (now staged) ≤ 32 ⌝ }
     ensures { λ r. ⌜ ((s : Session) → Seen blocks phase (now (staged .entry)) s → Lists (countedOf (answerOf r)) (now (list .entry)) (now (list .exit))
-        (runList (stateOf s (now (device .entry)) (now (work .entry))) (now (name .entry)) from n (extentsOf (now (list .entry))))) ⌝ }
+        (runList (stateOf s (now (device .entry)) (now (work .entry))) (now (name .entry)) (from .0) n (extentsOf (now (list .entry))))) ⌝ }
 {
     match look_up(device, work, blocks, phase, staged, name) {
         Looked::Bad(why) => Counted::Refused(why),
@@ -623,7 +648,7 @@ pub extern "C" fn purse_run_list_v<'a>(
         phase,
         used,
         name,
-        from as usize,
+        FileBlock(from as usize),
         n as usize,
         list,
     );

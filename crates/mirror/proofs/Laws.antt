@@ -1,6 +1,6 @@
 -- The numbers of sessions and answers: a session is what its numbers stand for, and the cases of the results. Assumes nothing.
 use Prim.Native.Nat.{ℕ}
-use mathlib.Core.Path.{_≡_, refl, sym, ap, ap₂, _∙_, subst}
+use mathlib.Core.Path.{_≡_, refl, sym, ap, _∙_, subst}
 use mathlib.Core.Bool.{Bool, cond}
 use mathlib.Core.List.{List, []}
 use lib.ListN.{replicate}
@@ -13,7 +13,6 @@ use Rattle.spec.specs.declared.Refusal.{Refusal}
 use Rattle.spec.specs.declared.Refusal.the-variants.{DeviceSize, WorkSize, BadName, TooLarge, BadHeader, Unsound, NotReady, Unknown, Taken, NoInode, NoSpace, TooManyExtents, TooManyStaged, ListShort}
 use Rattle.spec.specs.Answers.{Answer, done, started, stored, idle, counted, file, noFile, run, noRun, refusalOf}
 use Rattle.spec.specs.Session.{neverOpened}
-use Rattle.spec.specs.Transaction.{stateOf}
 use Rattle.spec.specs.Calls.{Outcome, left, leftBuffer}
 use Rattle.mirror.specs.declared.Head.{Head}
 use Rattle.mirror.specs.declared.CFinished.{CFinished}
@@ -21,7 +20,7 @@ use Rattle.mirror.specs.declared.CCommitted.{CCommitted}
 use Rattle.mirror.specs.declared.CAdvanced.{CAdvanced}
 use Rattle.mirror.specs.declared.CCounted.{CCounted}
 use Rattle.mirror.specs.declared.CRecord.{CRecord}
-use Rattle.mirror.specs.Mirror.{phaseOf, phaseNumber, placeIn, headIn, numbersOf, decode, encode, refusalNumber, faultIn, valuesOf, nameIn, finishedOf, committedOf, advancedOf, countedOf, recordedOf, runOf, Ends, Reads, Names}
+use Rattle.mirror.specs.Mirror.{phaseOf, phaseNumber, placeIn, decode, encode, refusalNumber, faultIn, valuesOf, nameIn, finishedOf, committedOf, advancedOf, countedOf, recordedOf, runOf, Stays, Reads, Names}
 
 -- ---- sessions
 
@@ -77,21 +76,21 @@ no-values TooManyExtents = refl
 no-values TooManyStaged = refl
 no-values ListShort = refl
 
-no-name : (r : Refusal) → nameIn (refusalOf r) ≡ replicate 8 0
-no-name DeviceSize = refl
-no-name WorkSize = refl
-no-name BadName = refl
-no-name TooLarge = refl
-no-name (BadHeader i) = refl
-no-name Unsound = refl
-no-name NotReady = refl
-no-name Unknown = refl
-no-name Taken = refl
-no-name NoInode = refl
-no-name NoSpace = refl
-no-name TooManyExtents = refl
-no-name TooManyStaged = refl
-no-name ListShort = refl
+name-stays : (r : Refusal) (before : List ℕ) → nameIn before (refusalOf r) ≡ before
+name-stays DeviceSize before = refl
+name-stays WorkSize before = refl
+name-stays BadName before = refl
+name-stays TooLarge before = refl
+name-stays (BadHeader i) before = refl
+name-stays Unsound before = refl
+name-stays NotReady before = refl
+name-stays Unknown before = refl
+name-stays Taken before = refl
+name-stays NoInode before = refl
+name-stays NoSpace before = refl
+name-stays TooManyExtents before = refl
+name-stays TooManyStaged before = refl
+name-stays ListShort before = refl
 
 -- ---- the cases of the results
 
@@ -112,9 +111,9 @@ module _ (r : Refusal) (n : ℕ) (f : n ≡ refusalNumber (refusalOf r)) where
   unfolding countedOf
   counted-refused = rw (f, no-values r)
 
-  pub recorded-refused : (q : CRecord) (name : List ℕ) (a : Answer) → a ≡ refusalOf r → (q ≡ record { refusal = n; used = 0; size = 0 }) × (name ≡ replicate 8 0) → Names q name a
+  pub recorded-refused : (q : CRecord) (name : List ℕ) (a : Answer) → a ≡ refusalOf r → q ≡ record { refusal = n; used = 0; size = 0 } → Names q name name a
   unfolding recordedOf
-  recorded-refused q name a g e = rw g (e .0 ∙ simp (f, no-values r), e .1 ∙ sym (no-name r))
+  recorded-refused q name a g e = rw g (e ∙ simp (f, no-values r), sym (name-stays r name))
 
   pub run-refused : record { refusal = n; first = 0; count = 0 } ≡ runOf (refusalOf r)
   unfolding runOf
@@ -140,13 +139,13 @@ pub counted-count : (n : ℕ) → record { refusal = 0; count = n } ≡ countedO
 unfolding countedOf
 counted-count n = refl
 
-pub recorded-file : (x : List ℕ) (n : ℕ) (a : Answer) → a ≡ file x n → Names (record { refusal = 0; used = 1; size = n }) x a
+pub recorded-file : (before x : List ℕ) (n : ℕ) (a : Answer) → a ≡ file x n → Names (record { refusal = 0; used = 1; size = n }) before x a
 unfolding recordedOf
-recorded-file x n a g = rw g (refl, refl)
+recorded-file before x n a g = rw g (refl, refl)
 
-pub recorded-none : (q : CRecord) (name : List ℕ) (a : Answer) → a ≡ noFile → (q ≡ record { refusal = 0; used = 0; size = 0 }) × (name ≡ replicate 8 0) → Names q name a
+pub recorded-none : (q : CRecord) (before : List ℕ) (a : Answer) → a ≡ noFile → q ≡ record { refusal = 0; used = 0; size = 0 } → Names q before (replicate 8 0) a
 unfolding recordedOf
-recorded-none q name a g e = rw g e
+recorded-none q before a g e = rw g (e, refl)
 
 pub run-extent : (e : Extent) → record { refusal = 0; first = e .first; count = e .count } ≡ runOf (run e)
 unfolding runOf
@@ -156,7 +155,7 @@ pub run-none : record { refusal = 0; first = 0; count = 0 } ≡ runOf noRun
 unfolding runOf
 run-none = refl
 
--- ---- promises: f is the call's outcome at a session, b the session that the numbers given were read as
+-- ---- promises of the calls that only read: f is the call's outcome at a session, b the session that the numbers given were read as
 
 module _ (f : Session → Outcome) (b c : Session) (q : b ≡ c) where
   module _ (s : Session) (d w : List ℕ) (a : Answer) (e : left s d w a ≡ f b) where
@@ -164,22 +163,16 @@ module _ (f : Session → Outcome) (b c : Session) (q : b ≡ c) where
     at-session = e ∙ ap f q
 
     -- m gives the numbers of its answer
-    pub ends : {R : Type 0} (m : Answer → R) (r : R) → r ≡ m a → (ns l : List ℕ) → ns ≡ numbersOf (encode s) → l ≡ s .staged → Ends m r ns l d w (f c)
-    ends m r g ns l n h =
-        subst (λ (x : Outcome). Ends m r ns l d w x) at-session
-        (record {
-          answer = g;
-          head = n;
-          state = ap₂ (λ (x y : List ℕ). stateOf (decode (headIn x) y) d w) n h ∙ ap (λ (x : Session). stateOf x d w) (decode-encode s);
-        })
-
-    -- a call that only reads
     pub answers : {R : Type 0} (m : Answer → R) (r : R) → r ≡ m a → r ≡ m (f c .answer)
     answers m r g = g ∙ ap (λ (x : Outcome). m (x .answer)) at-session
 
-    pub names : (r : CRecord) (name : List ℕ) → Names r name a → Names r name (f c .answer)
-    names r name g = subst (λ (x : Outcome). Names r name (x .answer)) at-session g
+    pub names : (r : CRecord) (before name : List ℕ) → Names r before name a → Names r before name (f c .answer)
+    names r before name g = subst (λ (x : Outcome). Names r before name (x .answer)) at-session g
 
-  pub reads : (s : Session) (d w : List ℕ) (a : Answer) (buffer : List ℕ) → leftBuffer s d w a buffer ≡ f b → (r : CCounted) → r ≡ countedOf a
-      → Reads r buffer (f c)
-  reads s d w a buffer e r g = subst (λ (x : Outcome). Reads r buffer x) (e ∙ ap f q) (g, refl)
+  -- k: refused, the call keeps the buffer
+  pub reads : (before : List ℕ) → Stays (f c .answer) before (f c .buffer) → (s : Session) (d w : List ℕ) (a : Answer) (buffer : List ℕ) → leftBuffer s d w a buffer ≡ f b
+      → (r : CCounted) → r ≡ countedOf a → Reads r before buffer (f c)
+  reads before k s d w a buffer e r g =
+      let o = e ∙ ap f q in
+      let l = ap (λ (x : Outcome). x .buffer) o in
+      (g ∙ ap (λ (x : Outcome). countedOf (x .answer)) o, l, λ t. l ∙ k t)

@@ -1,7 +1,7 @@
 -- Sessions and answers in the numbers in which they cross to C.
 use Prim.Native.Nat.{ℕ, _*_}
 use mathlib.Core.Path.{_≡_}
-use mathlib.Core.Bool.{cond}
+use mathlib.Core.Bool.{true, false, cond}
 use mathlib.Core.List.{List, [], _∷_, _++_}
 use lib.ListN.{length, drop, replicate, getD}
 use lib.Dec.{eqb}
@@ -10,8 +10,8 @@ use Rattle.spec.specs.declared.Phase.the-variants.{Closed, Ready, Committing, R
 use Rattle.spec.specs.declared.Session.{Session}
 use Rattle.spec.specs.declared.Extent.{Extent}
 use Rattle.spec.specs.Inode.{extent}
-use Rattle.spec.specs.Answers.{Answer, refused, done, started, stored, idle, counted, file, noFile, run, noRun}
-use Rattle.spec.specs.Transaction.{stateOf}
+use Rattle.spec.specs.Answers.{Answer, refused, done, started, stored, idle, counted, file, noFile, run, noRun, isRefused}
+use Rattle.spec.specs.Transaction.{State, stateOf}
 use Rattle.spec.specs.Calls.{Outcome}
 use Rattle.mirror.specs.declared.Head.{Head}
 use Rattle.mirror.specs.declared.CFinished.{CFinished}
@@ -100,18 +100,18 @@ valuesOf noFile = []
 valuesOf (run e) = e .first ∷ e .count ∷ []
 valuesOf noRun = []
 
--- a file's name, 8 zeros for any other answer
-abbrev pub nameIn : Answer → List ℕ
-nameIn (refused n vs) = replicate 8 0
-nameIn done = replicate 8 0
-nameIn (started n) = replicate 8 0
-nameIn (stored b l n) = replicate 8 0
-nameIn idle = replicate 8 0
-nameIn (counted n) = replicate 8 0
-nameIn (file x n) = x
-nameIn noFile = replicate 8 0
-nameIn (run e) = replicate 8 0
-nameIn noRun = replicate 8 0
+-- the name lent behind record i: a file's name, 8 zeros where there is none; a refusal leaves it as it was
+abbrev pub nameIn : List ℕ → Answer → List ℕ
+nameIn before (refused n vs) = before
+nameIn before done = replicate 8 0
+nameIn before (started n) = replicate 8 0
+nameIn before (stored b l n) = replicate 8 0
+nameIn before idle = replicate 8 0
+nameIn before (counted n) = replicate 8 0
+nameIn before (file x n) = x
+nameIn before noFile = replicate 8 0
+nameIn before (run e) = replicate 8 0
+nameIn before noRun = replicate 8 0
 
 -- value k of an answer, 0 where it has none
 abbrev pub valueAt : ℕ → Answer → ℕ
@@ -137,21 +137,51 @@ recordedOf a = record { refusal = refusalNumber a; used = valueAt 0 a; size = va
 unfoldable pub runOf : Answer → CRun
 runOf a = record { refusal = refusalNumber a; first = valueAt 0 a; count = valueAt 1 a }
 
--- ---- the form of a promise: what a function returns is the answer of the call's outcome in numbers (m), the numbers left are those of its session, and
--- the session that they and the cells left stand for, with the lent slices, is the state that the outcome leaves
+-- ---- what C lends to a call, and finds there behind it
 
-pub record Ends {R : Type 0} (m : Answer → R) (r : R) (numbers staged device work : List ℕ) (o : Outcome) : Type 0 where
+-- the session as its four numbers and its 32 cells, the device and the work space
+pub record Lent : Type 0 where
+  pub numbers : List ℕ
+  pub staged : List ℕ
+  pub device : List ℕ
+  pub work : List ℕ
+
+abbrev pub lent : List ℕ → List ℕ → List ℕ → List ℕ → Lent
+lent numbers staged device work = record { numbers = numbers; staged = staged; device = device; work = work }
+
+-- the state that they stand for: any numbers and bytes stand for one
+abbrev pub stateIn : Lent → State
+stateIn l = stateOf (decode (headIn (l .numbers)) (l .staged)) (l .device) (l .work)
+
+-- "A refusal changes nothing": what is lent then stays as it was, number for number and byte for byte
+abbrev pub Stays : {A : Type 0} → Answer → A → A → Type 0
+Stays a before after = isRefused a ≡ true → after ≡ before
+
+-- before where the call is refused, else after
+unfoldable pub unlessRefused : Answer → List ℕ → List ℕ → List ℕ
+unlessRefused a before after = cond (isRefused a) before after
+
+-- ---- the form of a promise
+
+-- what a function returns is the answer of the call's outcome in numbers (m); a refusal leaves all that is lent as it was, whatever that is; else what
+-- is lent is the state that the outcome leaves, and the session's numbers are those of `encode`
+pub record Leaves {R : Type 0} (m : Answer → R) (r : R) (before after : Lent) (o : Outcome) : Type 0 where
   pub answer : r ≡ m (o .answer)
-  pub head : numbers ≡ numbersOf (encode (o .after .session))
-  pub state : stateOf (decode (headIn numbers) staged) device work ≡ o .after
+  pub refusal : Stays (o .answer) before after
+  pub state : stateIn after ≡ o .after
+  pub head : isRefused (o .answer) ≡ false → after .numbers ≡ numbersOf (encode (o .after .session))
+
+-- the outcome of a call at the state lent
+abbrev pub Ends : {R : Type 0} → (Answer → R) → R → Lent → Lent → (State → Outcome) → Type 0
+Ends m r before after call = Leaves m r before after (call (stateIn before))
 
 -- read: and the buffer lent
-abbrev pub Reads : CCounted → List ℕ → Outcome → Type 0
-Reads r buffer o = (r ≡ countedOf (o .answer)) × (buffer ≡ o .buffer)
+abbrev pub Reads : CCounted → List ℕ → List ℕ → Outcome → Type 0
+Reads r before after o = (r ≡ countedOf (o .answer)) × (after ≡ o .buffer) × Stays (o .answer) before after
 
 -- record i: and the name lent
-abbrev pub Names : CRecord → List ℕ → Answer → Type 0
-Names r name a = (r ≡ recordedOf a) × (name ≡ nameIn a)
+abbrev pub Names : CRecord → List ℕ → List ℕ → Answer → Type 0
+Names r before after a = (r ≡ recordedOf a) × (after ≡ nameIn before a)
 
 -- ---- a lent list of extents in cells: first block and count of each, in turn
 
@@ -169,6 +199,6 @@ cellsOf (e ∷ es) = e .first ∷ e .count ∷ cellsOf es
 unfoldable pub withExtents : List ℕ → List Extent → List ℕ
 withExtents cells es = cellsOf es ++ drop (2 * length es) cells
 
--- run list: what is left in the cells lent
+-- run list: what is left in the cells lent; a refusal leaves each, a last one without a partner too
 abbrev pub Lists : CCounted → List ℕ → List ℕ → Outcome → Type 0
-Lists r before after o = (r ≡ countedOf (o .answer)) × (after ≡ withExtents before (o .list))
+Lists r before after o = (r ≡ countedOf (o .answer)) × (after ≡ withExtents before (o .list)) × Stays (o .answer) before after

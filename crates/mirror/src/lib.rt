@@ -13,7 +13,6 @@ use spec::Stored;
 ghost use mathlib.Core.Path.{_≡_};
 ghost use mathlib.Core.Bool.{cond};
 ghost use Prim.Native.Nat.{min};
-ghost use lib.ListN.{replicate};
 ghost use Rattle.spec.specs.Answers.{refusalOf, doneOf, startedOf, storedOf, countedOf as answerOf, recordedOf as fileOf, runOf as extentOf};
 ghost use Rattle.mirror.specs.Mirror.{phaseOf, phaseNumber, placeIn, headOf, headIn, numbersOf, decode, encode, refusalNumber, faultIn, finishedOf, committedOf, advancedOf, countedOf, runOf, Names};
 
@@ -56,7 +55,7 @@ pub struct CCounted {
     pub count: u64,
 }
 
-// record i: used is 1 where a file is answered, else size and the name lent become zero.
+// record i: used is 1 where a file is answered, else size is zero, and the name lent becomes zero unless the call is refused.
 #[repr(C)]
 pub struct CRecord {
     pub refusal: u32,
@@ -295,10 +294,9 @@ pub fn counted(answer: Counted) -> CCounted
     }
 }
 
-fn no_file(refusal: u32, name: &mut [u8; 8]) -> CRecord
-    ensures { λ r. ⌜ (r ≡ record { refusal = refusal; used = 0; size = 0 }) × (now (name .exit) ≡ replicate 8 0) ⌝ }
+fn no_file(refusal: u32) -> CRecord
+    ensures { λ r. ⌜ r ≡ record { refusal = refusal; used = 0; size = 0 } ⌝ }
 {
-    *name = [0; 8];
     CRecord {
         refusal: refusal,
         used: 0,
@@ -306,13 +304,14 @@ fn no_file(refusal: u32, name: &mut [u8; 8]) -> CRecord
     }
 }
 
-pub fn recorded(f: FileRecord, name: &mut [u8; 8]) -> CRecord
-    ensures { λ r. ⌜ Names r (now (name .exit)) (fileOf (f .answer) (f .name) (f .size)) ⌝ }
+// A refusal leaves the name lent as it was.
+pub fn recorded(f: FileRecord, name: &mut [u8; Limits::NAME_SIZE]) -> CRecord
+    ensures { λ r. ⌜ Names r (now (name .entry)) (now (name .exit)) (fileOf (f .answer) (f .name) (f .size)) ⌝ }
 {
     let answer = f.answer;
     let own = f.name;
     match answer {
-        Recorded::Refused(why) => no_file(refusal_number(why), name),
+        Recorded::Refused(why) => no_file(refusal_number(why)),
         Recorded::File => {
             *name = own;
             CRecord {
@@ -321,7 +320,10 @@ pub fn recorded(f: FileRecord, name: &mut [u8; 8]) -> CRecord
                 size: f.size as u64,
             }
         }
-        Recorded::Empty => no_file(0, name),
+        Recorded::Empty => {
+            *name = [0; Limits::NAME_SIZE];
+            no_file(0)
+        }
     }
 }
 

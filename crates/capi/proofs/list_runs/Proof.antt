@@ -30,10 +30,10 @@ same-length : tie.Need-same-length
 same-length c = search needs
 
 returns-2 : tie.Need-returns-2
-returns-2 c = λ s q. let r = runs-seen s (c .before .before .before .before .before .before .before .before .before .before .before .before .before .before .before .args .device .now) (c .before .before .before .before .before .before .before .before .before .before .before .before .before .before .before .args .work .now) _ (c .before .before .before .before .before .before .before .i .given .0 .0) (c .before .before .before .before .before .before .before .before .before .before .before .before .before .before .before .args .from) (c .before .before .before .before .before .before .before .before .before .before .before .before .before .before .before .args .n) (q .numbers) in let n = c .before .before .before .before .before .count-runs .ensures ∙ ap length r in list-fine _ _ _ _ _ _ _ (sym (ap lookedOf (c .before .before .before .before .before .before .before .i .given .1)) ∙ c .before .before .before .before .before .before .before .before .before .look-up .ensures .0 s q) n _ (omega (arith, c .before .before .before .before .if1 .taken)) (listed-all _ _ _ _ _ (c .before .before .put-runs .ensures) r (omega (arith, n, c .before .before .before .before .if1 .taken)))
+returns-2 c = λ s q. let r = runs-seen s (c .before .before .before .before .before .before .before .before .before .before .before .before .before .before .before .args .device .now) (c .before .before .before .before .before .before .before .before .before .before .before .before .before .before .before .args .work .now) _ (c .before .before .before .before .before .before .before .i .given .0 .0) (c .before .before .before .before .before .before .before .before .before .before .before .before .before .before .before .args .from .0) (c .before .before .before .before .before .before .before .before .before .before .before .before .before .before .before .args .n) (q .numbers) in let n = c .before .before .before .before .before .count-runs .ensures ∙ ap length r in list-fine _ _ _ _ _ _ _ (sym (ap lookedOf (c .before .before .before .before .before .before .before .i .given .1)) ∙ c .before .before .before .before .before .before .before .before .before .look-up .ensures .0 s q) n _ (omega (arith, c .before .before .before .before .if1 .taken)) (listed-all _ _ _ _ _ (c .before .before .put-runs .ensures) r (omega (arith, n, c .before .before .before .before .if1 .taken)))
 
 returns-3 : tie.Need-returns-3
-returns-3 c = λ s q. let r = runs-seen s (c .before .before .before .before .before .before .before .before .before .before .before .args .device .now) (c .before .before .before .before .before .before .before .before .before .before .before .args .work .now) _ (c .before .before .before .i .given .0 .0) (c .before .before .before .before .before .before .before .before .before .before .before .args .from) (c .before .before .before .before .before .before .before .before .before .before .before .args .n) (q .numbers) in list-short _ _ _ _ _ _ _ (sym (ap lookedOf (c .before .before .before .i .given .1)) ∙ c .before .before .before .before .before .look-up .ensures .0 s q) (c .before .count-runs .ensures ∙ ap length r) (omega (arith, c .if1 .left))
+returns-3 c = λ s q. let r = runs-seen s (c .before .before .before .before .before .before .before .before .before .before .before .args .device .now) (c .before .before .before .before .before .before .before .before .before .before .before .args .work .now) _ (c .before .before .before .i .given .0 .0) (c .before .before .before .before .before .before .before .before .before .before .before .args .from .0) (c .before .before .before .before .before .before .before .before .before .before .before .args .n) (q .numbers) in list-short _ _ _ _ _ _ _ (sym (ap lookedOf (c .before .before .before .i .given .1)) ∙ c .before .before .before .before .before .look-up .ensures .0 s q) (c .before .count-runs .ensures ∙ ap length r) (omega (arith, c .if1 .left))
 
 pub list-runs-spec : {M : Type 1} → statement M
 list-runs-spec =

@@ -1,12 +1,12 @@
 use native.Mathlib.Omega.{arith}
-use mathlib.Core.Path.{_≡_, ap, _∙_}
+use mathlib.Core.Path.{_≡_}
 use lib.ListN.{length}
-use Rattle.spec.specs.declared.Session.{Session}
-use Rattle.spec.specs.Transaction.{stateOf}
 use Rattle.spec.specs.Calls.{advance}
 use Rattle.journal.specs.Entries.{behind}
-use Rattle.mirror.specs.Mirror.{numbersOf, decode, advancedOf}
-use Rattle.capi.proofs.Laws.{seen, few, ends-of}
+use Rattle.mirror.specs.Mirror.{decode, advancedOf}
+use Rattle.capi.proofs.Laws.{seen, few}
+use Rattle.capi.proofs.Kept.{advance-still}
+use Rattle.capi.proofs.Ends.{ends-of}
 use borrow.Author.Needs.{needs}
 use Rattle.capi.proofs.purse_advance_v.Statement.{statement}
 use Rattle.capi.proofs.purse_advance_v.Tie as tie
@@ -35,11 +35,8 @@ advance-in-requires c κs = let l : length (c .before .before .before .before .b
 forget-requires : tie.Need-forget-requires
 forget-requires c κs = search needs
 
-head-behind-requires : tie.Need-head-behind-requires
-head-behind-requires c κs = search needs
-
-keep-requires : tie.Need-keep-requires
-keep-requires c κs = search needs
+keep-behind-requires : tie.Need-keep-behind-requires
+keep-behind-requires c κs = search needs
 
 advanced-requires : tie.Need-advanced-requires
 advanced-requires c κs = search needs
@@ -48,10 +45,17 @@ same-length : tie.Need-same-length
 same-length c = search needs
 
 returns : tie.Need-returns
-returns c = let a = c .before .before .before .before .before .before .before .before .before .before .before .before .before .before .before .before .before .before .before .args in let l : length (a .staged .now) ≡ 32 = search (needs, c .before .before .before .before .before .before .before .before .before .before .before .before .before .cells .given, c .before .before .before .before .before .before .before .before .before .before .before .before .cells2 .given) in let h = c .before .before .before .before .before .before .before .before .before .before .before .before .before .before .before .head-in .result in let s = decode h (a .staged .now) in let p = c .before .before .before .before .before .before .before .before .before .before .before .before .before .before .phase-in .result in
-    ends-of (λ (x : Session). advance (stateOf x (a .device .now) (a .work .now))) (a .numbers .now) h (c .before .before .before .before .before .before .before .before .before .before .before .before .before .before .before .head-in .ensures) advancedOf (a .staged .now) (behind p s (c .before .before .before .before .before .before .before .before .advance-in .result)) _ (a .work .now) _
-    (c .before .before .before .before .before .before .before .before .advance-in .ensures s (seen h (a .staged .now) _ l (c .before .before .before .before .before .before .before .before .before .before .before .staged-in .ensures) _ (c .before .before .before .before .before .before .before .before .before .before .before .before .before .before .phase-in .ensures))) _ (c .advanced .ensures) _ _
-    (c .before .keep .ensures ∙ ap numbersOf (c .before .before .head-behind .ensures (a .staged .now) (c .before .before .before .before .before .before .before .before .before .before .before .before .before .before .phase-in .ensures))) (c .before .before .before .before .forget .ensures p h)
+returns c =
+    let a = c .before .before .before .before .before .before .before .before .before .before .before .before .before .before .before .before .before .before .args in
+    let l : length (a .staged .now) ≡ 32 = search (needs, c .before .before .before .before .before .before .before .before .before .before .before .before .cells .given, c .before .before .before .before .before .before .before .before .before .before .before .cells2 .given) in
+    let h = c .before .before .before .before .before .before .before .before .before .before .before .before .before .before .head-in in
+    let p = c .before .before .before .before .before .before .before .before .before .before .before .before .before .phase-in in
+    let r = c .before .before .before .before .before .before .before .advance-in in
+    let s = decode (h .result) (a .staged .now) in
+    let n = seen (h .result) (a .staged .now) _ l (c .before .before .before .before .before .before .before .before .before .before .staged-in .ensures) _ (p .ensures) in
+    ends-of advance advance-still (a .numbers .now) (a .staged .now) (a .device .now) (a .work .now) (h .result) (h .ensures) advancedOf
+    (behind (p .result) s (r .result)) _ (a .work .now) _ (r .ensures s n) _ (c .advanced .ensures) _ _
+    (c .before .keep-behind .ensures (a .staged .now) (p .ensures)) (c .before .before .before .forget .ensures (p .result) (h .result))
 
 pub purse-advance-v-spec : {M : Type 1} → statement M
 purse-advance-v-spec =
@@ -65,8 +69,7 @@ purse-advance-v-spec =
     part-used-end
     advance-in-requires
     forget-requires
-    head-behind-requires
-    keep-requires
+    keep-behind-requires
     advanced-requires
     same-length
     returns)

@@ -1,14 +1,13 @@
 use native.Mathlib.Omega.{arith}
-use mathlib.Core.Path.{_≡_, refl, sym, ap, _∙_}
+use mathlib.Core.Path.{_≡_, refl, sym, ap}
 use lib.ListN.{length}
-use Rattle.spec.specs.declared.Session.{Session}
-use Rattle.spec.specs.declared.Phase.{Phase}
-use Rattle.spec.specs.Transaction.{stateOf}
 use Rattle.spec.specs.Calls.{commit}
 use Rattle.spec.specs.Session.{inPhase}
 use Rattle.journal.specs.Entries.{begunPhase}
-use Rattle.mirror.specs.Mirror.{numbersOf, headOf, decode, committedOf}
-use Rattle.capi.proofs.Laws.{seen, few, ends-of}
+use Rattle.mirror.specs.Mirror.{decode, committedOf}
+use Rattle.capi.proofs.Laws.{seen, few}
+use Rattle.capi.proofs.Kept.{commit-still}
+use Rattle.capi.proofs.Ends.{ends-of}
 use borrow.Author.Needs.{needs}
 use Rattle.capi.proofs.purse_commit_v.Statement.{statement}
 use Rattle.capi.proofs.purse_commit_v.Tie as tie
@@ -34,23 +33,20 @@ part-used-end c = let l : length (c .before .before .before .before .before .bef
 commit-in-requires : tie.Need-commit-in-requires
 commit-in-requires c κs = let l : length (c .before .before .before .before .before .before .before .before .args .staged .now) ≡ 32 = search (needs, c .before .before .cells .given) in few (c .before .before .before .before .head-in .result) (c .before .before .before .before .before .before .before .before .args .staged .now) _ l (c .before .staged-in .ensures)
 
-begun-phase-requires : tie.Need-begun-phase-requires
-begun-phase-requires c κs = search needs
-
-head-of-requires : tie.Need-head-of-requires
-head-of-requires c κs = search needs
-
-keep-requires : tie.Need-keep-requires
-keep-requires c κs = search needs
-
-committed-requires : tie.Need-committed-requires
-committed-requires c κs = search needs
+begun-requires : tie.Need-begun-requires
+begun-requires c κs = search needs
 
 returns : tie.Need-returns
-returns c = let a = c .before .before .before .before .before .before .before .before .before .before .before .before .before .before .args in let l : length (a .staged .now) ≡ 32 = search (needs, c .before .before .before .before .before .before .before .before .cells .given, c .before .before .before .before .before .before .before .before .before .before .before .before .before .before .good) in let h = c .before .before .before .before .before .before .before .before .before .before .head-in .result in let s = decode h (a .staged .now) in let n = seen h (a .staged .now) _ l (c .before .before .before .before .before .before .before .staged-in .ensures) _ (c .before .before .before .before .before .before .before .before .before .phase-in .ensures) in
-    ends-of (λ (x : Session). commit (stateOf x (a .device .now) (a .work .now))) (a .numbers .now) h (c .before .before .before .before .before .before .before .before .before .before .head-in .ensures) committedOf (a .staged .now) (inPhase s (begunPhase (c .before .before .before .before .before .before .before .before .before .phase-in .result) (c .before .before .before .before .before .commit-in .result))) (a .device .now) (a .work .now) _
-    (c .before .before .before .before .before .commit-in .ensures s (n .head) (ap length (sym (n .numbers)))) _ (c .committed .ensures) _ _
-    (c .before .keep .ensures ∙ ap numbersOf (c .before .before .head-of .ensures ∙ ap (λ (p : Phase). headOf (h .blocks) p (h .count)) (c .before .before .before .begun-phase .ensures))) refl
+returns c =
+    let a = c .before .before .before .before .before .before .before .before .before .before .before .args in
+    let l : length (a .staged .now) ≡ 32 = search (needs, c .before .before .before .before .before .cells .given, c .before .before .before .before .before .before .before .before .before .before .before .good) in
+    let h = c .before .before .before .before .before .before .before .head-in in
+    let p = c .before .before .before .before .before .before .phase-in in
+    let s = decode (h .result) (a .staged .now) in
+    let n = seen (h .result) (a .staged .now) _ l (c .before .before .before .before .staged-in .ensures) _ (p .ensures) in
+    ends-of commit commit-still (a .numbers .now) (a .staged .now) (a .device .now) (a .work .now) (h .result) (h .ensures) committedOf
+    (inPhase s (begunPhase (p .result) (c .before .before .commit-in .result))) (a .device .now) (a .work .now) _ (c .before .before .commit-in .ensures s (n .head) (ap length (sym (n .numbers)))) _ (c .begun .ensures .0) _ _
+    (c .begun .ensures .1) refl
 
 pub purse-commit-v-spec : {M : Type 1} → statement M
 purse-commit-v-spec =
@@ -63,8 +59,5 @@ purse-commit-v-spec =
     part-used-start
     part-used-end
     commit-in-requires
-    begun-phase-requires
-    head-of-requires
-    keep-requires
-    committed-requires
+    begun-requires
     returns)

@@ -1,7 +1,7 @@
-use Rattle.spec.specs.declared.Session.{Session}
-use Rattle.spec.specs.Transaction.{stateOf}
+use Rattle.spec.specs.Transaction.{State}
 use Rattle.spec.specs.Calls.{rename}
-use Rattle.capi.proofs.Laws.{ends-in}
+use Rattle.capi.proofs.Kept.{rename-still}
+use Rattle.capi.proofs.Ends.{ends-in}
 use borrow.Author.Needs.{needs}
 use Rattle.capi.proofs.purse_rename_v.Statement.{statement}
 use Rattle.capi.proofs.purse_rename_v.Tie as tie
@@ -22,7 +22,10 @@ same-length : tie.Need-same-length
 same-length c = search needs
 
 returns : tie.Need-returns
-returns c = let a = c .before .before .before .before .before .before .before .before .before .before .before .before .before .before .args in ends-in (λ (s : Session). (rename (stateOf s (a .device .now) (a .work .now)) (a .name .now) (a .new .now))) (a .numbers .now) (c .before .before .before .before .before .before .before .before .head-in .result) (c .before .before .before .before .before .before .before .before .head-in .ensures) _ (a .staged .now) _ _ _ _ _ (c .before .before .before .before .before .before .before .phase-in .ensures) (c .before .before .before .before .rename-in .ensures) _ _ (c .changed .ensures)
+returns c =
+    let a = c .before .before .before .before .before .before .before .before .before .before .before .before .before .before .args in
+    let h = c .before .before .before .before .before .before .before .before .head-in in
+    ends-in (λ (s : State). rename s (a .name .now) (a .new .now)) (λ (s : State). rename-still s (a .name .now) (a .new .now)) (a .numbers .now) (a .staged .now) (a .device .now) (a .work .now) (h .result) (h .ensures) _ _ _ _ _ _ (c .before .before .before .before .before .before .before .phase-in .ensures) (c .before .before .before .before .rename-in .ensures) _ _ (c .changed .ensures)
 
 pub purse-rename-v-spec : {M : Type 1} → statement M
 purse-rename-v-spec =

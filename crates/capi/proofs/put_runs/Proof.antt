@@ -7,17 +7,18 @@ use Rattle.spec.specs.Bytes.{exactly}
 use Rattle.spec.specs.Inode.{blockOfInode}
 use Rattle.transaction.specs.Places.{viewIn}
 use Rattle.inode.specs.Walk.{weight}
-use Rattle.extents.proofs.Laws.{begin-in, on-slot-piece, on-slot-passed, on-slot-unused, on-node-next, on-node-none, no-room, goes-further, grow-first, grow-join, grow-apart}
-use Rattle.capi.proofs.Laws.{Filling, fill-start, fill-low, fill-grown, fill-on, fill-more, fill-last}
+use Rattle.extents.specs.Stretches.{restRuns, growingFrom}
+use Rattle.extents.proofs.Laws.{BegunIn, begin-in, on-slot-piece, on-slot-passed, on-slot-unused, on-node-next, on-node-none, no-room, goes-further, grow-first, grow-join, grow-apart}
+use Rattle.capi.proofs.Laws.{Filling, fill-start, fill-low, fill-grown, fill-on, fill-more, fill-last, listed-as}
 use Rattle.capi.proofs.put_runs.Statement.{statement}
 use Rattle.capi.proofs.put_runs.Tie as tie
 
 abbrev Inv-loop : tie.InvT-loop
-Inv-loop device work staged i from n list₀ table scan₀ block₀ run₀ k₀ list scan block run k = Filling (viewIn staged device work) i from n (blockOfInode i) list₀ list (record { run = run; scan = scan }) k
+Inv-loop device work staged i n list₀ table scan₀ block₀ run₀ k₀ list scan block run k = Filling (viewIn staged device work) (restRuns (viewIn staged device work) (blockOfInode i) (record { run = run₀; scan = scan₀ })) (blockOfInode i) list₀ list (record { run = run; scan = scan }) k
     × (exactly 512 block ≡ viewIn staged device work (scan .at .block)) × (length block ≤ 512)
 
 abbrev μ-loop : tie.MeasureT-loop
-μ-loop device work staged i from n list₀ table scan₀ block₀ run₀ k₀ list scan block run k = weight (scan .at)
+μ-loop device work staged i n list₀ table scan₀ block₀ run₀ k₀ list scan block run k = weight (scan .at)
 
 inode-block-in-requires : tie.Need-inode-block-in-requires Inv-loop μ-loop
 inode-block-in-requires c κs = search needs
@@ -25,14 +26,16 @@ inode-block-in-requires c κs = search needs
 stretch-at-requires : tie.Need-stretch-at-requires Inv-loop μ-loop
 stretch-at-requires c κs = search needs
 
+-- all runs of the stretch are left where the loop begins
+begun : (c : tie.After-stretch-at Inv-loop μ-loop) → BegunIn (viewIn (c .before .before .before .before .before .before .args .staged .now) (c .before .before .before .before .before .before .args .device .now) (c .before .before .before .before .before .before .args .work .now)) (c .before .before .before .before .before .before .args .i) (c .before .before .before .before .before .before .args .from .0) (c .before .before .before .before .before .before .args .n) (blockOfInode (c .before .before .before .before .before .before .args .i)) (growingFrom (c .stretch-at .result))
+begun c = begin-in _ _ _ _ _ _ _ refl (c .stretch-at .ensures _ (c .before .inode-block-in .ensures .0)) refl
+
 loop-holds : tie.Need-loop-holds Inv-loop μ-loop
 loop-holds c =
     let a = c .before .before .before .before .before .before .args in
     let t = c .before .inode-block-in .ensures in
     let v = viewIn (a .staged .now) (a .device .now) (a .work .now) in
-    let tb = blockOfInode (a .i) in
-    let s = c .stretch-at .ensures v (t .0) in
-    (fill-start v (a .i) (a .from) (a .n) tb (a .list .now) _ (begin-in v (a .i) (a .from) (a .n) tb (c .stretch-at .result) _ refl s refl), t .0 ∙ ap v (sym (s .block)), t .1)
+    (fill-start v (a .i) (a .from .0) (a .n) (blockOfInode (a .i)) (a .list .now) _ (begun c), t .0 ∙ ap v (sym (c .stretch-at .ensures v (t .0) .block)), t .1)
 
 take-slot-requires : tie.Need-take-slot-requires Inv-loop μ-loop
 take-slot-requires c κs = (c .before .before .loop .inv .2, c .if1 .taken)
@@ -53,7 +56,7 @@ put-run-requires : tie.Need-put-run-requires Inv-loop μ-loop
 put-run-requires c κs = search needs
 
 add-k : tie.Need-add-k Inv-loop μ-loop
-add-k c = omega (arith, fill-low _ _ _ _ _ _ _ _ _ (c .before .before .before .before .before .before .before .before .before .before .before .before .before .before .before .loop .inv .0))
+add-k c = omega (arith, fill-low _ _ _ _ _ _ _ (c .before .before .before .before .before .before .before .before .before .before .before .before .before .before .before .loop .inv .0))
 
 loop-less : tie.Need-loop-less Inv-loop μ-loop
 loop-less c = let a = c .before .before .before .before .before .before .before .before .before .before .before .before .before .before .before .args in let v = viewIn (a .staged .now) (a .device .now) (a .work .now) in let tb = blockOfInode (a .i) in
@@ -65,7 +68,7 @@ loop-again : tie.Need-loop-again Inv-loop μ-loop
 loop-again c = let a = c .before .before .before .before .before .before .before .before .before .before .before .before .before .before .before .args in let v = viewIn (a .staged .now) (a .device .now) (a .work .now) in let tb = blockOfInode (a .i) in
     let i = c .before .before .before .before .before .before .before .before .loop .inv in
     let t = on-slot-piece v tb _ _ _ _ (c .before .before .before .before .before .take-slot .ensures v tb (i .1)) (c .before .before .before .e .given .1) in
-    (fill-grown v (a .i) (a .from) (a .n) tb (a .list .now) _ _ _ (i .0) _ (grow-first v tb _ _ (record { runs = refl; fits = i .0 .fits }) _ _ (t .piece) (c .if2 .taken)), i .1 ∙ ap v (sym (t .block)), i .2)
+    (fill-grown v _ tb (a .list .now) _ _ _ (i .0) _ (grow-first v tb _ _ (record { runs = refl; fits = i .0 .fits }) _ _ (t .piece) (c .if2 .taken)), i .1 ∙ ap v (sym (t .block)), i .2)
 
 loop-less-2 : tie.Need-loop-less-2 Inv-loop μ-loop
 loop-less-2 c = let a = c .before .before .before .before .before .before .before .before .before .before .before .before .before .before .before .before .before .before .before .before .args in let v = viewIn (a .staged .now) (a .device .now) (a .work .now) in let tb = blockOfInode (a .i) in
@@ -77,7 +80,7 @@ loop-again-2 : tie.Need-loop-again-2 Inv-loop μ-loop
 loop-again-2 c = let a = c .before .before .before .before .before .before .before .before .before .before .before .before .before .before .before .before .before .before .before .before .args in let v = viewIn (a .staged .now) (a .device .now) (a .work .now) in let tb = blockOfInode (a .i) in
     let i = c .before .before .before .before .before .before .before .before .before .before .before .before .before .loop .inv in
     let t = on-slot-piece v tb _ _ _ _ (c .before .before .before .before .before .before .before .before .before .before .take-slot .ensures v tb (i .1)) (c .before .before .before .before .before .before .before .before .e .given .1) in
-    (fill-grown v (a .i) (a .from) (a .n) tb (a .list .now) _ _ _ (i .0) _ (grow-join v tb _ _ (record { runs = refl; fits = i .0 .fits }) _ _ (t .piece) (c .before .before .if3 .taken)), i .1 ∙ ap v (sym (t .block)), i .2)
+    (fill-grown v _ tb (a .list .now) _ _ _ (i .0) _ (grow-join v tb _ _ (record { runs = refl; fits = i .0 .fits }) _ _ (t .piece) (c .before .before .if3 .taken)), i .1 ∙ ap v (sym (t .block)), i .2)
 
 loop-less-3 : tie.Need-loop-less-3 Inv-loop μ-loop
 loop-less-3 c = let a = c .before .before .before .before .before .before .before .before .before .before .before .before .before .before .before .before .before .before .before .before .before .before .args in let v = viewIn (a .staged .now) (a .device .now) (a .work .now) in let tb = blockOfInode (a .i) in
@@ -89,7 +92,7 @@ loop-again-3 : tie.Need-loop-again-3 Inv-loop μ-loop
 loop-again-3 c = let a = c .before .before .before .before .before .before .before .before .before .before .before .before .before .before .before .before .before .before .before .before .before .before .args in let v = viewIn (a .staged .now) (a .device .now) (a .work .now) in let tb = blockOfInode (a .i) in
     let i = c .before .before .before .before .before .before .before .before .before .before .before .before .before .before .before .loop .inv in
     let t = on-slot-piece v tb _ _ _ _ (c .before .before .before .before .before .before .before .before .before .before .before .before .take-slot .ensures v tb (i .1)) (c .before .before .before .before .before .before .before .before .before .before .e .given .1) in
-    (fill-more v (a .i) (a .from) (a .n) tb (a .list .now) _ _ _ (i .0) _ _ (grow-apart v tb _ _ (record { runs = refl; fits = i .0 .fits }) _ _ (t .piece) (c .before .before .before .before .before .before .before .if2 .left) (c .before .before .before .before .if3 .left)) _ (c .before .before .put-run .ensures), i .1 ∙ ap v (sym (t .block)), i .2)
+    (fill-more v _ tb (a .list .now) _ _ _ (i .0) _ _ (grow-apart v tb _ _ (record { runs = refl; fits = i .0 .fits }) _ _ (t .piece) (c .before .before .before .before .before .before .before .if2 .left) (c .before .before .before .before .if3 .left)) _ (c .before .before .put-run .ensures), i .1 ∙ ap v (sym (t .block)), i .2)
 
 enum-known-then : tie.Need-enum-known-then Inv-loop μ-loop
 enum-known-then c = search needs
@@ -109,7 +112,7 @@ loop-again-4 c = let a = c .before .before .before .before .before .before .befo
     let i = c .before .before .before .before .before .before .before .loop .inv in
     let g = on-slot-passed v tb _ _ _ (c .before .before .before .before .take-slot .ensures v tb (i .1)) (c .before .before .then .given .1) in
     let f = goes-further v tb _ _ _ g (c .pass-slots .ensures v tb (i .1 ∙ ap v (sym (g .1)))) in
-    (fill-on v (a .i) (a .from) (a .n) tb (a .list .now) _ _ _ (i .0) (c .before .before .before .before .before .before .before .loop .run) (c .before .before .before .before .before .before .before .loop .scan) _ refl (f .0), i .1 ∙ ap v (sym (f .1)), i .2)
+    (fill-on v _ tb (a .list .now) _ _ _ (i .0) (c .before .before .before .before .before .before .before .loop .run) (c .before .before .before .before .before .before .before .loop .scan) _ refl (f .0), i .1 ∙ ap v (sym (f .1)), i .2)
 
 enum-told : tie.Need-enum-told Inv-loop μ-loop
 enum-told c = search needs
@@ -134,13 +137,13 @@ loop-again-5 c = let a = c .before .before .before .before .before .before .befo
     let i = c .before .before .before .before .before .before .before .before .before .before .loop .inv in
     let n = on-slot-unused v tb _ _ (c .before .before .before .before .before .before .before .take-slot .ensures v tb (i .1)) (c .before .before .before .before .before .enum-told .given .1) in
     let g = on-node-next v tb _ _ _ _ (c .before .before .before .before .take-node .ensures v tb (c .before .before .before .before .before .before .before .before .before .before .before .before .inode-block-in .ensures .0) n) (c .before .before .b .given .1) in
-    (fill-on v (a .i) (a .from) (a .n) tb (a .list .now) _ _ _ (i .0) (c .before .before .before .before .before .before .before .before .before .before .loop .run) (c .before .before .before .before .before .before .before .before .before .before .loop .scan) _ refl (g .0), c .view-in .ensures .0 ∙ ap v (sym (g .1)), c .view-in .ensures .1)
+    (fill-on v _ tb (a .list .now) _ _ _ (i .0) (c .before .before .before .before .before .before .before .before .before .before .loop .run) (c .before .before .before .before .before .before .before .before .before .before .loop .scan) _ refl (g .0), c .view-in .ensures .0 ∙ ap v (sym (g .1)), c .view-in .ensures .1)
 
 enum-told-2 : tie.Need-enum-told-2 Inv-loop μ-loop
 enum-told-2 c = search needs
 
 put-last-requires : tie.Need-put-last-requires Inv-loop μ-loop
-put-last-requires c κs = fill-low _ _ _ _ _ _ _ _ _ (c .before .before .before .before .before .before .before .before .before .loop .inv .0)
+put-last-requires c κs = fill-low _ _ _ _ _ _ _ (c .before .before .before .before .before .before .before .before .before .loop .inv .0)
 
 same-length : tie.Need-same-length Inv-loop μ-loop
 same-length c = search needs
@@ -149,17 +152,19 @@ returns : tie.Need-returns Inv-loop μ-loop
 returns c = let a = c .before .before .before .before .before .before .before .before .before .before .before .before .before .before .before .before .before .before .before .args in let v = viewIn (a .staged .now) (a .device .now) (a .work .now) in let tb = blockOfInode (a .i) in
     let i = c .before .before .before .before .before .before .before .before .before .before .before .before .loop .inv in
     let n = on-slot-unused v tb _ _ (c .before .before .before .before .before .before .before .before .before .take-slot .ensures v tb (i .1)) (c .before .before .before .before .before .before .before .enum-told .given .1) in
-    fill-last v (a .i) (a .from) (a .n) tb (a .list .now) _ _ _ _ _ _ (i .0) (on-node-none v tb _ _ (c .before .before .before .before .before .before .take-node .ensures v tb (c .before .before .before .before .before .before .before .before .before .before .before .before .before .before .inode-block-in .ensures .0) n) (c .before .before .before .before .enum-told2 .given .1)) (c .before .before .put-last .ensures)
+    listed-as _ _ _ _ _ (begun (c .before .before .before .before .before .before .before .before .before .before .before .before .before) .runs)
+    (fill-last v _ tb (a .list .now) _ _ _ _ _ _ (i .0) (on-node-none v tb _ _ (c .before .before .before .before .before .before .take-node .ensures v tb (c .before .before .before .before .before .before .before .before .before .before .before .before .before .before .inode-block-in .ensures .0) n) (c .before .before .before .before .enum-told2 .given .1)) (c .before .before .put-last .ensures))
 
 put-last-requires-2 : tie.Need-put-last-requires-2 Inv-loop μ-loop
-put-last-requires-2 c κs = fill-low _ _ _ _ _ _ _ _ _ (c .before .before .before .loop .inv .0)
+put-last-requires-2 c κs = fill-low _ _ _ _ _ _ _ (c .before .before .before .loop .inv .0)
 
 same-length-2 : tie.Need-same-length-2 Inv-loop μ-loop
 same-length-2 c = search needs
 
 returns-2 : tie.Need-returns-2 Inv-loop μ-loop
 returns-2 c = let a = c .before .before .before .before .before .before .before .before .before .before .before .before .before .args in let v = viewIn (a .staged .now) (a .device .now) (a .work .now) in let tb = blockOfInode (a .i) in
-    fill-last v (a .i) (a .from) (a .n) tb (a .list .now) _ _ _ _ _ _ (c .before .before .before .before .before .before .loop .inv .0) (no-room v tb _ (omega arith)) (c .before .before .put-last2 .ensures)
+    listed-as _ _ _ _ _ (begun (c .before .before .before .before .before .before .before) .runs)
+    (fill-last v _ tb (a .list .now) _ _ _ _ _ _ (c .before .before .before .before .before .before .loop .inv .0) (no-room v tb _ (omega arith)) (c .before .before .put-last2 .ensures))
 
 pub put-runs-spec : {M : Type 1} → statement M
 put-runs-spec =

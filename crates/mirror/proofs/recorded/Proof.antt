@@ -18,8 +18,8 @@ no-file-requires c κs = search needs
 enum-told : tie.Need-enum-told
 enum-told c = search needs
 
-cast-t9 : tie.Need-cast-t9
-cast-t9 c = search needs
+cast-t8 : tie.Need-cast-t8
+cast-t8 c = search needs
 
 enum-told-2 : tie.Need-enum-told-2
 enum-told-2 c = search needs
@@ -28,13 +28,19 @@ no-file-requires-2 : tie.Need-no-file-requires-2
 no-file-requires-2 c κs = search needs
 
 returns : tie.Need-returns
-returns c = recorded-refused (c .before .before .before .before .answer .given .0 .0) _ (c .before .before .refusal-number .ensures) _ _ _ (ap (λ (x : Recorded). fileOf x (c .before .before .before .before .before .before .before .args .f .name) (c .before .before .before .before .before .before .before .args .f .size)) (c .before .before .before .before .answer .given .1)) (c .no-file .ensures)
+returns c =
+    let f = c .before .before .before .before .before .before .args .f in
+    recorded-refused (c .before .before .before .answer .given .0 .0) _ (c .before .refusal-number .ensures) _ _ _ (ap (λ (x : Recorded). fileOf x (f .name) (f .size)) (c .before .before .before .answer .given .1)) (c .no-file .ensures)
 
 returns-2 : tie.Need-returns-2
-returns-2 c = recorded-file _ _ _ (ap (λ (x : Recorded). fileOf x (c .before .before .before .before .args .f .name) (c .before .before .before .before .args .f .size)) (c .before .enum-told .given .1))
+returns-2 c =
+    let f = c .before .before .before .before .args .f in
+    recorded-file _ _ _ _ (ap (λ (x : Recorded). fileOf x (f .name) (f .size)) (c .before .enum-told .given .1))
 
 returns-3 : tie.Need-returns-3
-returns-3 c = recorded-none _ _ _ (ap (λ (x : Recorded). fileOf x (c .before .before .before .before .before .args .f .name) (c .before .before .before .before .before .args .f .size)) (c .before .before .enum-told2 .given .1)) (c .no-file2 .ensures)
+returns-3 c =
+    let f = c .before .before .before .before .before .args .f in
+    recorded-none _ _ _ (ap (λ (x : Recorded). fileOf x (f .name) (f .size)) (c .before .before .enum-told2 .given .1)) (c .no-file2 .ensures)
 
 pub recorded-spec : {M : Type 1} → statement M
 recorded-spec =
@@ -44,7 +50,7 @@ recorded-spec =
     refusal-number-requires
     no-file-requires
     enum-told
-    cast-t9
+    cast-t8
     enum-told-2
     no-file-requires-2
     returns

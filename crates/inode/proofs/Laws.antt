@@ -12,7 +12,8 @@ use borrow.Author.Tests.{eqb-true, eq-eqb, ne-eqb, lt-ltb, leb-true}
 use lib.ListN.{length, take, drop, getD, replicate, length-take, length-drop}
 use lib.Seq.{ext-getD, getD-take, getD-drop, take-take, take-nil, drop-drop}
 use Rattle.spec.specs.Bytes.{exactly, part, number2, number4, same, allZero, found, place, lowest}
-use Rattle.spec.specs.Disk.{Disk, blocksOf}
+use Rattle.spec.specs.Disk.{Disk, areaOf, blocksOf}
+use Rattle.spec.specs.declared.Area.{Area}
 use Rattle.spec.specs.declared.Session.{Session}
 use Rattle.spec.specs.Session.{stagedIn}
 use Rattle.spec.specs.Transaction.{view, stateOf}
@@ -24,7 +25,8 @@ use Rattle.transaction.specs.Places.{viewIn}
 use Rattle.transaction.proofs.Laws.{view-new}
 use Rattle.block.specs.Keys.{keyOf, Name}
 use Rattle.block.proofs.Keys.{eight, same-key}
-use Rattle.inode.specs.Records.{bytesIn, recordIn, named, foundOf, lowestTo, TableUnstaged}
+use Rattle.block.proofs.Steps.{area-inodes}
+use Rattle.inode.specs.Records.{bytesIn, recordIn, named, foundOf, lowestTo, isTableArea, TableUnstaged}
 use Rattle.inode.specs.declared.Found.{Found}
 use Rattle.inode.specs.declared.Found.the-variants.{At, Nothing}
 
@@ -360,5 +362,9 @@ table-lent [] device work i at end t h e f =
     )
 
 -- a number that is none of the table's
-pub other-block : (x b : ℕ) → (ltb 33 x && ltb x 42) ≡ false → 34 ≤ b → b < 42 → x ≡ b → ⊥
-other-block x b h p l e = true≢false (sym (rw (lt-ltb 33 x (omega arith), lt-ltb x 42 (omega arith))) ∙ h)
+pub other-block : (x b : ℕ) (r : Bool) → r ≡ isTableArea (areaOf x) → r ≡ false → 34 ≤ b → b < 42 → x ≡ b → ⊥
+other-block x b r q h p l e = true≢false (ap isTableArea (area-inodes x (omega arith) (omega arith)) ∙ sym q ∙ h)
+
+-- the test of a block by its area
+pub table-by : (b : ℕ) (x a : Area) → x ≡ areaOf b → x ≡ a → isTableArea a ≡ isTableArea (areaOf b)
+table-by b x a e q = ap isTableArea (sym q ∙ e)

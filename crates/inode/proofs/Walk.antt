@@ -9,6 +9,7 @@ use lib.Seq.{getD-take, getD-drop, drop-drop, take-all}
 use lib.Dec.{eqb, ltb}
 use borrow.Author.Tests.{eqb-true, eqb-false, ltb-true, eq-eqb, ne-eqb, lt-ltb, not-true}
 use Rattle.lists.specs.Tests.{both-true}
+use Rattle.spec.specs.declared.DiskBlock.{DiskBlock}
 use Rattle.spec.specs.declared.Extent.{Extent}
 use Rattle.spec.specs.Bytes.{exactly}
 use Rattle.spec.specs.Disk.{Disk}
@@ -166,7 +167,7 @@ module _ (v : Disk) (tb : ℕ) (c : Cursor) where
   pub on-leaf : (r : Step) (e : Extent) (d : Cursor) → Steps v tb c r → r ≡ Leaf e d → Onward v tb c e d
   on-leaf r e d s q = rw q at s
 
-  pub on-node : (r : Step) (b : ℕ) (d : Cursor) → Steps v tb c r → r ≡ Node b d → Inward v tb c b d
+  pub on-node : (r : Step) (b : DiskBlock) (d : Cursor) → Steps v tb c r → r ≡ Node b d → Inward v tb c (b .0) d
   on-node r b d s q = rw q at s
 
   pub on-end : (r : Step) → Steps v tb c r → r ≡ End → Ended v tb c

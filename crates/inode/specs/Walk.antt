@@ -64,7 +64,7 @@ pub record Ended (v : Disk) (tb : ℕ) (c : Cursor) : Type 0 where
 
 abbrev pub Steps : Disk → ℕ → Cursor → Step → Type 0
 Steps v tb c (Leaf e d) = Onward v tb c e d
-Steps v tb c (Node b d) = Inward v tb c b d
+Steps v tb c (Node b d) = Inward v tb c (b .0) d
 Steps v tb c End = Ended v tb c
 
 -- the cursor before the first extent of record i

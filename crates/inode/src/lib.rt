@@ -1,9 +1,11 @@
 // File records and the walk over a file's tree of extents, in the working copy.
+use block::area_of;
 use block::key_of;
 use block::load;
 use block::load4;
 use block::low;
 use block::place_in_block;
+use spec::Area;
 use spec::DiskBlock;
 use spec::Extent;
 use spec::Limits;
@@ -17,12 +19,12 @@ ghost use mathlib.Core.List.{List};
 ghost use Prim.Native.Nat.{ℕ, _+_, _*_, _%_, _<_, _≤_};
 ghost use lib.ListN.{length, take, getD};
 ghost use Rattle.spec.specs.Bytes.{exactly, allZero};
-ghost use Rattle.spec.specs.Disk.{Disk, blocksOf};
+ghost use Rattle.spec.specs.Disk.{Disk, areaOf, blocksOf};
 ghost use Rattle.spec.specs.Inode.{inodeOf, blockOfInode, find, findEmpty};
 ghost use Rattle.spec.specs.Transaction.{view, stateOf};
 ghost use Rattle.transaction.specs.Places.{viewIn};
 ghost use Rattle.block.specs.Keys.{keyOf, Name};
-ghost use Rattle.inode.specs.Records.{recordIn, named, foundOf, lowestTo, TableUnstaged};
+ghost use Rattle.inode.specs.Records.{recordIn, named, foundOf, lowestTo, isTableArea, TableUnstaged};
 ghost use Rattle.inode.specs.Walk.{slotIn, Slot, live, Steps, startOf};
 
 // The bytes of the device that hold the table: blocks 34 to 41.
@@ -37,11 +39,11 @@ pub enum Found {
 }
 
 // The block of the table that holds record i.
-pub fn table_block(i: usize) -> u32
+pub fn table_block(i: usize) -> DiskBlock
     requires { ⌜ i < 128 ⌝ }
-    ensures { λ r. ⌜ r ≡ blockOfInode i ⌝ }
+    ensures { λ r. ⌜ r .0 ≡ blockOfInode i ⌝ }
 {
-    Limits::INODE_START + (i / Limits::INODES_PER_BLOCK) as u32
+    DiskBlock(Limits::INODE_START + (i / Limits::INODES_PER_BLOCK) as u32)
 }
 
 // The working copy of the table's block that holds record i.
@@ -49,7 +51,7 @@ pub fn inode_block<'a>(device: &'a [u8], work: &'a [u8], s: Session, i: usize) -
     requires { ⌜ i < 128 ⌝ }
     ensures { λ r. ⌜ exactly 512 (now r) ≡ view (stateOf s (now (device .entry)) (now (work .entry))) (blockOfInode i) ⌝ }
 {
-    view_block(device, work, s, DiskBlock(table_block(i)))
+    view_block(device, work, s, table_block(i))
 }
 
 // The same where these blocks are staged; no longer than a block. Where none is, it lies at its place on the device.
@@ -62,7 +64,7 @@ pub fn inode_block_in<'a>(device: &'a [u8], work: &'a [u8], staged: &[u32], i: u
         let end = at + Limits::BLOCK_SIZE;
         return &device[at..end];
     }
-    view_in(device, work, staged, DiskBlock(table_block(i)))
+    view_in(device, work, staged, table_block(i))
 }
 
 // The size of record i, of a block of the table.
@@ -220,13 +222,27 @@ fn find_committed(device: &[u8], key: u64) -> Found
     Found::Nothing
 }
 
+// Whether a block is one of the table.
+fn is_table(b: DiskBlock) -> bool
+    ensures { λ r. ⌜ r ≡ isTableArea (areaOf (b .0)) ⌝ }
+{
+    match area_of(b) {
+        Area::Header => false,
+        Area::Log => false,
+        Area::Bitmap => false,
+        Area::Inodes => true,
+        Area::Data => false,
+    }
+}
+
 // Whether no block of the table is among these.
 fn is_table_committed(staged: &[u32]) -> bool
     ensures { λ r. ⌜ (r ≡ true → TableUnstaged (now (staged .entry))) ⌝ }
 {
     let mut i: usize = 0;
     while i < staged.len() {
-        if (33 < staged[i]) & (staged[i] < 42) {
+        let n = staged[i];
+        if is_table(DiskBlock(n)) {
             return false;
         }
         i += 1;
@@ -272,7 +288,7 @@ pub struct Cursor {
 // What a step of the walk finds.
 pub enum Step {
     Leaf(Extent, Cursor),
-    Node(u32, Cursor),
+    Node(DiskBlock, Cursor),
     End,
 }
 
@@ -295,7 +311,7 @@ pub fn slot_in(block: &[u8], at: usize) -> Extent
     if block.len() <= at {
         return Extent { first: 0, count: 0 };
     }
-    let end = at + 4;
+    let end = at + Limits::SLOT_SIZE;
     if end <= block.len() {
         return slot_of(&block[at..end]);
     }
@@ -309,12 +325,12 @@ pub fn slot_in(block: &[u8], at: usize) -> Extent
 }
 
 // The slot at a byte of block b.
-fn slot_at<'a>(device: &'a [u8], work: &'a [u8], s: Session, b: u32, at: usize) -> Extent
-    ensures { λ r. ⌜ Slot (view (stateOf s (now (device .entry)) (now (work .entry))) b) at r ⌝ }
+fn slot_at<'a>(device: &'a [u8], work: &'a [u8], s: Session, b: DiskBlock, at: usize) -> Extent
+    ensures { λ r. ⌜ Slot (view (stateOf s (now (device .entry)) (now (work .entry))) (b .0)) at r ⌝ }
 {
     let l = s.staged;
     let n = staged_count(s);
-    slot_in(view_in(device, work, &l[0..n], DiskBlock(b)), at)
+    slot_in(view_in(device, work, &l[0..n], b), at)
 }
 
 // Whether slots are left and the first of them is used.
@@ -325,18 +341,18 @@ pub fn is_live(n: usize, e: Extent) -> bool
 }
 
 // The next extent or node of a tree whose record stands in block tb.
-pub fn next<'a>(device: &'a [u8], work: &'a [u8], s: Session, tb: u32, cur: Cursor) -> Step
-    ensures { λ r. ⌜ Steps (view (stateOf s (now (device .entry)) (now (work .entry)))) tb cur r ⌝ }
+pub fn next<'a>(device: &'a [u8], work: &'a [u8], s: Session, tb: DiskBlock, cur: Cursor) -> Step
+    ensures { λ r. ⌜ Steps (view (stateOf s (now (device .entry)) (now (work .entry)))) (tb .0) cur r ⌝ }
 {
     let at = cur.at;
     let left = cur.left;
-    let e = slot_at(device, work, s, cur.block, at);
+    let e = slot_at(device, work, s, DiskBlock(cur.block), at);
     if is_live(left, e) {
         return Step::Leaf(
             e,
             Cursor {
                 block: cur.block,
-                at: at + 4,
+                at: at + Limits::SLOT_SIZE,
                 left: left - 1,
                 top: cur.top,
                 tops: cur.tops,
@@ -348,12 +364,12 @@ pub fn next<'a>(device: &'a [u8], work: &'a [u8], s: Session, tb: u32, cur: Curs
     let t = slot_at(device, work, s, tb, top);
     if is_live(tops, t) {
         return Step::Node(
-            t.first,
+            DiskBlock(t.first),
             Cursor {
                 block: t.first,
                 at: 0,
                 left: Limits::SLOTS_PER_NODE,
-                top: top + 4,
+                top: top + Limits::SLOT_SIZE,
                 tops: tops - 1,
             },
         );
@@ -379,19 +395,19 @@ pub fn start_at(table: &[u8], i: usize) -> Cursor
     let depth = depth_of(table, i);
     if depth == 0 {
         Cursor {
-            block: tb,
+            block: tb.0,
             at: slots,
-            left: 4,
+            left: Limits::SLOTS_PER_INODE,
             top: 0,
             tops: 0,
         }
     } else {
         Cursor {
-            block: tb,
+            block: tb.0,
             at: 0,
             left: 0,
             top: slots,
-            tops: 4,
+            tops: Limits::SLOTS_PER_INODE,
         }
     }
 }

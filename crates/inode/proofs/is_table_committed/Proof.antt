@@ -17,19 +17,16 @@ abbrev μ-loop : tie.MeasureT-loop
 μ-loop staged i₀ i = length staged - i
 
 loop-holds : tie.Need-loop-holds Inv-loop μ-loop
-loop-holds c = λ b p l. place-start (c .args .staged .now) b
+loop-holds c = λ b p l. place-start (c .before .args .staged .now) b
 
-mul-if1 : tie.Need-mul-if1 Inv-loop μ-loop
-mul-if1 c = search needs
+mul-n : tie.Need-mul-n Inv-loop μ-loop
+mul-n c = search needs
 
-shared-slice-read-if1 : tie.Need-shared-slice-read-if1 Inv-loop μ-loop
-shared-slice-read-if1 c = search needs
+shared-slice-read-n : tie.Need-shared-slice-read-n Inv-loop μ-loop
+shared-slice-read-n c = search needs
 
-mul-if1-2 : tie.Need-mul-if1-2 Inv-loop μ-loop
-mul-if1-2 c = search needs
-
-shared-slice-read-if1-2 : tie.Need-shared-slice-read-if1-2 Inv-loop μ-loop
-shared-slice-read-if1-2 c = search needs
+is-table-requires : tie.Need-is-table-requires Inv-loop μ-loop
+is-table-requires c κs = search needs
 
 returns : tie.Need-returns Inv-loop μ-loop
 returns c = λ h. absurd (true≢false (sym h))
@@ -41,10 +38,10 @@ loop-less : tie.Need-loop-less Inv-loop μ-loop
 loop-less c = search needs
 
 loop-again : tie.Need-loop-again Inv-loop μ-loop
-loop-again c = λ b p l. c .before .before .before .before .loop .inv b p l ∙ place-miss (c .before .before .before .before .before .args .staged .now) (c .before .before .before .before .loop .i) b (c .before .before .before .loop-test .taken) (λ e. other-block _ b (c .if1 .left) p l e)
+loop-again c = λ b p l. c .before .before .before .before .loop .inv b p l ∙ place-miss (c .before .before .before .before .before .before .args .staged .now) (c .before .before .before .before .loop .i) b (c .before .before .before .loop-test .taken) (λ e. other-block _ b _ (c .before .is-table .ensures) (c .if1 .left) p l e)
 
 returns-2 : tie.Need-returns-2 Inv-loop μ-loop
-returns-2 c = λ h b p l. c .before .loop .inv b p l ∙ place-end (c .before .before .args .staged .now) (c .before .loop .i) b (c .loop-test .left)
+returns-2 c = λ h b p l. c .before .loop .inv b p l ∙ place-end (c .before .before .before .args .staged .now) (c .before .loop .i) b (c .loop-test .left)
 
 pub is-table-committed-spec : {M : Type 1} → statement M
-is-table-committed-spec = tie.close (tie.spec Inv-loop μ-loop loop-holds mul-if1 shared-slice-read-if1 mul-if1-2 shared-slice-read-if1-2 returns add-i loop-less loop-again returns-2)
+is-table-committed-spec = tie.close (tie.spec Inv-loop μ-loop loop-holds mul-n shared-slice-read-n is-table-requires returns add-i loop-less loop-again returns-2)

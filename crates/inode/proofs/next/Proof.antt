@@ -10,11 +10,11 @@ slot-at-requires c κs = search needs
 is-live-requires : tie.Need-is-live-requires
 is-live-requires c κs = search needs
 
-add-t13 : tie.Need-add-t13
-add-t13 c = omega (arith, live-inside _ _ _ _ _ (c .before .before .slot-at .ensures) (c .before .is-live .ensures) (c .if1 .taken))
+add-t14 : tie.Need-add-t14
+add-t14 c = omega (arith, live-inside _ _ _ _ _ (c .before .before .slot-at .ensures) (c .before .is-live .ensures) (c .if1 .taken))
 
-sub-t14 : tie.Need-sub-t14
-sub-t14 c = live-left _ _ _ (c .before .is-live .ensures) (c .if1 .taken)
+sub-t15 : tie.Need-sub-t15
+sub-t15 c = live-left _ _ _ (c .before .is-live .ensures) (c .if1 .taken)
 
 returns : tie.Need-returns
 returns c = step-leaf _ _ _ _ _ (c .before .before .slot-at .ensures) (c .before .is-live .ensures) (c .if1 .taken)
@@ -25,11 +25,11 @@ slot-at-requires-2 c κs = search needs
 is-live-requires-2 : tie.Need-is-live-requires-2
 is-live-requires-2 c κs = search needs
 
-add-t17 : tie.Need-add-t17
-add-t17 c = omega (arith, live-inside _ _ _ _ _ (c .before .before .slot-at2 .ensures) (c .before .is-live2 .ensures) (c .if2 .taken))
+add-t19 : tie.Need-add-t19
+add-t19 c = omega (arith, live-inside _ _ _ _ _ (c .before .before .slot-at2 .ensures) (c .before .is-live2 .ensures) (c .if2 .taken))
 
-sub-t18 : tie.Need-sub-t18
-sub-t18 c = live-left _ _ _ (c .before .is-live2 .ensures) (c .if2 .taken)
+sub-t20 : tie.Need-sub-t20
+sub-t20 c = live-left _ _ _ (c .before .is-live2 .ensures) (c .if2 .taken)
 
 returns-2 : tie.Need-returns-2
 returns-2 c = step-node _ _ _ _ _ (no-leaf _ _ _ _ _ _ (c .before .before .before .before .before .slot-at .ensures) (c .before .before .before .before .is-live .ensures) (c .before .before .before .if1 .left)) (c .before .before .slot-at2 .ensures) (c .before .is-live2 .ensures) (c .if2 .taken)
@@ -43,12 +43,12 @@ next-spec =
     (tie.spec
     slot-at-requires
     is-live-requires
-    add-t13
-    sub-t14
+    add-t14
+    sub-t15
     returns
     slot-at-requires-2
     is-live-requires-2
-    add-t17
-    sub-t18
+    add-t19
+    sub-t20
     returns-2
     returns-3)

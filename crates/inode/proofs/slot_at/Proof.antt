@@ -29,7 +29,7 @@ slot-in-requires c κs = c .view-in .ensures .1
 returns : tie.Need-returns
 returns c = let a = c .before .before .before .before .before .before .before .before .args in
     let l : length (a .s .staged) ≡ 32 = search needs in
-    slot-of _ _ _ _ (c .before .view-in .ensures .0 ∙ ap (λ (v : Disk). v (a .b)) (view-lent (a .s) (a .device .now) (a .work .now) _ l (c .before .before .before .before .staged-count .ensures .0))) (c .slot-in .ensures)
+    slot-of _ _ _ _ (c .before .view-in .ensures .0 ∙ ap (λ (v : Disk). v (a .b .0)) (view-lent (a .s) (a .device .now) (a .work .now) _ l (c .before .before .before .before .staged-count .ensures .0))) (c .slot-in .ensures)
 
 pub slot-at-spec : {M : Type 1} → statement M
 slot-at-spec =

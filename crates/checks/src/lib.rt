@@ -1,5 +1,6 @@
 // The tests at the head of a call, in the order of the refusals' numbers.
 use block::key_of;
+use spec::ByteOffset;
 use spec::Done;
 use spec::Finished;
 use spec::Limits;
@@ -88,7 +89,7 @@ pub fn ready(device: &[u8], work: &[u8], blocks: usize, phase: Phase) -> Checked
 pub fn is_name(name: &[u8]) -> bool
     ensures { λ r. ⌜ r ≡ isName (now (name .entry)) ⌝ }
 {
-    if name.len() != 8 {
+    if name.len() != Limits::NAME_SIZE {
         return false;
     }
     key_of(name) != 0
@@ -135,13 +136,13 @@ pub fn both_named(
 }
 
 // 4, "x plus data length" as whole numbers
-fn size_fits(x: usize, n: usize) -> bool
-    ensures { λ r. ⌜ r ≡ leb (x + n) 1048576 ⌝ }
+fn size_fits(x: ByteOffset, n: usize) -> bool
+    ensures { λ r. ⌜ r ≡ leb (x .0 + n) 1048576 ⌝ }
 {
     if Limits::MAX_FILE_SIZE < n {
         return false;
     }
-    x <= Limits::MAX_FILE_SIZE - n
+    x.0 <= Limits::MAX_FILE_SIZE - n
 }
 
 // 1, 2, 3, 4 and 12
@@ -151,10 +152,10 @@ pub fn sized(
     blocks: usize,
     phase: Phase,
     name: &[u8],
-    x: usize,
+    x: ByteOffset,
     n: usize,
 ) -> Checked
-    ensures { λ r. ⌜ ((s : Session) → Of blocks phase s → resultOf r ≡ nameSizeOk (stateOf s (now (device .entry)) (now (work .entry))) (now (name .entry)) (x + n)) ⌝ }
+    ensures { λ r. ⌜ ((s : Session) → Of blocks phase s → resultOf r ≡ nameSizeOk (stateOf s (now (device .entry)) (now (work .entry))) (now (name .entry)) (x .0 + n)) ⌝ }
 {
     match lent(device, work, blocks) {
         Checked::Bad(why) => Checked::Bad(why),

@@ -9,6 +9,7 @@ use borrow.Author.Tests.{eq-eqb, ne-eqb}
 use lib.Dec.{eqb}
 use lib.ListN.{length, take, drop, getElem?, length-append, length-take}
 use lib.Seq.{take-nil, drop-nil}
+use Rattle.spec.specs.declared.DiskBlock.{DiskBlock}
 use Rattle.spec.specs.declared.Extent.{Extent}
 use Rattle.spec.specs.Bytes.{exactly, upFrom}
 use Rattle.spec.specs.Disk.{Disk}
@@ -247,7 +248,7 @@ module _ (v : Disk) (tb : ℕ) (c : Scan) where
   pub on-slot-unused : (r : AtSlot) → SlotSteps v tb c r → r ≡ slot.Unused → leaf v (c .at .block) (c .at .at) (c .at .left) ≡ []
   on-slot-unused r s q = rw q at s
 
-  pub on-node-next : (r : AtNode) (b : ℕ) (d : Scan) → NodeSteps v tb c r → r ≡ node.Node b d → GoesOn v tb c d × (d .at .block ≡ b)
+  pub on-node-next : (r : AtNode) (b : DiskBlock) (d : Scan) → NodeSteps v tb c r → r ≡ node.Node b d → GoesOn v tb c d × (d .at .block ≡ b .0)
   on-node-next r b d s q = rw q at s
 
   pub on-node-none : (r : AtNode) → NodeSteps v tb c r → r ≡ node.End → pending v tb c ≡ []

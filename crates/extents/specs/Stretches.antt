@@ -103,7 +103,7 @@ SlotSteps v tb c (slot.Passed d) = GoesOn v tb c d × (d .at .block ≡ c .at .b
 SlotSteps v tb c slot.Unused = leaf v (c .at .block) (c .at .at) (c .at .left) ≡ []
 
 abbrev pub NodeSteps : Disk → ℕ → Scan → AtNode → Type 0
-NodeSteps v tb c (node.Node b d) = GoesOn v tb c d × (d .at .block ≡ b)
+NodeSteps v tb c (node.Node b d) = GoesOn v tb c d × (d .at .block ≡ b .0)
 NodeSteps v tb c node.End = pending v tb c ≡ []
 
 -- ---- its maximal runs

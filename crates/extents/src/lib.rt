@@ -10,6 +10,7 @@ use inode::start_at;
 use inode::table_block;
 use spec::DiskBlock;
 use spec::Extent;
+use spec::FileBlock;
 use spec::Limits;
 use spec::Session;
 use transaction::staged_count;
@@ -43,14 +44,14 @@ fn seek<'a>(
     device: &'a [u8],
     work: &'a [u8],
     s: Session,
-    tb: u32,
+    tb: DiskBlock,
     cur: Cursor,
-    place: usize,
+    place: FileBlock,
 ) -> Sought
-    ensures { λ r. ⌜ Seeks (view (stateOf s (now (device .entry)) (now (work .entry)))) tb cur place r ⌝ }
+    ensures { λ r. ⌜ Seeks (view (stateOf s (now (device .entry)) (now (work .entry)))) (tb .0) cur (place .0) r ⌝ }
 {
     let mut at = cur;
-    let mut left = place;
+    let mut left = place.0;
     loop {
         match next(device, work, s, tb, at) {
             Step::Leaf(e, then) => {
@@ -72,11 +73,17 @@ fn seek<'a>(
 }
 
 // Block `place` of the file of record i.
-pub fn extent_at<'a>(device: &'a [u8], work: &'a [u8], s: Session, i: usize, place: usize) -> Place
+pub fn extent_at<'a>(
+    device: &'a [u8],
+    work: &'a [u8],
+    s: Session,
+    i: usize,
+    place: FileBlock,
+) -> Place
     requires { ⌜ i < 128 ⌝ }
-    ensures { λ r. ⌜ Places (view (stateOf s (now (device .entry)) (now (work .entry)))) i place r ⌝ }
+    ensures { λ r. ⌜ Places (view (stateOf s (now (device .entry)) (now (work .entry)))) i (place .0) r ⌝ }
 {
-    if Limits::MAX_FILE_BLOCKS <= place {
+    if Limits::MAX_FILE_BLOCKS <= place.0 {
         return Place::Nothing;
     }
     let cur = start(device, work, s, i);
@@ -102,13 +109,13 @@ pub enum Piece {
     End,
 }
 
-fn room_from(from: usize, n: usize) -> usize
-    ensures { λ r. ⌜ r ≡ min n (2048 - from) ⌝ }
+fn room_from(from: FileBlock, n: usize) -> usize
+    ensures { λ r. ⌜ r ≡ min n (2048 - from .0) ⌝ }
 {
-    if Limits::MAX_FILE_BLOCKS <= from {
+    if Limits::MAX_FILE_BLOCKS <= from.0 {
         return 0;
     }
-    let left = Limits::MAX_FILE_BLOCKS - from;
+    let left = Limits::MAX_FILE_BLOCKS - from.0;
     if n < left { n } else { left }
 }
 
@@ -118,11 +125,11 @@ pub fn stretch<'a>(
     work: &'a [u8],
     s: Session,
     i: usize,
-    from: usize,
+    from: FileBlock,
     n: usize,
 ) -> Scan
     requires { ⌜ i < 128 ⌝ }
-    ensures { λ r. ⌜ Starts (view (stateOf s (now (device .entry)) (now (work .entry)))) i from n r ⌝ }
+    ensures { λ r. ⌜ Starts (view (stateOf s (now (device .entry)) (now (work .entry)))) i (from .0) n r ⌝ }
 {
     let l = s.staged;
     let count = staged_count(s);
@@ -130,15 +137,15 @@ pub fn stretch<'a>(
 }
 
 // The same, of the block of the table that holds record i.
-pub fn stretch_at(table: &[u8], i: usize, from: usize, n: usize) -> Scan
+pub fn stretch_at(table: &[u8], i: usize, from: FileBlock, n: usize) -> Scan
     requires { ⌜ i < 128 ⌝ }
-    ensures { λ r. ⌜ ((v : Disk) → exactly 512 (now (table .entry)) ≡ v (blockOfInode i) → Starts v i from n r) ⌝ }
+    ensures { λ r. ⌜ ((v : Disk) → exactly 512 (now (table .entry)) ≡ v (blockOfInode i) → Starts v i (from .0) n r) ⌝ }
 {
     let at = start_at(table, i);
     let room = room_from(from, n);
     Scan {
         at: at,
-        skip: from,
+        skip: from.0,
         room: room,
     }
 }
@@ -169,7 +176,7 @@ pub fn take_slot(block: &[u8], scan: Scan) -> AtSlot
     }
     let then = Cursor {
         block: cur.block,
-        at: cur.at + 4,
+        at: cur.at + Limits::SLOT_SIZE,
         left: cur.left - 1,
         top: cur.top,
         tops: cur.tops,
@@ -235,14 +242,14 @@ pub fn pass_slots(block: &[u8], scan: Scan) -> Scan
             return moved(scan, at, left, skip);
         }
         skip -= count;
-        at += 4;
+        at += Limits::SLOT_SIZE;
         left -= 1;
     }
 }
 
 // The node that follows a leaf with no slot left.
 pub enum AtNode {
-    Node(u32, Scan),
+    Node(DiskBlock, Scan),
     End,
 }
 
@@ -261,11 +268,11 @@ pub fn take_node(table: &[u8], scan: Scan) -> AtNode
         block: t.first,
         at: 0,
         left: Limits::SLOTS_PER_NODE,
-        top: cur.top + 4,
+        top: cur.top + Limits::SLOT_SIZE,
         tops: cur.tops - 1,
     };
     AtNode::Node(
-        t.first,
+        DiskBlock(t.first),
         Scan {
             at: then,
             skip: scan.skip,
@@ -279,13 +286,13 @@ pub fn next_piece_in<'a>(
     device: &'a [u8],
     work: &'a [u8],
     staged: &[u32],
-    tb: u32,
+    tb: DiskBlock,
     scan: Scan,
 ) -> Piece
     requires { ⌜ length (now staged) ≤ 32 ⌝ }
-    ensures { λ r. ⌜ Pieces (viewIn (now (staged .entry)) (now (device .entry)) (now (work .entry))) tb scan r ⌝ }
+    ensures { λ r. ⌜ Pieces (viewIn (now (staged .entry)) (now (device .entry)) (now (work .entry))) (tb .0) scan r ⌝ }
 {
-    let table = view_in(device, work, staged, DiskBlock(tb));
+    let table = view_in(device, work, staged, tb);
     let cur = scan.at;
     let mut block = view_in(device, work, staged, DiskBlock(cur.block));
     let mut at = scan;
@@ -299,7 +306,7 @@ pub fn next_piece_in<'a>(
             }
             AtSlot::Unused => match take_node(table, at) {
                 AtNode::Node(b, then) => {
-                    block = view_in(device, work, staged, DiskBlock(b));
+                    block = view_in(device, work, staged, b);
                     at = then;
                 }
                 AtNode::End => {
@@ -334,9 +341,15 @@ pub fn growing_from(scan: Scan) -> Growing
 }
 
 // The next maximal run: extents that touch, as a damaged file may have them, are joined.
-pub fn next_run<'a>(device: &'a [u8], work: &'a [u8], s: Session, tb: u32, from: Growing) -> RunStep
+pub fn next_run<'a>(
+    device: &'a [u8],
+    work: &'a [u8],
+    s: Session,
+    tb: DiskBlock,
+    from: Growing,
+) -> RunStep
     requires { ⌜ Fits from ⌝ }
-    ensures { λ r. ⌜ RunSteps (view (stateOf s (now (device .entry)) (now (work .entry)))) tb from r ⌝ }
+    ensures { λ r. ⌜ RunSteps (view (stateOf s (now (device .entry)) (now (work .entry)))) (tb .0) from r ⌝ }
 {
     let l = s.staged;
     let n = staged_count(s);
@@ -348,11 +361,11 @@ pub fn next_run_in<'a>(
     device: &'a [u8],
     work: &'a [u8],
     staged: &[u32],
-    tb: u32,
+    tb: DiskBlock,
     from: Growing,
 ) -> RunStep
     requires { ⌜ Fits from × (length (now staged) ≤ 32) ⌝ }
-    ensures { λ r. ⌜ RunSteps (viewIn (now (staged .entry)) (now (device .entry)) (now (work .entry))) tb from r ⌝ }
+    ensures { λ r. ⌜ RunSteps (viewIn (now (staged .entry)) (now (device .entry)) (now (work .entry))) (tb .0) from r ⌝ }
 {
     let mut run = from.run;
     let mut scan = from.scan;
@@ -390,12 +403,12 @@ pub fn nth_extent<'a>(
     work: &'a [u8],
     staged: &[u32],
     i: usize,
-    from: usize,
+    from: FileBlock,
     n: usize,
     k: usize,
 ) -> RunOf
     requires { ⌜ (i < 128) × (length (now staged) ≤ 32) ⌝ }
-    ensures { λ r. ⌜ r ≡ runOf (getElem? (runsIn (viewIn (now (staged .entry)) (now (device .entry)) (now (work .entry))) i from n) k) ⌝ }
+    ensures { λ r. ⌜ r ≡ runOf (getElem? (runsIn (viewIn (now (staged .entry)) (now (device .entry)) (now (work .entry))) i (from .0) n) k) ⌝ }
 {
     let tb = table_block(i);
     let mut at = growing_from(stretch_at(inode_block_in(device, work, staged, i), i, from, n));
@@ -422,11 +435,11 @@ pub fn count_runs<'a>(
     work: &'a [u8],
     staged: &[u32],
     i: usize,
-    from: usize,
+    from: FileBlock,
     n: usize,
 ) -> usize
     requires { ⌜ (i < 128) × (length (now staged) ≤ 32) ⌝ }
-    ensures { λ r. ⌜ r ≡ length (runsIn (viewIn (now (staged .entry)) (now (device .entry)) (now (work .entry))) i from n) ⌝ }
+    ensures { λ r. ⌜ r ≡ length (runsIn (viewIn (now (staged .entry)) (now (device .entry)) (now (work .entry))) i (from .0) n) ⌝ }
 {
     let tb = table_block(i);
     let mut at = growing_from(stretch_at(inode_block_in(device, work, staged, i), i, from, n));

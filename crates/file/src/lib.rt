@@ -12,6 +12,7 @@ use inode::size_of;
 use spec::ByteOffset;
 use spec::DiskBlock;
 use spec::Extent;
+use spec::FileBlock;
 use spec::Limits;
 use transaction::view_in;
 ghost use mathlib.Core.Path.{_≡_};
@@ -114,17 +115,19 @@ fn read_blocks<'a>(
     staged: &[u32],
     table: &'a [u8],
     i: usize,
-    x: usize,
+    x: ByteOffset,
     to: &mut [u8],
 ) -> usize
     requires { ⌜ (i < 128) × (length (now staged) ≤ 32) × (length (now table) ≤ 512)
         × (exactly 512 (now table) ≡ viewIn (now staged) (now device) (now work) (blockOfInode i)) ⌝ }
-    ensures { λ r. ⌜ Filled (take (length (now (to .entry))) (drop x (blockBytes (viewIn (now (staged .entry)) (now (device .entry)) (now (work .entry))) i)))
+    ensures { λ r. ⌜ Filled (take (length (now (to .entry))) (drop (x .0) (blockBytes (viewIn (now (staged .entry)) (now (device .entry)) (now (work .entry))) i)))
         (now (to .entry)) (now (to .exit)) r ⌝ }
 {
-    let mut scan = stretch_at(table, i, x / Limits::BLOCK_SIZE, Limits::MAX_FILE_BLOCKS);
+    let from = x.0;
+    let place = FileBlock(from / Limits::BLOCK_SIZE);
+    let mut scan = stretch_at(table, i, place, Limits::MAX_FILE_BLOCKS);
     let mut block = table;
-    let mut skip = x % Limits::BLOCK_SIZE;
+    let mut skip = from % Limits::BLOCK_SIZE;
     let mut done: usize = 0;
     while done < to.len() {
         if scan.room == 0 {
@@ -147,7 +150,7 @@ fn read_blocks<'a>(
             }
             AtSlot::Unused => match take_node(table, scan) {
                 AtNode::Node(b, then) => {
-                    block = view_in(device, work, staged, DiskBlock(b));
+                    block = view_in(device, work, staged, b);
                     scan = then;
                 }
                 AtNode::End => {
@@ -179,5 +182,5 @@ pub fn read_file<'a>(
         return 0;
     }
     let len = least(buffer.len(), size - from);
-    read_blocks(device, work, staged, table, i, from, &mut buffer[0..len])
+    read_blocks(device, work, staged, table, i, x, &mut buffer[0..len])
 }

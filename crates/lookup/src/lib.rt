@@ -6,6 +6,7 @@ use checks::sized;
 use inode::Found;
 use inode::find;
 use inode::find_empty;
+use spec::ByteOffset;
 use spec::Limits;
 use spec::Phase;
 use spec::Refusal;
@@ -77,12 +78,12 @@ pub fn look_up_sized<'a>(
     phase: Phase,
     staged: &[u32],
     name: &[u8],
-    x: usize,
+    x: ByteOffset,
     n: usize,
 ) -> Looked
     requires { ⌜ length (now staged) ≤ 32 ⌝ }
     ensures { λ r. ⌜ ((s : Session) → Seen blocks phase (now (staged .entry)) s
-        → lookedOf r ≡ sizedOk (stateOf s (now (device .entry)) (now (work .entry))) (now (name .entry)) (x + n)) × InTable r ⌝ }
+        → lookedOf r ≡ sizedOk (stateOf s (now (device .entry)) (now (work .entry))) (now (name .entry)) (x .0 + n)) × InTable r ⌝ }
 {
     match sized(device, work, blocks, phase, name, x, n) {
         Checked::Bad(why) => Looked::Bad(why),

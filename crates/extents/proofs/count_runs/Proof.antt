@@ -3,17 +3,17 @@ use mathlib.Core.Path.{_≡_, ap}
 use native.Mathlib.Omega.{arith}
 use lib.ListN.{length}
 use Rattle.transaction.specs.Places.{viewIn}
-use Rattle.extents.specs.Stretches.{Fits, runsIn, restRuns}
-use Rattle.extents.proofs.Laws.{begin-in, on-run, on-stop, run-less, run-counted}
+use Rattle.extents.specs.Stretches.{Fits, restRuns}
+use Rattle.extents.proofs.Laws.{BegunIn, begin-in, on-run, on-stop, run-less, run-counted}
 use borrow.Author.Needs.{needs}
 use Rattle.extents.proofs.count_runs.Statement.{statement}
 use Rattle.extents.proofs.count_runs.Tie as tie
 
 abbrev Inv-loop : tie.InvT-loop
-Inv-loop device work staged i from n tb at₀ done₀ at done = Fits at × (done + length (restRuns (viewIn staged device work) tb at) ≡ length (runsIn (viewIn staged device work) i from n)) × (length (runsIn (viewIn staged device work) i from n) ≤ 2048)
+Inv-loop device work staged i n tb at₀ done₀ at done = Fits at × (done + length (restRuns (viewIn staged device work) (tb .0) at) ≡ length (restRuns (viewIn staged device work) (tb .0) at₀)) × (length (restRuns (viewIn staged device work) (tb .0) at₀) ≤ 2048)
 
 abbrev μ-loop : tie.MeasureT-loop
-μ-loop device work staged i from n tb at₀ done₀ at done = length (restRuns (viewIn staged device work) tb at)
+μ-loop device work staged i n tb at₀ done₀ at done = length (restRuns (viewIn staged device work) (tb .0) at)
 
 table-block-requires : tie.Need-table-block-requires Inv-loop μ-loop
 table-block-requires c κs = search needs
@@ -27,10 +27,12 @@ stretch-at-requires c κs = search needs
 growing-from-requires : tie.Need-growing-from-requires Inv-loop μ-loop
 growing-from-requires c κs = search needs
 
+-- all runs of the stretch are left where the loop begins
+begun : (c : tie.After-growing-from Inv-loop μ-loop) → BegunIn (viewIn (c .before .before .before .before .before .before .before .args .staged .now) (c .before .before .before .before .before .before .before .args .device .now) (c .before .before .before .before .before .before .before .args .work .now)) (c .before .before .before .before .before .before .before .args .i) (c .before .before .before .before .before .before .before .args .from .0) (c .before .before .before .before .before .before .before .args .n) (c .before .before .before .table-block .result .0) (c .growing-from .result)
+begun c = begin-in _ _ _ _ _ _ _ (c .before .before .before .table-block .ensures) (c .before .stretch-at .ensures _ (c .before .before .inode-block-in .ensures .0)) (c .growing-from .ensures)
+
 loop-holds : tie.Need-loop-holds Inv-loop μ-loop
-loop-holds c = let a = c .before .before .before .before .before .before .before .args in
-    let b = begin-in (viewIn (a .staged .now) (a .device .now) (a .work .now)) _ _ _ _ _ _ (c .before .before .before .table-block .ensures) (c .before .stretch-at .ensures _ (c .before .before .inode-block-in .ensures .0)) (c .growing-from .ensures) in
-    (b .fits, omega (arith, ap length (b .runs)), b .few)
+loop-holds c = let b = begun c in (b .fits, omega arith, omega (arith, ap length (b .runs), b .few))
 
 next-run-in-requires : tie.Need-next-run-in-requires Inv-loop μ-loop
 next-run-in-requires c κs = search needs
@@ -52,7 +54,7 @@ enum-told : tie.Need-enum-told Inv-loop μ-loop
 enum-told c = search needs
 
 returns : tie.Need-returns Inv-loop μ-loop
-returns c = omega (arith, ap length (on-stop _ _ _ _ (c .before .before .next-run-in .ensures) (c .enum-told .given .1)), c .before .before .before .loop .inv .1)
+returns c = omega (arith, ap length (on-stop _ _ _ _ (c .before .before .next-run-in .ensures) (c .enum-told .given .1)), c .before .before .before .loop .inv .1, ap length (begun (c .before .before .before .before) .runs))
 
 pub count-runs-spec : {M : Type 1} → statement M
 count-runs-spec =

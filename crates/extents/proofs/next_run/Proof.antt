@@ -25,7 +25,7 @@ next-run-in-requires c κs = let l : length (c .before .before .before .before .
 
 returns : tie.Need-returns
 returns c = let l : length (c .before .before .before .before .before .before .before .args .s .staged) ≡ 32 = search needs in let a = c .before .before .before .before .before .before .before .args in
-    subst (λ (v : Disk). RunSteps v (a .tb) (a .from) (c .next-run-in .result)) (view-lent (a .s) (a .device .now) (a .work .now) _ l (c .before .before .before .staged-count .ensures .0)) (c .next-run-in .ensures)
+    subst (λ (v : Disk). RunSteps v (a .tb .0) (a .from) (c .next-run-in .result)) (view-lent (a .s) (a .device .now) (a .work .now) _ l (c .before .before .before .staged-count .ensures .0)) (c .next-run-in .ensures)
 
 pub next-run-spec : {M : Type 1} → statement M
 next-run-spec =

@@ -9,10 +9,10 @@ use Rattle.extents.proofs.next_run_in.Statement.{statement}
 use Rattle.extents.proofs.next_run_in.Tie as tie
 
 abbrev Inv-loop : tie.InvT-loop
-Inv-loop device work staged tb run₀ scan₀ run scan = Grown (viewIn staged device work) tb (record { run = run₀; scan = scan₀ }) (record { run = run; scan = scan })
+Inv-loop device work staged tb run₀ scan₀ run scan = Grown (viewIn staged device work) (tb .0) (record { run = run₀; scan = scan₀ }) (record { run = run; scan = scan })
 
 abbrev μ-loop : tie.MeasureT-loop
-μ-loop device work staged tb run₀ scan₀ run scan = length (pending (viewIn staged device work) tb scan)
+μ-loop device work staged tb run₀ scan₀ run scan = length (pending (viewIn staged device work) (tb .0) scan)
 
 loop-holds : tie.Need-loop-holds Inv-loop μ-loop
 loop-holds c = record { runs = refl; fits = c .before .before .before .before .before .pre .0 }

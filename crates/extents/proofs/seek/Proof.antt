@@ -8,10 +8,10 @@ use Rattle.extents.proofs.seek.Statement.{statement}
 use Rattle.extents.proofs.seek.Tie as tie
 
 abbrev Inv-loop : tie.InvT-loop
-Inv-loop device work s tb place at₀ left₀ at left = blocksFrom left (rest (view (stateOf s device work)) tb at) ≡ blocksFrom place (rest (view (stateOf s device work)) tb at₀)
+Inv-loop device work s tb at₀ left₀ at left = blocksFrom left (rest (view (stateOf s device work)) (tb .0) at) ≡ blocksFrom left₀ (rest (view (stateOf s device work)) (tb .0) at₀)
 
 abbrev μ-loop : tie.MeasureT-loop
-μ-loop device work s tb place at₀ left₀ at left = weight at
+μ-loop device work s tb at₀ left₀ at left = weight at
 
 loop-holds : tie.Need-loop-holds Inv-loop μ-loop
 loop-holds c = refl

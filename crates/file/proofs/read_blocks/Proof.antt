@@ -15,11 +15,11 @@ use Rattle.file.proofs.read_blocks.Statement.{statement}
 use Rattle.file.proofs.read_blocks.Tie as tie
 
 abbrev Inv-loop : tie.InvT-loop
-Inv-loop device work staged table i x to₀ scan₀ block₀ skip₀ done₀ to scan block skip done = Under (viewIn staged device work) (blockOfInode i) (take (length to₀) (drop x (blockBytes (viewIn staged device work) i))) to₀ to scan skip done
+Inv-loop device work staged table i to₀ from scan₀ block₀ skip₀ done₀ to scan block skip done = Under (viewIn staged device work) (blockOfInode i) (take (length to₀) (drop from (blockBytes (viewIn staged device work) i))) to₀ to scan skip done
     × (exactly 512 block ≡ viewIn staged device work (scan .at .block)) × (length block ≤ 512)
 
 abbrev μ-loop : tie.MeasureT-loop
-μ-loop device work staged table i x to₀ scan₀ block₀ skip₀ done₀ to scan block skip done = weight (scan .at)
+μ-loop device work staged table i to₀ from scan₀ block₀ skip₀ done₀ to scan block skip done = weight (scan .at)
 
 stretch-at-requires : tie.Need-stretch-at-requires Inv-loop μ-loop
 stretch-at-requires c κs = search needs
@@ -30,7 +30,7 @@ loop-holds c =
     let p = c .before .before .before .before .before .before .pre in
     let v = viewIn (a .staged .now) (a .device .now) (a .work .now) in
     let s = c .stretch-at .ensures v (p .3) in
-    (under-start v (view-in-length (a .staged .now) (a .device .now) (a .work .now)) (a .i) (a .x) (a .to .now) _ _ (omega arith) refl s, p .3 ∙ ap v (sym (s .block)), p .2)
+    (under-start v (view-in-length (a .staged .now) (a .device .now) (a .work .now)) (a .i) (a .x .0) (a .to .now) _ _ (omega arith) refl s, p .3 ∙ ap v (sym (s .block)), p .2)
 
 same-length : tie.Need-same-length Inv-loop μ-loop
 same-length c = search needs

@@ -21,10 +21,10 @@ known-requires : tie.Need-known-requires
 known-requires c κs = (sized-device (c .before .before .before .before .before .before .before .args .blocks) (c .before .before .before .before .before .before .before .args .phase) (c .before .before .before .before .before .before .before .args .device .now) (c .before .before .before .before .before .before .before .args .work .now) (c .before .before .before .before .before .before .before .args .name .now) true _ (λ s q. sym (ap resultOf (c .enum-told .given .1)) ∙ c .before .before .sized .ensures s q), c .before .before .before .before .before .before .before .pre)
 
 returns : tie.Need-returns
-returns c = (λ s q. sized-bad s (c .before .before .before .before .before .before .before .before .args .device .now) (c .before .before .before .before .before .before .before .before .args .work .now) (c .before .before .before .before .before .before .before .before .args .name .now) (c .before .before .before .before .before .before .before .before .args .x + c .before .before .before .before .before .before .before .before .args .n) _ (sym (ap resultOf (c .before .why .given .1)) ∙ c .before .before .before .sized .ensures s (q .head)), tt)
+returns c = (λ s q. sized-bad s (c .before .before .before .before .before .before .before .before .args .device .now) (c .before .before .before .before .before .before .before .before .args .work .now) (c .before .before .before .before .before .before .before .before .args .name .now) (c .before .before .before .before .before .before .before .before .args .x .0 + c .before .before .before .before .before .before .before .before .args .n) _ (sym (ap resultOf (c .before .why .given .1)) ∙ c .before .before .before .sized .ensures s (q .head)), tt)
 
 returns-2 : tie.Need-returns-2
-returns-2 c = (λ s q. c .known .ensures .0 s (q .numbers) ∙ sized-fine s (c .before .before .before .before .before .before .before .before .args .device .now) (c .before .before .before .before .before .before .before .before .args .work .now) (c .before .before .before .before .before .before .before .before .args .name .now) (c .before .before .before .before .before .before .before .before .args .x + c .before .before .before .before .before .before .before .before .args .n) true (sym (ap resultOf (c .before .enum-told .given .1)) ∙ c .before .before .before .sized .ensures s (q .head)), c .known .ensures .1)
+returns-2 c = (λ s q. c .known .ensures .0 s (q .numbers) ∙ sized-fine s (c .before .before .before .before .before .before .before .before .args .device .now) (c .before .before .before .before .before .before .before .before .args .work .now) (c .before .before .before .before .before .before .before .before .args .name .now) (c .before .before .before .before .before .before .before .before .args .x .0 + c .before .before .before .before .before .before .before .before .args .n) true (sym (ap resultOf (c .before .enum-told .given .1)) ∙ c .before .before .before .sized .ensures s (q .head)), c .known .ensures .1)
 
 pub look-up-sized-spec : {M : Type 1} → statement M
 look-up-sized-spec =

@@ -12,6 +12,7 @@ use lib.Seq.{set-out, take-all, take-take, take-suc-set, getD-take, drop-cons, t
 use Rattle.spec.specs.Bytes.{upFrom, place}
 use Rattle.spec.specs.Disk.{Disk}
 use Rattle.spec.specs.Bitmap.{bitsOfByte, bitsOf, freeBits, mark, pick, picks}
+use Rattle.spec.specs.declared.DiskBlock.{DiskBlock}
 use Rattle.spec.specs.declared.Extent.{Extent}
 use Rattle.spec.specs.Inode.{dataOf, blockOfInode, runs, slotsIn}
 use Rattle.block.proofs.Laws.{lt-or-le}
@@ -48,7 +49,7 @@ mark-none v bits = refl
 
 -- ---- one block
 
-pub picked : (t u : List ℕ) (b : ℕ) → Table t → At b ≡ foundOf (place 0 (bitsOf t)) → bitsOf u ≡ set (bitsOf t) b 1 → Picked t u b
+pub picked : (t u : List ℕ) (b : DiskBlock) → Table t → At b ≡ foundOf (place 0 (bitsOf t)) → bitsOf u ≡ set (bitsOf t) (b .0) 1 → Picked t u (b .0)
 unfolding pick
 picked t u b table e q =
     let n = next-free t b table e in

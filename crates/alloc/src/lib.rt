@@ -19,6 +19,7 @@ use inode::start_at;
 use runs::End;
 use runs::push;
 use spec::DiskBlock;
+use spec::FileBlock;
 use spec::Limits;
 use spec::Refusal;
 use transaction::view_in;
@@ -36,7 +37,6 @@ ghost use Rattle.runs.specs.Push.{Small, columns, noEnd};
 ghost use Rattle.alloc.specs.Parts.{dataAt, nodesAt, Picked, KeptOf, GaveBack, TookData, HeldNodes, TookNodes};
 ghost use Rattle.alloc.specs.Draft.{Drafted};
 
-// "a file size of at most 1,048,576"
 // 16, 17, or the tree after the change: its extents and the bitmap stand in what was lent.
 pub struct Draft {
     pub verdict: Checked,
@@ -60,25 +60,25 @@ pub struct Nodes {
 }
 
 // The lowest free block taken, where no bit below word `from` is 0.
-fn pick(t: &mut [u8; Limits::BLOCK_SIZE], from: usize) -> u32
+fn pick(t: &mut [u8; Limits::BLOCK_SIZE], from: usize) -> DiskBlock
     requires { ⌜ (freeBits (take (64 * from) (bitsOf (now t))) ≡ 0) × (0 < freeBits (bitsOf (now t))) ⌝ }
-    ensures { λ b. ⌜ Picked (now (t .entry)) (now (t .exit)) b ⌝ }
+    ensures { λ b. ⌜ Picked (now (t .entry)) (now (t .exit)) (b .0) ⌝ }
 {
     match lowest_free_from(t, from) {
         Found::At(b) => {
             set_bit(t, b);
             b
         }
-        Found::Nothing => 0,
+        Found::Nothing => DiskBlock(0),
     }
 }
 
 // Block b given back; one past the table's end changes nothing.
-fn release(t: &mut [u8; Limits::BLOCK_SIZE], b: u32)
-    ensures { λ _. ⌜ bitsOf (now (t .exit)) ≡ set (bitsOf (now (t .entry))) b 0 ⌝ }
+fn release(t: &mut [u8; Limits::BLOCK_SIZE], b: DiskBlock)
+    ensures { λ _. ⌜ bitsOf (now (t .exit)) ≡ set (bitsOf (now (t .entry))) (b .0) 0 ⌝ }
 {
     known(*t);
-    if b < Limits::BITMAP_BITS {
+    if b.0 < Limits::BITMAP_BITS {
         clear_bit(t, b);
     }
 }
@@ -109,33 +109,33 @@ fn release_word(t: &mut [u8; Limits::BLOCK_SIZE], w: usize)
 }
 
 // Whether m blocks that the table holds together begin at block b, and at least as many are left.
-fn is_span(b: u32, left: u32, m: u32) -> bool
+fn is_span(b: DiskBlock, left: u32, m: u32) -> bool
     requires { ⌜ 0 < m ⌝ }
-    ensures { λ r. ⌜ (r ≡ true → (b % m ≡ 0) × (m ≤ left) × (b < 4096)) ⌝ }
+    ensures { λ r. ⌜ (r ≡ true → (b .0 % m ≡ 0) × (m ≤ left) × (b .0 < 4096)) ⌝ }
 {
-    if b % m != 0 {
+    if b.0 % m != 0 {
         return false;
     }
     if left < m {
         return false;
     }
-    b < Limits::BITMAP_BITS
+    b.0 < Limits::BITMAP_BITS
 }
 
 // n blocks from b on given back.
-fn release_run(t: &mut [u8; Limits::BLOCK_SIZE], b: u32, n: u32)
-    requires { ⌜ (b < 131072) × (n ≤ 2048) ⌝ }
-    ensures { λ _. ⌜ bitsOf (now (t .exit)) ≡ mark 0 (upFrom b n) (bitsOf (now (t .entry))) ⌝ }
+fn release_run(t: &mut [u8; Limits::BLOCK_SIZE], b: DiskBlock, n: u32)
+    requires { ⌜ (b .0 < 131072) × (n ≤ 2048) ⌝ }
+    ensures { λ _. ⌜ bitsOf (now (t .exit)) ≡ mark 0 (upFrom (b .0) n) (bitsOf (now (t .entry))) ⌝ }
 {
     let mut k: u32 = 0;
     while k < n {
-        let at = b + k;
+        let at = DiskBlock(b.0 + k);
         let left = n - k;
         if is_span(at, left, 64) {
-            release_word(t, (at / 64) as usize);
+            release_word(t, (at.0 / 64) as usize);
             k += 64;
         } else if is_span(at, left, 8) {
-            release_byte(t, (at / 8) as usize);
+            release_byte(t, (at.0 / 8) as usize);
             k += 8;
         } else {
             release(t, at);
@@ -159,14 +159,14 @@ fn keep<'a>(
         (columns (now (first .exit)) (now (count .exit)) (q .end)) (q .count) ⌝ }
 {
     let table = inode_block_in(device, work, staged, i);
-    let mut scan = stretch_at(table, i, 0, wanted);
+    let mut scan = stretch_at(table, i, FileBlock(0), wanted);
     let mut block = table;
     let mut end = End { len: 0, next: 0 };
     let mut n: usize = 0;
     while 0 < scan.room {
         match take_slot(block, scan) {
             AtSlot::Piece(e, then) => {
-                let more = push(first, count, end, e.first, e.count);
+                let more = push(first, count, end, DiskBlock(e.first), e.count);
                 end = more;
                 n += e.count as usize;
                 scan = then;
@@ -176,7 +176,7 @@ fn keep<'a>(
             }
             AtSlot::Unused => match take_node(table, scan) {
                 AtNode::Node(b, then) => {
-                    block = view_in(device, work, staged, DiskBlock(b));
+                    block = view_in(device, work, staged, b);
                     scan = then;
                 }
                 AtNode::End => {
@@ -195,23 +195,24 @@ fn give_back<'a>(
     work: &'a [u8],
     staged: &[u32],
     i: usize,
-    from: usize,
+    from: FileBlock,
     kept: usize,
 ) -> usize
-    requires { ⌜ (i < 128) × (length (now staged) ≤ 32) × (kept ≡ length (take from (dataAt (viewIn (now staged) (now device) (now work)) i))) ⌝ }
-    ensures { λ n. ⌜ GaveBack (drop from (dataAt (viewIn (now (staged .entry)) (now (device .entry)) (now (work .entry))) i)) (now (t .entry)) (now (t .exit)) n ⌝ }
+    requires { ⌜ (i < 128) × (length (now staged) ≤ 32) × (kept ≡ length (take (from .0) (dataAt (viewIn (now staged) (now device) (now work)) i))) ⌝ }
+    ensures { λ n. ⌜ GaveBack (drop (from .0) (dataAt (viewIn (now (staged .entry)) (now (device .entry)) (now (work .entry))) i)) (now (t .entry)) (now (t .exit)) n ⌝ }
 {
-    if kept < from {
+    let at = from.0;
+    if kept < at {
         return 0;
     }
     let table = inode_block_in(device, work, staged, i);
-    let mut scan = stretch_at(table, i, from, Limits::MAX_FILE_BLOCKS);
+    let mut scan = stretch_at(table, i, FileBlock(at), Limits::MAX_FILE_BLOCKS);
     let mut block = table;
     let mut count: usize = 0;
     while 0 < scan.room {
         match take_slot(block, scan) {
             AtSlot::Piece(e, then) => {
-                release_run(t, e.first, e.count);
+                release_run(t, DiskBlock(e.first), e.count);
                 count += e.count as usize;
                 scan = then;
             }
@@ -220,7 +221,7 @@ fn give_back<'a>(
             }
             AtSlot::Unused => match take_node(table, scan) {
                 AtNode::Node(b, then) => {
-                    block = view_in(device, work, staged, DiskBlock(b));
+                    block = view_in(device, work, staged, b);
                     scan = then;
                 }
                 AtNode::End => {
@@ -251,7 +252,7 @@ fn take_data(
         let b = pick(t, from);
         let more = push(first, count, end, b, 1);
         end = more;
-        from = (b / 64) as usize;
+        from = (b.0 / 64) as usize;
         k += 1;
     }
     end
@@ -302,7 +303,7 @@ fn take_nodes(t: &mut [u8; Limits::BLOCK_SIZE], held: Nodes, wanted: usize) -> [
     let mut k = held.len;
     while k < wanted {
         let b = pick(t, 0);
-        node[k] = b;
+        node[k] = b.0;
         k += 1;
     }
     node
@@ -316,7 +317,7 @@ fn give_nodes(t: &mut [u8; Limits::BLOCK_SIZE], held: Nodes, wanted: usize)
     let node = held.node;
     let mut k = wanted;
     while k < held.len {
-        release(t, node[k]);
+        release(t, DiskBlock(node[k]));
         k += 1;
     }
 }
@@ -373,7 +374,15 @@ pub fn draft_of<'a>(
         return refused(Refusal::TooManyExtents);
     }
     let node = take_nodes(table, held, nodes);
-    let dropped = give_back(table, device, work, staged, i, wanted, kept.count);
+    let dropped = give_back(
+        table,
+        device,
+        work,
+        staged,
+        i,
+        FileBlock(wanted),
+        kept.count,
+    );
     give_nodes(table, held, nodes);
     known(*table);
     Draft {

@@ -88,12 +88,13 @@ module _ (at : ℕ) (new old : List ℕ) (fits : at + length new ≤ length old)
           let e : part at (length new) old ≡ new = ap (part at (length new)) (sym (same-true (patch at new old) old g)) ∙ laid-back in
           absurd (true≢false (sym (ap (λ (z : List ℕ). same z new) e ∙ same-self new) ∙ h))
 
-pub record-compared : (v : Disk) (i : ℕ) (block new : List ℕ) (r : Bool) → exactly 512 block ≡ v (blockOfInode i) → length new ≡ 32
-    → r ≡ same (bytesIn block (placeOfInode i) (length new)) new → (y : List ℕ) → y ≡ withRecord i new (v (blockOfInode i)) → r ≡ same y (v (blockOfInode i))
+pub record-compared : (v : Disk) (i at : ℕ) (block new : List ℕ) (r : Bool) → at ≡ placeOfInode i → exactly 512 block ≡ v (blockOfInode i) → length new ≡ 32
+    → r ≡ same (bytesIn block at (length new)) new → (y : List ℕ) → y ≡ withRecord i new (v (blockOfInode i)) → r ≡ same y (v (blockOfInode i))
 unfolding bytesIn withRecord
-record-compared v i block new r e l h y ey =
+record-compared v i at block new r p e l h y ey =
     let m : length (v (blockOfInode i)) ≡ 512 = sym (ap length e) ∙ length-exactly 512 block in
-    h ∙ ap (λ (z : List ℕ). same (part (placeOfInode i) (length new) z) new) e
+    h ∙ ap (λ (k : ℕ). same (bytesIn block k (length new)) new) p
+    ∙ ap (λ (z : List ℕ). same (part (placeOfInode i) (length new) z) new) e
     ∙ part-compared (placeOfInode i) new (v (blockOfInode i)) (omega arith)
     ∙ ap (λ (z : List ℕ). same z (v (blockOfInode i))) (sym ey)
 

@@ -8,6 +8,7 @@ use native.Mathlib.Omega.{arith}
 use borrow.Author.Tests.{lt-leb, le-ltb, lt-ltb, ne-eqb, leb-true, ltb-true}
 use lib.Dec.{eqb, leb, ltb}
 use lib.ListN.{length}
+use Rattle.spec.specs.declared.FileBlock.{FileBlock}
 use Rattle.spec.specs.Plan.{isStaged, holdsData, isLastKept}
 use Rattle.lists.specs.Tests.{both-true}
 use Rattle.block.proofs.Laws.{lt-or-le}
@@ -47,8 +48,8 @@ module _ (held old size x : ℕ) (bytes : List ℕ) (p : ℕ) where
   not-staged h d k = rw (lt-leb held p h, no-data d, not-kept k)
 
 -- what the numbers of a window tell
-pub outside : (held old size x : ℕ) (bytes : List ℕ) (low high : ℕ) → low ≤ held → (0 < length bytes → low ≤ x / 512) → (size < old → low ≤ size / 512)
-    → x + length bytes ≤ 512 * high → (size < old → size / 512 < high) → Outside held old size x bytes (record { low = low; high = high })
+pub outside : (held old size x : ℕ) (bytes : List ℕ) (low high : FileBlock) → low .0 ≤ held → (0 < length bytes → low .0 ≤ x / 512) → (size < old → low .0 ≤ size / 512)
+    → x + length bytes ≤ 512 * high .0 → (size < old → size / 512 < high .0) → Outside held old size x bytes (record { low = low; high = high })
 outside held old size x bytes low high lh ld lk hd hk =
     record {
       below = λ p h. not-staged held old size x bytes p (omega arith) (λ l. let z = ld l in inl (omega arith)) (λ l e. let z = lk l in omega arith);
@@ -71,9 +72,9 @@ run-clear low high held at behind h = go (lt-or-le low behind) (lt-or-le at high
 
 -- a run at which nothing is staged
 pub clear-run : (held old size x : ℕ) (bytes : List ℕ) (w : Window) (at behind : ℕ) → Outside held old size x bytes w
-    → (ltb (w .low) behind && (ltb at (w .high) || ltb held behind)) ≡ false → (p : ℕ) → at ≤ p → p < behind → isStaged held old size x bytes p ≡ false
-clear-run held old size x bytes w at behind o h p a b = go (run-clear (w .low) (w .high) held at behind h)
+    → (ltb (w .low .0) behind && (ltb at (w .high .0) || ltb held behind)) ≡ false → (p : ℕ) → at ≤ p → p < behind → isStaged held old size x bytes p ≡ false
+clear-run held old size x bytes w at behind o h p a b = go (run-clear (w .low .0) (w .high .0) held at behind h)
   where
-    go : (behind ≤ w .low) ⊎ ((w .high ≤ at) × (behind ≤ held)) → isStaged held old size x bytes p ≡ false
+    go : (behind ≤ w .low .0) ⊎ ((w .high .0 ≤ at) × (behind ≤ held)) → isStaged held old size x bytes p ≡ false
     go (inl l) = o .below p (omega arith)
     go (inr (k, l)) = o .between p (omega arith) (omega arith)

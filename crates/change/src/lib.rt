@@ -4,6 +4,7 @@ use agenda::insert;
 use block::block_in;
 use block::copy;
 use block::copy_of;
+use block::place_in_block;
 use block::store_copy;
 use checks::Changed;
 use checks::done_with;
@@ -15,7 +16,9 @@ use content::node_content;
 use inode::inode_block_in;
 use inode::table_block;
 use runs::End;
+use spec::ByteOffset;
 use spec::DiskBlock;
+use spec::FileBlock;
 use spec::Limits;
 use spec::Refusal;
 use transaction::spot;
@@ -74,12 +77,12 @@ fn edit_block<'a>(
     first: &'a [u32; Limits::MAX_EXTENTS],
     count: &'a [u32; Limits::MAX_EXTENTS],
     o: Outline,
-    x: usize,
+    x: ByteOffset,
     bytes: &[u8],
     tag: u32,
 )
-    requires { ⌜ (length (now block) ≡ 512) × (o .end .len ≤ 512) × (x + length (now bytes) ≤ 1048576) ⌝ }
-    ensures { λ _. ⌜ now (block .exit) ≡ contentOf i (changeOf (now (table .entry)) (now (first .entry)) (now (count .entry)) o) x (now (bytes .entry)) tag (now (block .entry)) ⌝ }
+    requires { ⌜ (length (now block) ≡ 512) × (o .end .len ≤ 512) × (x .0 + length (now bytes) ≤ 1048576) ⌝ }
+    ensures { λ _. ⌜ now (block .exit) ≡ contentOf i (changeOf (now (table .entry)) (now (first .entry)) (now (count .entry)) o) (x .0) (now (bytes .entry)) tag (now (block .entry)) ⌝ }
 {
     if tag == BITMAP {
         // A slice made of an array tells the proof its length.
@@ -99,7 +102,7 @@ fn edit_block<'a>(
         copy(slots, block);
         return;
     }
-    let p = (tag - FIRST_DATA) as usize;
+    let p = FileBlock((tag - FIRST_DATA) as usize);
     lay_data(block, o.held, o.old, o.size, x, bytes, p);
 }
 
@@ -139,16 +142,16 @@ fn add_block<'a>(
     blocks: &mut [u32; Limits::LOG_LENGTH],
     tags: &mut [u32; Limits::LOG_LENGTH],
     len: usize,
-    b: u32,
+    b: DiskBlock,
     tag: u32,
     new: &[u8; Limits::BLOCK_SIZE],
 ) -> usize
     requires { ⌜ Room (agenda (now blocks) (now tags) len) × (length (now staged) ≤ 32) ⌝ }
-    ensures { λ q. ⌜ ((f : ℕ → ℕ → List ℕ) (ws : List BlockStore) → f b tag ≡ now (new .entry) → Lists f (agenda (now (blocks .entry)) (now (tags .entry)) len) (ascending ws)
-        → Lists f (agenda (now (blocks .exit)) (now (tags .exit)) q) (ascending (withChanged (viewIn (now (staged .entry)) (now (device .entry)) (now (work .entry))) (f b tag) b ws))) × Room (agenda (now (blocks .exit)) (now (tags .exit)) q) ⌝ }
+    ensures { λ q. ⌜ ((f : ℕ → ℕ → List ℕ) (ws : List BlockStore) → f (b .0) tag ≡ now (new .entry) → Lists f (agenda (now (blocks .entry)) (now (tags .entry)) len) (ascending ws)
+        → Lists f (agenda (now (blocks .exit)) (now (tags .exit)) q) (ascending (withChanged (viewIn (now (staged .entry)) (now (device .entry)) (now (work .entry))) (f (b .0) tag) (b .0) ws))) × Room (agenda (now (blocks .exit)) (now (tags .exit)) q) ⌝ }
 {
     let bytes: &[u8] = new;
-    if same_at(view_in(device, work, staged, DiskBlock(b)), 0, bytes) {
+    if same_at(view_in(device, work, staged, b), 0, bytes) {
         return len;
     }
     insert(blocks, tags, len, b, tag)
@@ -172,81 +175,77 @@ fn add_record<'a>(
 {
     let bytes: &[u8] = &new;
     let table = inode_block_in(device, work, staged, i);
-    if same_at(
-        table,
-        Limits::INODE_SIZE * (i % Limits::INODES_PER_BLOCK),
-        bytes,
-    ) {
+    if same_at(table, place_in_block(i), bytes) {
         return len;
     }
     insert(blocks, tags, len, table_block(i), RECORD)
 }
 
-// The lower of two numbers.
-fn least(a: usize, b: usize) -> usize
-    ensures { λ r. ⌜ (r ≤ a) × (r ≤ b) ⌝ }
+// The first of two places.
+fn least(a: FileBlock, b: FileBlock) -> FileBlock
+    ensures { λ r. ⌜ (r .0 ≤ a .0) × (r .0 ≤ b .0) ⌝ }
 {
-    if a < b { a } else { b }
+    if a.0 < b.0 { a } else { b }
 }
 
 // The first place of a file that holds data, at most `held`.
-fn first_data(held: usize, x: usize, n: usize) -> usize
-    ensures { λ r. ⌜ (r ≤ held) × (0 < n → r ≤ x / 512) ⌝ }
+fn first_data(held: usize, x: ByteOffset, n: usize) -> FileBlock
+    ensures { λ r. ⌜ (r .0 ≤ held) × (0 < n → r .0 ≤ x .0 / 512) ⌝ }
 {
     if n == 0 {
-        return held;
+        return FileBlock(held);
     }
-    least(held, x / Limits::BLOCK_SIZE)
+    least(FileBlock(held), FileBlock(x.0 / Limits::BLOCK_SIZE))
 }
 
 // The place of the last kept block, at most `held`.
-fn first_kept(held: usize, old: usize, size: usize) -> usize
-    ensures { λ r. ⌜ (r ≤ held) × (size < old → r ≤ size / 512) ⌝ }
+fn first_kept(held: usize, old: usize, size: usize) -> FileBlock
+    ensures { λ r. ⌜ (r .0 ≤ held) × (size < old → r .0 ≤ size / 512) ⌝ }
 {
     if old <= size {
-        return held;
+        return FileBlock(held);
     }
-    least(held, size / Limits::BLOCK_SIZE)
+    least(FileBlock(held), FileBlock(size / Limits::BLOCK_SIZE))
 }
 
-// The higher of two numbers.
-fn most(a: usize, b: usize) -> usize
-    ensures { λ r. ⌜ (a ≤ r) × (b ≤ r) ⌝ }
+// The last of two places.
+fn most(a: FileBlock, b: FileBlock) -> FileBlock
+    ensures { λ r. ⌜ (a .0 ≤ r .0) × (b .0 ≤ r .0) ⌝ }
 {
-    if a < b { b } else { a }
+    if a.0 < b.0 { b } else { a }
 }
 
 // The place behind the last kept block, 0 where the file is not shortened.
-fn kept_end(old: usize, size: usize) -> usize
-    ensures { λ r. ⌜ (size < old → size / 512 < r) ⌝ }
+fn kept_end(old: usize, size: usize) -> FileBlock
+    ensures { λ r. ⌜ (size < old → size / 512 < r .0) ⌝ }
 {
     if old <= size {
-        return 0;
+        return FileBlock(0);
     }
-    size / Limits::BLOCK_SIZE + 1
+    FileBlock(size / Limits::BLOCK_SIZE + 1)
 }
 
 // The place behind the data, which ends at this byte.
-fn data_end(end: usize) -> usize
-    requires { ⌜ end ≤ 1048576 ⌝ }
-    ensures { λ r. ⌜ end ≤ 512 * r ⌝ }
+fn data_end(end: ByteOffset) -> FileBlock
+    requires { ⌜ end .0 ≤ 1048576 ⌝ }
+    ensures { λ r. ⌜ end .0 ≤ 512 * r .0 ⌝ }
 {
-    (end + (Limits::BLOCK_SIZE - 1)) / Limits::BLOCK_SIZE
+    FileBlock((end.0 + (Limits::BLOCK_SIZE - 1)) / Limits::BLOCK_SIZE)
 }
 
 // Of the places of a file's blocks below `low`, and of those from `high` on that were held before, none is staged.
 pub struct Window {
-    pub low: usize,
-    pub high: usize,
+    pub low: FileBlock,
+    pub high: FileBlock,
 }
 
-fn window_of(held: usize, old: usize, size: usize, x: usize, bytes: &[u8]) -> Window
-    requires { ⌜ x + length (now bytes) ≤ 1048576 ⌝ }
-    ensures { λ w. ⌜ Outside held old size x (now (bytes .entry)) w ⌝ }
+fn window_of(held: usize, old: usize, size: usize, x: ByteOffset, bytes: &[u8]) -> Window
+    requires { ⌜ x .0 + length (now bytes) ≤ 1048576 ⌝ }
+    ensures { λ w. ⌜ Outside held old size (x .0) (now (bytes .entry)) w ⌝ }
 {
     let n = bytes.len();
     let low = least(first_data(held, x, n), first_kept(held, old, size));
-    let high = most(data_end(x + n), kept_end(old, size));
+    let high = most(data_end(ByteOffset(x.0 + n)), kept_end(old, size));
     Window {
         low: low,
         high: high,
@@ -261,31 +260,31 @@ fn add_place(
     held: usize,
     old: usize,
     size: usize,
-    x: usize,
+    x: ByteOffset,
     bytes: &[u8],
-    p: usize,
-    b: u32,
+    p: FileBlock,
+    b: DiskBlock,
 ) -> usize
-    requires { ⌜ Room (agenda (now blocks) (now tags) len) × (x + length (now bytes) ≤ 1048576) × (p < 8192) ⌝ }
-    ensures { λ q. ⌜ ((v : Disk) (i : ℕ) (c : Change) → Numbers c held old size → IsBlock c p b
-        → Lists (contentIn v i c x (now (bytes .entry))) (agenda (now (blocks .entry)) (now (tags .entry)) len) (ascending (dataStores v c x (now (bytes .entry)) (p + 1)))
-        → Lists (contentIn v i c x (now (bytes .entry))) (agenda (now (blocks .exit)) (now (tags .exit)) q) (ascending (dataStores v c x (now (bytes .entry)) p))) × Room (agenda (now (blocks .exit)) (now (tags .exit)) q) ⌝ }
+    requires { ⌜ Room (agenda (now blocks) (now tags) len) × (x .0 + length (now bytes) ≤ 1048576) × (p .0 < 8192) ⌝ }
+    ensures { λ q. ⌜ ((v : Disk) (i : ℕ) (c : Change) → Numbers c held old size → IsBlock c (p .0) (b .0)
+        → Lists (contentIn v i c (x .0) (now (bytes .entry))) (agenda (now (blocks .entry)) (now (tags .entry)) len) (ascending (dataStores v c (x .0) (now (bytes .entry)) (p .0 + 1)))
+        → Lists (contentIn v i c (x .0) (now (bytes .entry))) (agenda (now (blocks .exit)) (now (tags .exit)) q) (ascending (dataStores v c (x .0) (now (bytes .entry)) (p .0)))) × Room (agenda (now (blocks .exit)) (now (tags .exit)) q) ⌝ }
 {
     if is_staged(held, old, size, x, bytes, p) {
-        return insert(blocks, tags, len, b, FIRST_DATA + (p as u32));
+        return insert(blocks, tags, len, b, FIRST_DATA + (p.0 as u32));
     }
     len
 }
 
 // From place at + j of the file on to `high`, if that is lower.
-fn down_to(high: usize, at: usize, j: u32) -> u32
-    requires { ⌜ (high ≤ at + j) × (at + j < 9007199254740992) ⌝ }
-    ensures { λ r. ⌜ (r ≤ j) × (high ≤ at + r) ⌝ }
+fn down_to(high: FileBlock, at: FileBlock, j: u32) -> u32
+    requires { ⌜ (high .0 ≤ at .0 + j) × (at .0 + j < 9007199254740992) ⌝ }
+    ensures { λ r. ⌜ (r ≤ j) × (high .0 ≤ at .0 + r) ⌝ }
 {
-    if high <= at {
+    if high.0 <= at.0 {
         return 0;
     }
-    (high - at) as u32
+    (high.0 - at.0) as u32
 }
 
 // n blocks of the file, from the last to the first; the first is block `first` and data block `at` of the file.
@@ -297,16 +296,16 @@ fn add_run(
     held: usize,
     old: usize,
     size: usize,
-    x: usize,
+    x: ByteOffset,
     bytes: &[u8],
-    first: u32,
+    first: DiskBlock,
     n: u32,
-    at: usize,
+    at: FileBlock,
 ) -> usize
-    requires { ⌜ Room (agenda (now blocks) (now tags) len) × (x + length (now bytes) ≤ 1048576) × (first < 131072) × (at + n ≤ 8192) × Outside held old size x (now bytes) w ⌝ }
-    ensures { λ q. ⌜ ((v : Disk) (i : ℕ) (c : Change) → Numbers c held old size → ((j : ℕ) → j < n → IsBlock c (at + j) (first + j))
-        → Lists (contentIn v i c x (now (bytes .entry))) (agenda (now (blocks .entry)) (now (tags .entry)) len) (ascending (dataStores v c x (now (bytes .entry)) (at + n)))
-        → Lists (contentIn v i c x (now (bytes .entry))) (agenda (now (blocks .exit)) (now (tags .exit)) q) (ascending (dataStores v c x (now (bytes .entry)) at))) × Room (agenda (now (blocks .exit)) (now (tags .exit)) q) ⌝ }
+    requires { ⌜ Room (agenda (now blocks) (now tags) len) × (x .0 + length (now bytes) ≤ 1048576) × (first .0 < 131072) × (at .0 + n ≤ 8192) × Outside held old size (x .0) (now bytes) w ⌝ }
+    ensures { λ q. ⌜ ((v : Disk) (i : ℕ) (c : Change) → Numbers c held old size → ((j : ℕ) → j < n → IsBlock c (at .0 + j) (first .0 + j))
+        → Lists (contentIn v i c (x .0) (now (bytes .entry))) (agenda (now (blocks .entry)) (now (tags .entry)) len) (ascending (dataStores v c (x .0) (now (bytes .entry)) (at .0 + n)))
+        → Lists (contentIn v i c (x .0) (now (bytes .entry))) (agenda (now (blocks .exit)) (now (tags .exit)) q) (ascending (dataStores v c (x .0) (now (bytes .entry)) (at .0)))) × Room (agenda (now (blocks .exit)) (now (tags .exit)) q) ⌝ }
 {
     let mut m = len;
     let mut j = n;
@@ -316,14 +315,25 @@ fn add_run(
             return m;
         }
         j -= 1;
-        let p = at + (j as usize);
-        if p < w.low {
+        let p = FileBlock(at.0 + (j as usize));
+        if p.0 < w.low.0 {
             return m;
         }
-        if (w.high <= p) & (p < held) {
+        if (w.high.0 <= p.0) & (p.0 < held) {
             j = down_to(w.high, at, j);
         } else {
-            m = add_place(blocks, tags, m, held, old, size, x, bytes, p, first + j);
+            m = add_place(
+                blocks,
+                tags,
+                m,
+                held,
+                old,
+                size,
+                x,
+                bytes,
+                p,
+                DiskBlock(first.0 + j),
+            );
         }
     }
     m
@@ -357,12 +367,12 @@ fn add_data<'a>(
     first: &'a [u32; Limits::MAX_EXTENTS],
     count: &'a [u32; Limits::MAX_EXTENTS],
     o: Outline,
-    x: usize,
+    x: ByteOffset,
     bytes: &[u8],
 ) -> usize
-    requires { ⌜ Room (agenda (now blocks) (now tags) 0) × (x + length (now bytes) ≤ 1048576) × Bounded ((changeOf (now table) (now first) (now count) o) .tree) ⌝ }
-    ensures { λ q. ⌜ ((v : Disk) (i : ℕ) → Lists (contentIn v i (changeOf (now (table .entry)) (now (first .entry)) (now (count .entry)) o) x (now (bytes .entry))) (agenda (now (blocks .exit)) (now (tags .exit)) q)
-        (ascending (dataStores v (changeOf (now (table .entry)) (now (first .entry)) (now (count .entry)) o) x (now (bytes .entry)) 0))) × Room (agenda (now (blocks .exit)) (now (tags .exit)) q) ⌝ }
+    requires { ⌜ Room (agenda (now blocks) (now tags) 0) × (x .0 + length (now bytes) ≤ 1048576) × Bounded ((changeOf (now table) (now first) (now count) o) .tree) ⌝ }
+    ensures { λ q. ⌜ ((v : Disk) (i : ℕ) → Lists (contentIn v i (changeOf (now (table .entry)) (now (first .entry)) (now (count .entry)) o) (x .0) (now (bytes .entry))) (agenda (now (blocks .exit)) (now (tags .exit)) q)
+        (ascending (dataStores v (changeOf (now (table .entry)) (now (first .entry)) (now (count .entry)) o) (x .0) (now (bytes .entry)) 0))) × Room (agenda (now (blocks .exit)) (now (tags .exit)) q) ⌝ }
 {
     let end = o.end;
     let w = window_of(o.held, o.old, o.size, x, bytes);
@@ -375,7 +385,7 @@ fn add_data<'a>(
         let n = count[k];
         let behind = at;
         at -= wide(n);
-        if (w.low < behind) & ((at < w.high) | (o.held < behind)) {
+        if (w.low.0 < behind) & ((at < w.high.0) | (o.held < behind)) {
             m = add_run(
                 blocks,
                 tags,
@@ -386,9 +396,9 @@ fn add_data<'a>(
                 o.size,
                 x,
                 bytes,
-                b,
+                DiskBlock(b),
                 n,
-                at,
+                FileBlock(at),
             );
         }
     }
@@ -396,11 +406,11 @@ fn add_data<'a>(
 }
 
 // The block of node j.
-fn node_at(node: [u32; 4], j: usize) -> u32
+fn node_at(node: [u32; 4], j: usize) -> DiskBlock
     requires { ⌜ j < 4 ⌝ }
-    ensures { λ b. ⌜ (b ≡ getD node j 0) × (length node ≡ 4) ⌝ }
+    ensures { λ b. ⌜ (b .0 ≡ getD node j 0) × (length node ≡ 4) ⌝ }
 {
-    node[j]
+    DiskBlock(node[j])
 }
 
 // Node j: one that was held only where its content changes.
@@ -411,20 +421,17 @@ fn add_node<'a>(
     blocks: &mut [u32; Limits::LOG_LENGTH],
     tags: &mut [u32; Limits::LOG_LENGTH],
     len: usize,
-    i: usize,
-    table: &'a [u8; Limits::BLOCK_SIZE],
     first: &'a [u32; Limits::MAX_EXTENTS],
     count: &'a [u32; Limits::MAX_EXTENTS],
     o: Outline,
-    x: usize,
-    bytes: &[u8],
     j: usize,
 ) -> usize
-    requires { ⌜ Room (agenda (now blocks) (now tags) len) × (x + length (now bytes) ≤ 1048576) × Bounded ((changeOf (now table) (now first) (now count) o) .tree) × (j < o .nodes)
-        × Lists (contentIn (viewIn (now staged) (now device) (now work)) i (changeOf (now table) (now first) (now count) o) x (now bytes)) (agenda (now blocks) (now tags) len)
-        (ascending (nodeStores (viewIn (now staged) (now device) (now work)) (changeOf (now table) (now first) (now count) o) x (now bytes) (j + 1))) × (length (now staged) ≤ 32) ⌝ }
-    ensures { λ q. ⌜ Lists (contentIn (viewIn (now (staged .entry)) (now (device .entry)) (now (work .entry))) i (changeOf (now (table .entry)) (now (first .entry)) (now (count .entry)) o) x (now (bytes .entry))) (agenda (now (blocks .exit)) (now (tags .exit)) q)
-        (ascending (nodeStores (viewIn (now (staged .entry)) (now (device .entry)) (now (work .entry))) (changeOf (now (table .entry)) (now (first .entry)) (now (count .entry)) o) x (now (bytes .entry)) j))
+    requires { ⌜ Room (agenda (now blocks) (now tags) len) × (o .end .len ≤ 512) × (o .nodes ≤ 4) × (j < o .nodes) × (length (now staged) ≤ 32) ⌝ }
+    ensures { λ q. ⌜ ((i : ℕ) (table : List ℕ) (x : ℕ) (bytes : List ℕ)
+        → Lists (contentIn (viewIn (now (staged .entry)) (now (device .entry)) (now (work .entry))) i (changeOf table (now (first .entry)) (now (count .entry)) o) x bytes) (agenda (now (blocks .entry)) (now (tags .entry)) len)
+        (ascending (nodeStores (viewIn (now (staged .entry)) (now (device .entry)) (now (work .entry))) (changeOf table (now (first .entry)) (now (count .entry)) o) x bytes (j + 1)))
+        → Lists (contentIn (viewIn (now (staged .entry)) (now (device .entry)) (now (work .entry))) i (changeOf table (now (first .entry)) (now (count .entry)) o) x bytes) (agenda (now (blocks .exit)) (now (tags .exit)) q)
+        (ascending (nodeStores (viewIn (now (staged .entry)) (now (device .entry)) (now (work .entry))) (changeOf table (now (first .entry)) (now (count .entry)) o) x bytes j)))
         × Room (agenda (now (blocks .exit)) (now (tags .exit)) q) ⌝ }
 {
     let node = o.node;
@@ -446,41 +453,23 @@ fn add_nodes<'a>(
     blocks: &mut [u32; Limits::LOG_LENGTH],
     tags: &mut [u32; Limits::LOG_LENGTH],
     len: usize,
-    i: usize,
-    table: &'a [u8; Limits::BLOCK_SIZE],
     first: &'a [u32; Limits::MAX_EXTENTS],
     count: &'a [u32; Limits::MAX_EXTENTS],
     o: Outline,
-    x: usize,
-    bytes: &[u8],
 ) -> usize
-    requires { ⌜ Room (agenda (now blocks) (now tags) len) × (x + length (now bytes) ≤ 1048576) × Bounded ((changeOf (now table) (now first) (now count) o) .tree)
-        × Lists (contentIn (viewIn (now staged) (now device) (now work)) i (changeOf (now table) (now first) (now count) o) x (now bytes)) (agenda (now blocks) (now tags) len)
-        (ascending (dataStores (viewIn (now staged) (now device) (now work)) (changeOf (now table) (now first) (now count) o) x (now bytes) 0)) × (length (now staged) ≤ 32) ⌝ }
-    ensures { λ q. ⌜ Lists (contentIn (viewIn (now (staged .entry)) (now (device .entry)) (now (work .entry))) i (changeOf (now (table .entry)) (now (first .entry)) (now (count .entry)) o) x (now (bytes .entry))) (agenda (now (blocks .exit)) (now (tags .exit)) q)
-        (ascending (nodeStores (viewIn (now (staged .entry)) (now (device .entry)) (now (work .entry))) (changeOf (now (table .entry)) (now (first .entry)) (now (count .entry)) o) x (now (bytes .entry)) 0))
+    requires { ⌜ Room (agenda (now blocks) (now tags) len) × (o .end .len ≤ 512) × (o .nodes ≤ 4) × (length (now staged) ≤ 32) ⌝ }
+    ensures { λ q. ⌜ ((i : ℕ) (table : List ℕ) (x : ℕ) (bytes : List ℕ)
+        → Lists (contentIn (viewIn (now (staged .entry)) (now (device .entry)) (now (work .entry))) i (changeOf table (now (first .entry)) (now (count .entry)) o) x bytes) (agenda (now (blocks .entry)) (now (tags .entry)) len)
+        (ascending (dataStores (viewIn (now (staged .entry)) (now (device .entry)) (now (work .entry))) (changeOf table (now (first .entry)) (now (count .entry)) o) x bytes 0))
+        → Lists (contentIn (viewIn (now (staged .entry)) (now (device .entry)) (now (work .entry))) i (changeOf table (now (first .entry)) (now (count .entry)) o) x bytes) (agenda (now (blocks .exit)) (now (tags .exit)) q)
+        (ascending (nodeStores (viewIn (now (staged .entry)) (now (device .entry)) (now (work .entry))) (changeOf table (now (first .entry)) (now (count .entry)) o) x bytes 0)))
         × Room (agenda (now (blocks .exit)) (now (tags .exit)) q) ⌝ }
 {
     let mut m = len;
     let mut j = o.nodes;
     while 0 < j {
         j -= 1;
-        m = add_node(
-            device,
-            work,
-            staged,
-            blocks,
-            tags,
-            m,
-            i,
-            table,
-            first,
-            count,
-            o,
-            x,
-            bytes,
-            j,
-        );
+        m = add_node(device, work, staged, blocks, tags, m, first, count, o, j);
     }
     m
 }
@@ -497,29 +486,15 @@ fn agenda_of<'a>(
     first: &'a [u32; Limits::MAX_EXTENTS],
     count: &'a [u32; Limits::MAX_EXTENTS],
     o: Outline,
-    x: usize,
+    x: ByteOffset,
     bytes: &[u8],
 ) -> usize
-    requires { ⌜ Room (agenda (now blocks) (now tags) 0) × (i < 128) × (x + length (now bytes) ≤ 1048576) × Bounded ((changeOf (now table) (now first) (now count) o) .tree) × (length (now staged) ≤ 32) ⌝ }
-    ensures { λ q. ⌜ Lists (contentIn (viewIn (now (staged .entry)) (now (device .entry)) (now (work .entry))) i (changeOf (now (table .entry)) (now (first .entry)) (now (count .entry)) o) x (now (bytes .entry))) (agenda (now (blocks .exit)) (now (tags .exit)) q)
-        (ascending (changeStores (viewIn (now (staged .entry)) (now (device .entry)) (now (work .entry))) i (changeOf (now (table .entry)) (now (first .entry)) (now (count .entry)) o) x (now (bytes .entry)))) × Room (agenda (now (blocks .exit)) (now (tags .exit)) q) ⌝ }
+    requires { ⌜ Room (agenda (now blocks) (now tags) 0) × (i < 128) × (x .0 + length (now bytes) ≤ 1048576) × Bounded ((changeOf (now table) (now first) (now count) o) .tree) × (length (now staged) ≤ 32) ⌝ }
+    ensures { λ q. ⌜ Lists (contentIn (viewIn (now (staged .entry)) (now (device .entry)) (now (work .entry))) i (changeOf (now (table .entry)) (now (first .entry)) (now (count .entry)) o) (x .0) (now (bytes .entry))) (agenda (now (blocks .exit)) (now (tags .exit)) q)
+        (ascending (changeStores (viewIn (now (staged .entry)) (now (device .entry)) (now (work .entry))) i (changeOf (now (table .entry)) (now (first .entry)) (now (count .entry)) o) (x .0) (now (bytes .entry)))) × Room (agenda (now (blocks .exit)) (now (tags .exit)) q) ⌝ }
 {
     let data = add_data(blocks, tags, table, first, count, o, x, bytes);
-    let nodes = add_nodes(
-        device,
-        work,
-        staged,
-        blocks,
-        tags,
-        data,
-        i,
-        table,
-        first,
-        count,
-        o,
-        x,
-        bytes,
-    );
+    let nodes = add_nodes(device, work, staged, blocks, tags, data, first, count, o);
     let new = o.bytes;
     let record = add_record(device, work, staged, blocks, tags, nodes, i, new);
     add_block(
@@ -529,7 +504,7 @@ fn agenda_of<'a>(
         blocks,
         tags,
         record,
-        Limits::BITMAP_BLOCK,
+        DiskBlock(Limits::BITMAP_BLOCK),
         BITMAP,
         table,
     )
@@ -588,26 +563,26 @@ fn stage_block<'a>(
     first: &'a [u32; Limits::MAX_EXTENTS],
     count: &'a [u32; Limits::MAX_EXTENTS],
     o: Outline,
-    x: usize,
+    x: ByteOffset,
     bytes: &[u8],
-    b: u32,
+    b: DiskBlock,
     tag: u32,
 ) -> usize
-    requires { ⌜ (length (now work) ≡ 16384) × (length (now cells) ≡ 32) × (spot (take many (now cells)) b < 32) × (o .end .len ≤ 512) × (x + length (now bytes) ≤ 1048576) ⌝ }
+    requires { ⌜ (length (now work) ≡ 16384) × (length (now cells) ≡ 32) × (spot (take many (now cells)) (b .0) < 32) × (o .end .len ≤ 512) × (x .0 + length (now bytes) ≤ 1048576) ⌝ }
     ensures { λ q. ⌜ ((N : ℕ) (p : Phase) → stateOf (sessionOf N p (now (cells .exit)) q) (now (device .entry)) (now (work .exit))
         ≡ withStaging (stateOf (sessionOf N p (now (cells .entry)) many) (now (device .entry)) (now (work .entry))) (stage (stagedOf (stateOf (sessionOf N p (now (cells .entry)) many) (now (device .entry)) (now (work .entry))))
-        (put b (contentOf i (changeOf (now (table .entry)) (now (first .entry)) (now (count .entry)) o) x (now (bytes .entry)) tag
-        (view (stateOf (sessionOf N p (now (cells .entry)) many) (now (device .entry)) (now (work .entry))) b))))) × (length (now (cells .exit)) ≡ 32) ⌝ }
+        (put (b .0) (contentOf i (changeOf (now (table .entry)) (now (first .entry)) (now (count .entry)) o) (x .0) (now (bytes .entry)) tag
+        (view (stateOf (sessionOf N p (now (cells .entry)) many) (now (device .entry)) (now (work .entry))) (b .0)))))) × (length (now (cells .exit)) ≡ 32) ⌝ }
 {
     let n = staged_in(many);
     let l: &[u32] = cells;
     let staged = &l[0..n];
-    let k = spot(staged, DiskBlock(b));
-    ready_image(device, work, staged, DiskBlock(b), k, o.held, tag);
+    let k = spot(staged, b);
+    ready_image(device, work, staged, b, k, o.held, tag);
     let at = Limits::BLOCK_SIZE * k;
     let end = at + Limits::BLOCK_SIZE;
     edit_block(&mut work[at..end], i, table, first, count, o, x, bytes, tag);
-    with_block(cells, many, DiskBlock(b), k)
+    with_block(cells, many, b, k)
 }
 
 // The block of record i staged at its place k with these as the first bytes of the record.
@@ -629,11 +604,11 @@ pub fn stage_record(
     let l: &[u32] = cells;
     let staged = &l[0..n];
     let b = table_block(i);
-    load_image(device, work, staged, DiskBlock(b), k);
+    load_image(device, work, staged, b, k);
     let at = Limits::BLOCK_SIZE * k;
     let end = at + Limits::BLOCK_SIZE;
     lay_record(&mut work[at..end], i, new);
-    with_block(cells, many, DiskBlock(b), k)
+    with_block(cells, many, b, k)
 }
 
 // The agenda staged, block by block.
@@ -650,14 +625,14 @@ fn stage_all<'a>(
     first: &'a [u32; Limits::MAX_EXTENTS],
     count: &'a [u32; Limits::MAX_EXTENTS],
     o: Outline,
-    x: usize,
+    x: ByteOffset,
     bytes: &[u8],
 ) -> usize
-    requires { ⌜ (n ≤ 32) × (length (now work) ≡ 16384) × (length (now cells) ≡ 32) × (o .end .len ≤ 512) × (x + length (now bytes) ≤ 1048576) × (length (now blocks) ≡ 32) × (length (now tags) ≡ 32)
-        × ((N : ℕ) (p : Phase) → Stages i (changeOf (now table) (now first) (now count) o) x (now bytes) (stateOf (sessionOf N p (now cells) many) (now device) (now work)) (take n (now blocks)) (take n (now tags))) ⌝ }
+    requires { ⌜ (n ≤ 32) × (length (now work) ≡ 16384) × (length (now cells) ≡ 32) × (o .end .len ≤ 512) × (x .0 + length (now bytes) ≤ 1048576) × (length (now blocks) ≡ 32) × (length (now tags) ≡ 32)
+        × ((N : ℕ) (p : Phase) → Stages i (changeOf (now table) (now first) (now count) o) (x .0) (now bytes) (stateOf (sessionOf N p (now cells) many) (now device) (now work)) (take n (now blocks)) (take n (now tags))) ⌝ }
     ensures { λ q. ⌜ ((N : ℕ) (p : Phase) → stateOf (sessionOf N p (now (cells .exit)) q) (now (device .entry)) (now (work .exit))
         ≡ withStaging (stateOf (sessionOf N p (now (cells .entry)) many) (now (device .entry)) (now (work .entry))) (stageEach (stagedOf (stateOf (sessionOf N p (now (cells .entry)) many) (now (device .entry)) (now (work .entry))))
-        (storesBy (contentIn (view (stateOf (sessionOf N p (now (cells .entry)) many) (now (device .entry)) (now (work .entry)))) i (changeOf (now (table .entry)) (now (first .entry)) (now (count .entry)) o) x (now (bytes .entry))) (take n (now (blocks .entry))) (take n (now (tags .entry)))))) ⌝ }
+        (storesBy (contentIn (view (stateOf (sessionOf N p (now (cells .entry)) many) (now (device .entry)) (now (work .entry)))) i (changeOf (now (table .entry)) (now (first .entry)) (now (count .entry)) o) (x .0) (now (bytes .entry))) (take n (now (blocks .entry))) (take n (now (tags .entry)))))) ⌝ }
 {
     let mut m = many;
     let mut k: usize = 0;
@@ -675,7 +650,7 @@ fn stage_all<'a>(
             o,
             x,
             bytes,
-            b,
+            DiskBlock(b),
             tags[k],
         );
         k += 1;
@@ -694,15 +669,15 @@ pub fn apply<'a>(
     first: &'a [u32; Limits::MAX_EXTENTS],
     count: &'a [u32; Limits::MAX_EXTENTS],
     o: Outline,
-    x: usize,
+    x: ByteOffset,
     bytes: &[u8],
 ) -> Changed
-    requires { ⌜ (i < 128) × (length (now work) ≡ 16384) × (length (now cells) ≡ 32) × Bounded (changeOf (now table) (now first) (now count) o .tree) × (x + length (now bytes) ≤ 1048576)
+    requires { ⌜ (i < 128) × (length (now work) ≡ 16384) × (length (now cells) ≡ 32) × Bounded (changeOf (now table) (now first) (now count) o .tree) × (x .0 + length (now bytes) ≤ 1048576)
         × (o .old < 4294967296) × (o .size < 4294967296) ⌝ }
     ensures { λ r. ⌜ ((N : ℕ) (p : Phase) → left (sessionOf N p (now (cells .exit)) (r .count)) (now (device .entry)) (now (work .exit)) (doneOf (r .answer))
         ≡ settle (outcome (stateOf (sessionOf N p (now (cells .entry)) many) (now (device .entry)) (now (work .entry))))
         (staging (stateOf (sessionOf N p (now (cells .entry)) many) (now (device .entry)) (now (work .entry)))
-        (changeStores (view (stateOf (sessionOf N p (now (cells .entry)) many) (now (device .entry)) (now (work .entry)))) i (changeOf (now (table .entry)) (now (first .entry)) (now (count .entry)) o) x (now (bytes .entry))))) ⌝ }
+        (changeStores (view (stateOf (sessionOf N p (now (cells .entry)) many) (now (device .entry)) (now (work .entry)))) i (changeOf (now (table .entry)) (now (first .entry)) (now (count .entry)) o) (x .0) (now (bytes .entry))))) ⌝ }
 {
     let l: &[u32] = cells;
     let staged = &l[0..staged_in(many)];

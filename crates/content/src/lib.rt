@@ -1,7 +1,10 @@
 // The content of a block after a change: a file record's block, a node, a data block.
 use block::copy;
+use block::place_in_block;
 use runs::End;
+use spec::ByteOffset;
 use spec::Extent;
+use spec::FileBlock;
 use spec::Limits;
 ghost use mathlib.Core.Path.{_≡_};
 ghost use mathlib.Core.Bool.{_&&_};
@@ -22,7 +25,7 @@ pub fn lay_record(block: &mut [u8], i: usize, new: &[u8])
     requires { ⌜ (length (now block) ≡ 512) × (length (now new) ≤ 32) ⌝ }
     ensures { λ _. ⌜ now (block .exit) ≡ withRecord i (now (new .entry)) (now (block .entry)) ⌝ }
 {
-    let at = Limits::INODE_SIZE * (i % Limits::INODES_PER_BLOCK);
+    let at = place_in_block(i);
     let mut k: usize = 0;
     while k < new.len() {
         block[at + k] = new[k];
@@ -237,64 +240,71 @@ pub fn record_bytes<'a>(
 }
 
 // Where a place of the file lies in the block that begins at `start`: at most at its end.
-fn within(start: usize, at: usize) -> usize
-    ensures { λ r. ⌜ r ≡ min 512 (at - start) ⌝ }
+fn within(start: ByteOffset, at: ByteOffset) -> usize
+    ensures { λ r. ⌜ r ≡ min 512 (at .0 - start .0) ⌝ }
 {
-    if at <= start {
+    if at.0 <= start.0 {
         return 0;
     }
-    if Limits::BLOCK_SIZE < at - start {
+    if Limits::BLOCK_SIZE < at.0 - start.0 {
         return Limits::BLOCK_SIZE;
     }
-    at - start
+    at.0 - start.0
 }
 
 // The data from place x of the file on, laid over the file's block p.
-fn lay_over(block: &mut [u8], x: usize, bytes: &[u8], p: usize)
-    requires { ⌜ (length (now block) ≡ 512) × (p < 4294967296) × (x + length (now bytes) ≤ 1048576) ⌝ }
-    ensures { λ _. ⌜ now (block .exit) ≡ laidOver x (now (bytes .entry)) p (now (block .entry)) ⌝ }
+fn lay_over(block: &mut [u8], x: ByteOffset, bytes: &[u8], p: FileBlock)
+    requires { ⌜ (length (now block) ≡ 512) × (p .0 < 4294967296) × (x .0 + length (now bytes) ≤ 1048576) ⌝ }
+    ensures { λ _. ⌜ now (block .exit) ≡ laidOver (x .0) (now (bytes .entry)) (p .0) (now (block .entry)) ⌝ }
 {
-    let start = Limits::BLOCK_SIZE * p;
+    let start = ByteOffset(Limits::BLOCK_SIZE * p.0);
     let from = within(start, x);
-    let end = within(start, x + bytes.len());
+    let end = within(start, ByteOffset(x.0 + bytes.len()));
     if from < end {
-        let a = start + from - x;
-        let b = start + end - x;
+        let a = start.0 + from - x.0;
+        let b = start.0 + end - x.0;
         copy(&bytes[a..b], &mut block[from..end]);
     }
 }
 
 // Whether the data covers the whole of the file's block p.
-fn is_covered(x: usize, bytes: &[u8], p: usize) -> bool
-    requires { ⌜ (p < 4294967296) × (x + length (now bytes) ≤ 1048576) ⌝ }
-    ensures { λ r. ⌜ r ≡ leb x (512 * p) && leb (512 * p + 512) (x + length (now (bytes .entry))) ⌝ }
+fn is_covered(x: ByteOffset, bytes: &[u8], p: FileBlock) -> bool
+    requires { ⌜ (p .0 < 4294967296) × (x .0 + length (now bytes) ≤ 1048576) ⌝ }
+    ensures { λ r. ⌜ r ≡ leb (x .0) (512 * p .0) && leb (512 * p .0 + 512) (x .0 + length (now (bytes .entry))) ⌝ }
 {
-    let start = Limits::BLOCK_SIZE * p;
-    (x <= start) & (start + Limits::BLOCK_SIZE <= x + bytes.len())
+    let start = Limits::BLOCK_SIZE * p.0;
+    (x.0 <= start) & (start + Limits::BLOCK_SIZE <= x.0 + bytes.len())
 }
 
 // "on shortening to a size not divisible by 512, the last kept block"
-fn is_last_kept(was: usize, size: usize, p: usize) -> bool
-    ensures { λ r. ⌜ r ≡ isLastKept was size p ⌝ }
+fn is_last_kept(was: usize, size: usize, p: FileBlock) -> bool
+    ensures { λ r. ⌜ r ≡ isLastKept was size (p .0) ⌝ }
 {
-    (size < was) & !(size % Limits::BLOCK_SIZE == 0) & (p == size / Limits::BLOCK_SIZE)
+    (size < was) & !(size % Limits::BLOCK_SIZE == 0) & (p.0 == size / Limits::BLOCK_SIZE)
 }
 
 // "each data block holding a byte of the data"
-fn holds_data(x: usize, bytes: &[u8], p: usize) -> bool
-    requires { ⌜ (p < 4294967296) × (x + length (now bytes) ≤ 1048576) ⌝ }
-    ensures { λ r. ⌜ r ≡ holdsData x (now (bytes .entry)) p ⌝ }
+fn holds_data(x: ByteOffset, bytes: &[u8], p: FileBlock) -> bool
+    requires { ⌜ (p .0 < 4294967296) × (x .0 + length (now bytes) ≤ 1048576) ⌝ }
+    ensures { λ r. ⌜ r ≡ holdsData (x .0) (now (bytes .entry)) (p .0) ⌝ }
 {
     let n = bytes.len();
-    (0 < n) & (x < Limits::BLOCK_SIZE * (p + 1)) & (Limits::BLOCK_SIZE * p < x + n)
+    (0 < n) & (x.0 < Limits::BLOCK_SIZE * (p.0 + 1)) & (Limits::BLOCK_SIZE * p.0 < x.0 + n)
 }
 
 // "each data block holding a byte of the data; each new data .. block; .. the last kept block"
-pub fn is_staged(held: usize, was: usize, size: usize, x: usize, bytes: &[u8], p: usize) -> bool
-    requires { ⌜ (p < 4294967296) × (x + length (now bytes) ≤ 1048576) ⌝ }
-    ensures { λ r. ⌜ r ≡ isStaged held was size x (now (bytes .entry)) p ⌝ }
+pub fn is_staged(
+    held: usize,
+    was: usize,
+    size: usize,
+    x: ByteOffset,
+    bytes: &[u8],
+    p: FileBlock,
+) -> bool
+    requires { ⌜ (p .0 < 4294967296) × (x .0 + length (now bytes) ≤ 1048576) ⌝ }
+    ensures { λ r. ⌜ r ≡ isStaged held was size (x .0) (now (bytes .entry)) (p .0) ⌝ }
 {
-    (held <= p) | holds_data(x, bytes, p) | is_last_kept(was, size, p)
+    (held <= p.0) | holds_data(x, bytes, p) | is_last_kept(was, size, p)
 }
 
 // The bytes of a block from place n on made zero.
@@ -310,11 +320,11 @@ fn clear_from(block: &mut [u8], n: usize)
 }
 
 // Block p of the file before the data is laid over it: a new one is zeros, in the last kept one the bytes from the size on are.
-fn clear_block(block: &mut [u8], held: usize, was: usize, size: usize, p: usize)
+fn clear_block(block: &mut [u8], held: usize, was: usize, size: usize, p: FileBlock)
     requires { ⌜ length (now block) ≡ 512 ⌝ }
-    ensures { λ _. ⌜ now (block .exit) ≡ keptContent held was size p (now (block .entry)) ⌝ }
+    ensures { λ _. ⌜ now (block .exit) ≡ keptContent held was size (p .0) (now (block .entry)) ⌝ }
 {
-    if held <= p {
+    if held <= p.0 {
         clear_from(block, 0);
         return;
     }
@@ -329,12 +339,12 @@ pub fn lay_data(
     held: usize,
     was: usize,
     size: usize,
-    x: usize,
+    x: ByteOffset,
     bytes: &[u8],
-    p: usize,
+    p: FileBlock,
 )
-    requires { ⌜ (length (now block) ≡ 512) × (p < 4294967296) × (x + length (now bytes) ≤ 1048576) ⌝ }
-    ensures { λ _. ⌜ now (block .exit) ≡ dataContent held was size x (now (bytes .entry)) p (now (block .entry)) ⌝ }
+    requires { ⌜ (length (now block) ≡ 512) × (p .0 < 4294967296) × (x .0 + length (now bytes) ≤ 1048576) ⌝ }
+    ensures { λ _. ⌜ now (block .exit) ≡ dataContent held was size (x .0) (now (bytes .entry)) (p .0) (now (block .entry)) ⌝ }
 {
     if !is_covered(x, bytes, p) {
         clear_block(block, held, was, size, p);

@@ -1,4 +1,5 @@
 // A file's extents in two columns.
+use spec::DiskBlock;
 use spec::Limits;
 ghost use mathlib.Core.Path.{_≡_};
 ghost use Prim.Native.Nat.{_+_, _<_};
@@ -16,16 +17,16 @@ pub fn push(
     first: &mut [u32; Limits::MAX_EXTENTS],
     count: &mut [u32; Limits::MAX_EXTENTS],
     end: End,
-    b: u32,
+    b: DiskBlock,
     c: u32,
 ) -> End
     requires { ⌜ (lastCount (columns (now first) (now count) end) + c < 4294967296) × (end .len < 1000000) × (end .next < 1000000000000)
         × (length (now first) ≡ 512) × (length (now count) ≡ 512) ⌝ }
-    ensures { λ q. ⌜ Pushed (columns (now (first .entry)) (now (count .entry)) end) b c (columns (now (first .exit)) (now (count .exit)) q) ⌝ }
+    ensures { λ q. ⌜ Pushed (columns (now (first .entry)) (now (count .entry)) end) (b .0) c (columns (now (first .exit)) (now (count .exit)) q) ⌝ }
 {
     let at = end.len;
     let next = end.next;
-    if 0 < at && next == (b as usize) {
+    if 0 < at && next == (b.0 as usize) {
         let then = End {
             len: at,
             next: next + (c as usize),
@@ -40,10 +41,10 @@ pub fn push(
     }
     let then = End {
         len: at + 1,
-        next: (b as usize) + (c as usize),
+        next: (b.0 as usize) + (c as usize),
     };
     if at < Limits::MAX_EXTENTS {
-        first[at] = b;
+        first[at] = b.0;
         count[at] = c;
         return then;
     }

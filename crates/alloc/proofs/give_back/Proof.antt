@@ -15,10 +15,10 @@ use Rattle.alloc.proofs.give_back.Statement.{statement}
 use Rattle.alloc.proofs.give_back.Tie as tie
 
 abbrev Inv-loop : tie.InvT-loop
-Inv-loop t₀ device work staged i from kept table scan₀ block₀ count₀ t scan block count = Passed (viewIn staged device work) (blockOfInode i) (take 2048 (drop from (dataAt (viewIn staged device work) i))) scan count × (bitsOf t ≡ mark 0 (take count (take 2048 (drop from (dataAt (viewIn staged device work) i)))) (bitsOf t₀)) × (exactly 512 block ≡ viewIn staged device work (scan .at .block)) × (length block ≤ 512)
+Inv-loop t₀ device work staged i kept at table scan₀ block₀ count₀ t scan block count = Passed (viewIn staged device work) (blockOfInode i) (take 2048 (drop at (dataAt (viewIn staged device work) i))) scan count × (bitsOf t ≡ mark 0 (take count (take 2048 (drop at (dataAt (viewIn staged device work) i)))) (bitsOf t₀)) × (exactly 512 block ≡ viewIn staged device work (scan .at .block)) × (length block ≤ 512)
 
 abbrev μ-loop : tie.MeasureT-loop
-μ-loop t₀ device work staged i from kept table scan₀ block₀ count₀ t scan block count = weight (scan .at)
+μ-loop t₀ device work staged i kept at table scan₀ block₀ count₀ t scan block count = weight (scan .at)
 
 returns : tie.Need-returns Inv-loop μ-loop
 returns c = back-none _ _ _ (search needs) (c .if1 .taken) _
@@ -92,10 +92,10 @@ enum-told-2 : tie.Need-enum-told-2 Inv-loop μ-loop
 enum-told-2 c = search needs
 
 returns-2 : tie.Need-returns-2 Inv-loop μ-loop
-returns-2 c = let a = c .before .before .before .before .before .before .before .before .before .before .before .before .before .before .before .args in let v = viewIn (a .staged .now) (a .device .now) (a .work .now) in let tb = blockOfInode (a .i) in let i = c .before .before .before .before .before .before .before .before .loop .inv in let u = on-slot-unused v tb _ _ (c .before .before .before .before .before .take-slot .ensures v tb (i .2)) (c .before .before .before .enum-told .given .1) in back-end v tb (a .i) (a .from) _ _ (i .0) (on-node-none v tb _ _ (c .before .before .take-node .ensures v tb (c .before .before .before .before .before .before .before .before .before .before .inode-block-in .ensures .0) u) (c .enum-told2 .given .1)) (a .t .now) _ (i .1)
+returns-2 c = let a = c .before .before .before .before .before .before .before .before .before .before .before .before .before .before .before .args in let v = viewIn (a .staged .now) (a .device .now) (a .work .now) in let tb = blockOfInode (a .i) in let i = c .before .before .before .before .before .before .before .before .loop .inv in let u = on-slot-unused v tb _ _ (c .before .before .before .before .before .take-slot .ensures v tb (i .2)) (c .before .before .before .enum-told .given .1) in back-end v tb (a .i) (a .from .0) _ _ (i .0) (on-node-none v tb _ _ (c .before .before .take-node .ensures v tb (c .before .before .before .before .before .before .before .before .before .before .inode-block-in .ensures .0) u) (c .enum-told2 .given .1)) (a .t .now) _ (i .1)
 
 returns-3 : tie.Need-returns-3 Inv-loop μ-loop
-returns-3 c = let a = c .before .before .before .before .before .before .before .before .before .args in let v = viewIn (a .staged .now) (a .device .now) (a .work .now) in let tb = blockOfInode (a .i) in let i = c .before .before .loop .inv in back-end v tb (a .i) (a .from) _ _ (i .0) (no-room v tb _ (omega arith)) (a .t .now) _ (i .1)
+returns-3 c = let a = c .before .before .before .before .before .before .before .before .before .args in let v = viewIn (a .staged .now) (a .device .now) (a .work .now) in let tb = blockOfInode (a .i) in let i = c .before .before .loop .inv in back-end v tb (a .i) (a .from .0) _ _ (i .0) (no-room v tb _ (omega arith)) (a .t .now) _ (i .1)
 
 pub give-back-spec : {M : Type 1} → statement M
 give-back-spec = tie.close (tie.spec Inv-loop μ-loop returns inode-block-in-requires stretch-at-requires loop-holds take-slot-requires enum-known-e release-run-requires cast-count add-count loop-less loop-again enum-known-then pass-slots-requires loop-less-2 loop-again-2 enum-told take-node-requires enum-known-b view-in-requires loop-less-3 loop-again-3 enum-told-2 returns-2 returns-3)

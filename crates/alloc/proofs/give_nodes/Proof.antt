@@ -18,11 +18,11 @@ abbrev μ-loop : tie.MeasureT-loop
 loop-holds : tie.Need-loop-holds Inv-loop μ-loop
 loop-holds c = record { low = omega arith; bits = refl }
 
-mul-release : tie.Need-mul-release Inv-loop μ-loop
-mul-release c = search needs
+mul-t9 : tie.Need-mul-t9 Inv-loop μ-loop
+mul-t9 c = search needs
 
-array-read-release : tie.Need-array-read-release Inv-loop μ-loop
-array-read-release c = omega (arith, c .before .if1 .taken, c .before .before .before .before .before .pre)
+array-read-t12 : tie.Need-array-read-t12 Inv-loop μ-loop
+array-read-t12 c = omega (arith, c .before .if1 .taken, c .before .before .before .before .before .pre)
 
 release-requires : tie.Need-release-requires Inv-loop μ-loop
 release-requires c κs = search needs
@@ -49,8 +49,8 @@ give-nodes-spec =
     Inv-loop
     μ-loop
     loop-holds
-    mul-release
-    array-read-release
+    mul-t9
+    array-read-t12
     release-requires
     add-k
     loop-less

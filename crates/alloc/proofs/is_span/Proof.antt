@@ -14,7 +14,7 @@ returns-2 : tie.Need-returns-2
 returns-2 c = λ q. absurd (false≢true q)
 
 returns-3 : tie.Need-returns-3
-returns-3 c = λ q. (c .before .if1 .left, c .if2 .left, ltb-true _ _ q)
+returns-3 c = λ q. (c .before .before .if1 .left, c .before .if2 .left, ltb-true _ _ q)
 
 pub is-span-spec : {M : Type 1} → statement M
 is-span-spec = tie.close (tie.spec rem-if1 returns returns-2 returns-3)

@@ -13,7 +13,7 @@ returns : tie.Need-returns
 returns c = search needs
 
 returns-2 : tie.Need-returns-2
-returns-2 c = past-table _ _ (c .before .known .ensures) (c .if1 .left)
+returns-2 c = past-table _ _ (c .before .before .known .ensures) (c .if1 .left)
 
 pub release-spec : {M : Type 1} → statement M
 release-spec = tie.close (tie.spec known-requires clear-bit-requires returns returns-2)

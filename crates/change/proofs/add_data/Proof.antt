@@ -17,7 +17,7 @@ use Rattle.change.proofs.add_data.Statement.{statement}
 use Rattle.change.proofs.add_data.Tie as tie
 
 abbrev Inv-loop : tie.InvT-loop
-Inv-loop blocks₀ tags₀ table first count o x bytes w m₀ k₀ at₀ blocks tags m k at = (k ≤ o .end .len) × (o .end .len ≤ 512) × Room (agenda blocks tags m) × (at ≡ placeOf (columns first count (o .end)) k) × ((v : Disk) (i : ℕ) → Lists (contentIn v i (changeOf table first count o) x bytes) (agenda blocks tags m) (ascending (dataStores v (changeOf table first count o) x bytes at)))
+Inv-loop blocks₀ tags₀ table first count o x bytes w m₀ k₀ at₀ blocks tags m k at = (k ≤ o .end .len) × (o .end .len ≤ 512) × Room (agenda blocks tags m) × (at ≡ placeOf (columns first count (o .end)) k) × ((v : Disk) (i : ℕ) → Lists (contentIn v i (changeOf table first count o) (x .0) bytes) (agenda blocks tags m) (ascending (dataStores v (changeOf table first count o) (x .0) bytes at)))
 
 abbrev μ-loop : tie.MeasureT-loop
 μ-loop blocks₀ tags₀ table first count o x bytes w m₀ k₀ at₀ blocks tags m k at = k
@@ -29,7 +29,7 @@ total-requires : tie.Need-total-requires Inv-loop μ-loop
 total-requires c κs = let a = c .before .before .before .args in (c .before .before .before .pre .2 .extents, omega (arith, c .before .before .before .pre .2 .blocks, counts-columns [] (a .first .now) (a .count .now) (a .o .end)))
 
 loop-holds : tie.Need-loop-holds Inv-loop μ-loop
-loop-holds c = let a = c .before .before .before .before .args in let r = columns (a .first .now) (a .count .now) (a .o .end) in let e = c .total .ensures ∙ place-columns [] (a .first .now) (a .count .now) (a .o .end) (a .o .end .len) in (omega arith, c .before .before .before .before .pre .2 .extents, c .before .before .before .before .pre .0, e, λ v i. data-start v i (changeOf (a .table .now) (a .first .now) (a .count .now) (a .o)) (a .x) (a .bytes .now) _ _ (all-blocks r _ e) (nothing-lists _ _ _))
+loop-holds c = let a = c .before .before .before .before .args in let r = columns (a .first .now) (a .count .now) (a .o .end) in let e = c .total .ensures ∙ place-columns [] (a .first .now) (a .count .now) (a .o .end) (a .o .end .len) in (omega arith, c .before .before .before .before .pre .2 .extents, c .before .before .before .before .pre .0, e, λ v i. data-start v i (changeOf (a .table .now) (a .first .now) (a .count .now) (a .o)) (a .x .0) (a .bytes .now) _ _ (all-blocks r _ e) (nothing-lists _ _ _))
 
 sub-k : tie.Need-sub-k Inv-loop μ-loop
 sub-k c = omega arith
@@ -59,16 +59,16 @@ loop-less : tie.Need-loop-less Inv-loop μ-loop
 loop-less c = omega arith
 
 loop-again : tie.Need-loop-again Inv-loop μ-loop
-loop-again c = let a = c .before .before .before .before .before .before .before .before .before .before .before .before .before .before .before .before .args in let r = columns (a .first .now) (a .count .now) (a .o .end) in let lp = c .before .before .before .before .before .before .before .before .before .before .before .loop in let z : lp .k ≡ lp .k - 1 + 1 = omega (arith, c .before .before .before .before .before .before .before .before .before .before .loop-test .taken) in let h : lp .k - 1 < a .o .end .len = omega (arith, lp .inv .0, c .before .before .before .before .before .before .before .before .before .before .loop-test .taken) in let w = c .before .before .before .before .before .before .before .wide .ensures .0 in let b = place-back r _ _ _ _ (lp .inv .3) z w in (omega arith, lp .inv .1, c .add-run .ensures .1, b, λ v i. c .add-run .ensures .0 v i (changeOf (a .table .now) (a .first .now) (a .count .now) (a .o)) (refl, refl, refl) (λ j l. (run-inside r (lp .k - 1) h _ _ refl b j l, run-block r (lp .k - 1) h _ _ refl b j l)) (data-cast v i (changeOf (a .table .now) (a .first .now) (a .count .now) (a .o)) (a .x) (a .bytes .now) _ _ _ (place-split r _ _ _ _ (lp .inv .3) z w) (lp .inv .4 v i)))
+loop-again c = let a = c .before .before .before .before .before .before .before .before .before .before .before .before .before .before .before .before .args in let r = columns (a .first .now) (a .count .now) (a .o .end) in let lp = c .before .before .before .before .before .before .before .before .before .before .before .loop in let z : lp .k ≡ lp .k - 1 + 1 = omega (arith, c .before .before .before .before .before .before .before .before .before .before .loop-test .taken) in let h : lp .k - 1 < a .o .end .len = omega (arith, lp .inv .0, c .before .before .before .before .before .before .before .before .before .before .loop-test .taken) in let w = c .before .before .before .before .before .before .before .wide .ensures .0 in let b = place-back r _ _ _ _ (lp .inv .3) z w in (omega arith, lp .inv .1, c .add-run .ensures .1, b, λ v i. c .add-run .ensures .0 v i (changeOf (a .table .now) (a .first .now) (a .count .now) (a .o)) (refl, refl, refl) (λ j l. (run-inside r (lp .k - 1) h _ _ refl b j l, run-block r (lp .k - 1) h _ _ refl b j l)) (data-cast v i (changeOf (a .table .now) (a .first .now) (a .count .now) (a .o)) (a .x .0) (a .bytes .now) _ _ _ (place-split r _ _ _ _ (lp .inv .3) z w) (lp .inv .4 v i)))
 
 loop-less-2 : tie.Need-loop-less-2 Inv-loop μ-loop
 loop-less-2 c = omega arith
 
 loop-again-2 : tie.Need-loop-again-2 Inv-loop μ-loop
-loop-again-2 c = let a = c .before .before .before .before .before .before .before .before .before .before .before .before .before .args in let r = columns (a .first .now) (a .count .now) (a .o .end) in let lp = c .before .before .before .before .before .before .before .before .loop in let z : lp .k ≡ lp .k - 1 + 1 = omega (arith, c .before .before .before .before .before .before .before .loop-test .taken) in let w = c .before .before .before .before .wide .ensures .0 in (omega arith, lp .inv .1, lp .inv .2, place-back r _ _ _ _ (lp .inv .3) z w, λ v i. run-gap v i (changeOf (a .table .now) (a .first .now) (a .count .now) (a .o)) (a .x) (a .bytes .now) (a .o .held) (a .o .old) (a .o .size) (refl, refl, refl) _ _ (lp .at) (omega arith) (clear-run (a .o .held) (a .o .old) (a .o .size) (a .x) (a .bytes .now) _ _ _ (c .before .before .before .before .before .before .before .before .before .before .window-of .ensures) (c .if1 .left)) (lp .inv .4 v i))
+loop-again-2 c = let a = c .before .before .before .before .before .before .before .before .before .before .before .before .before .args in let r = columns (a .first .now) (a .count .now) (a .o .end) in let lp = c .before .before .before .before .before .before .before .before .loop in let z : lp .k ≡ lp .k - 1 + 1 = omega (arith, c .before .before .before .before .before .before .before .loop-test .taken) in let w = c .before .before .before .before .wide .ensures .0 in (omega arith, lp .inv .1, lp .inv .2, place-back r _ _ _ _ (lp .inv .3) z w, λ v i. run-gap v i (changeOf (a .table .now) (a .first .now) (a .count .now) (a .o)) (a .x .0) (a .bytes .now) (a .o .held) (a .o .old) (a .o .size) (refl, refl, refl) _ _ (lp .at) (omega arith) (clear-run (a .o .held) (a .o .old) (a .o .size) (a .x .0) (a .bytes .now) _ _ _ (c .before .before .before .before .before .before .before .before .before .before .window-of .ensures) (c .if1 .left)) (lp .inv .4 v i))
 
 returns : tie.Need-returns Inv-loop μ-loop
-returns c = let a = c .before .before .before .before .before .before .args in let r = columns (a .first .now) (a .count .now) (a .o .end) in let lp = c .before .loop in let z : lp .k ≡ 0 = omega (arith, c .loop-test .left) in (λ v i. data-cast v i (changeOf (a .table .now) (a .first .now) (a .count .now) (a .o)) (a .x) (a .bytes .now) _ _ _ (lp .inv .3 ∙ ap (placeOf r) z ∙ place-none r) (lp .inv .4 v i), lp .inv .2)
+returns c = let a = c .before .before .before .before .before .before .args in let r = columns (a .first .now) (a .count .now) (a .o .end) in let lp = c .before .loop in let z : lp .k ≡ 0 = omega (arith, c .loop-test .left) in (λ v i. data-cast v i (changeOf (a .table .now) (a .first .now) (a .count .now) (a .o)) (a .x .0) (a .bytes .now) _ _ _ (lp .inv .3 ∙ ap (placeOf r) z ∙ place-none r) (lp .inv .4 v i), lp .inv .2)
 
 pub add-data-spec : {M : Type 1} → statement M
 add-data-spec = tie.close (tie.spec Inv-loop μ-loop window-of-requires total-requires loop-holds sub-k mul-b element-copy-out-b mul-n element-copy-out-n wide-requires sub-at add-run-requires loop-less loop-again loop-less-2 loop-again-2 returns)

@@ -10,28 +10,46 @@ use Rattle.change.proofs.add_node.Statement.{statement}
 use Rattle.change.proofs.add_node.Tie as tie
 
 node-at-requires : tie.Need-node-at-requires
-node-at-requires c κs = omega (arith, c .before .before .before .before .before .pre .3, c .before .before .before .before .before .pre .2 .nodes)
+node-at-requires c κs = omega (arith, c .before .before .before .before .pre .3, c .before .before .before .before .pre .2)
 
 cast-tag : tie.Need-cast-tag
-cast-tag c = omega (arith, c .before .before .before .before .before .before .pre .3, c .before .before .before .before .before .before .pre .2 .nodes)
+cast-tag c = omega (arith, c .before .before .before .before .before .pre .3, c .before .before .before .before .before .pre .2)
 
 add-tag : tie.Need-add-tag
-add-tag c = omega (arith, c .before .before .before .before .before .before .pre .3, c .before .before .before .before .before .before .pre .2 .nodes)
+add-tag c = omega (arith, c .before .before .before .before .before .pre .3, c .before .before .before .before .before .pre .2)
 
 node-content-requires : tie.Need-node-content-requires
-node-content-requires c κs = (c .before .before .before .before .before .before .before .before .before .pre .2 .extents, omega (arith, c .before .before .before .before .before .before .before .before .before .pre .3, c .before .before .before .before .before .before .before .before .before .pre .2 .nodes))
+node-content-requires c κs = (c .before .before .before .before .before .before .before .before .pre .1, omega (arith, c .before .before .before .before .before .before .before .before .pre .3, c .before .before .before .before .before .before .before .before .pre .2))
 
 add-block-requires : tie.Need-add-block-requires
-add-block-requires c κs = (c .before .before .before .before .before .before .before .before .before .before .before .before .before .pre .0, c .before .before .before .before .before .before .before .before .before .before .before .before .before .pre .5)
+add-block-requires c κs = (c .before .before .before .before .before .before .before .before .before .before .before .before .pre .0, c .before .before .before .before .before .before .before .before .before .before .before .before .pre .4)
 
 returns : tie.Need-returns
-returns c = let a = c .before .before .before .before .before .before .before .before .before .before .before .before .before .before .args in let v = viewIn (a .staged .now) (a .device .now) (a .work .now) in let d = changeOf (a .table .now) (a .first .now) (a .count .now) (a .o) in let n = c .before .before .before .before .before .before .before .before .node-at .ensures in (held-lists v (a .i) d (a .x) (a .bytes .now) (a .j) (c .before .before .before .before .before .before .before .before .before .before .before .before .before .before .pre .3) (c .before .before .before .before .before .before .before .before .before .before .before .before .before .before .pre .2 .nodes) (n .1) _ (n .0) _ (omega (arith, c .before .before .before .before .before .before .if1 .taken)) (c .add-block .ensures .0 _ _ (node-told v (a .i) d (a .x) (a .bytes .now) _ (a .j) _ (omega (arith, c .before .before .before .before .before .before .before .before .before .before .before .before .before .before .pre .3, c .before .before .before .before .before .before .before .before .before .before .before .before .before .before .pre .2 .nodes)) (c .before .before .before .before .node-content .ensures)) (c .before .before .before .before .before .before .before .before .before .before .before .before .before .before .pre .4)), c .add-block .ensures .1)
+returns c =
+    let s = c .before .before .before .before .before .before .before .before .before .before .before .before .before in
+    let a = s .args in
+    let v = viewIn (a .staged .now) (a .device .now) (a .work .now) in
+    let n = c .before .before .before .before .before .before .before .before .node-at .ensures in (
+      (λ i table x bytes l. let d = changeOf table (a .first .now) (a .count .now) (a .o) in
+          held-lists v i d x bytes (a .j) (s .pre .3) (s .pre .2) (n .1) _ (n .0) _ (omega (arith, c .before .before .before .before .before .before .if1 .taken))
+          (c .add-block .ensures .0 _ _ (node-told v i d x bytes _ (a .j) _ (omega (arith, s .pre .3, s .pre .2)) (c .before .before .before .before .node-content .ensures)) l)),
+      c .add-block .ensures .1,
+    )
 
 insert-requires : tie.Need-insert-requires
-insert-requires c κs = c .before .before .before .before .before .before .before .before .before .before .pre .0
+insert-requires c κs = c .before .before .before .before .before .before .before .before .before .pre .0
 
 returns-2 : tie.Need-returns-2
-returns-2 c = let a = c .before .before .before .before .before .before .before .before .before .before .before .args in let n = c .before .before .before .before .before .node-at .ensures in (new-lists _ (a .i) (changeOf (a .table .now) (a .first .now) (a .count .now) (a .o)) (a .x) (a .bytes .now) (a .j) (c .before .before .before .before .before .before .before .before .before .before .before .pre .3) (c .before .before .before .before .before .before .before .before .before .before .before .pre .2 .nodes) (n .1) _ (n .0) _ (omega (arith, c .before .before .before .if1 .left)) (c .insert .ensures .0 _ _ (c .before .before .before .before .before .before .before .before .before .before .before .pre .4)), c .insert .ensures .1)
+returns-2 c =
+    let s = c .before .before .before .before .before .before .before .before .before .before in
+    let a = s .args in
+    let v = viewIn (a .staged .now) (a .device .now) (a .work .now) in
+    let n = c .before .before .before .before .before .node-at .ensures in (
+      (λ i table x bytes l.
+          new-lists v i (changeOf table (a .first .now) (a .count .now) (a .o)) x bytes (a .j) (s .pre .3) (s .pre .2) (n .1) _ (n .0) _ (omega (arith, c .before .before .before .if1 .left))
+          (c .insert .ensures .0 _ _ l)),
+      c .insert .ensures .1,
+    )
 
 pub add-node-spec : {M : Type 1} → statement M
 add-node-spec = tie.close (tie.spec node-at-requires cast-tag add-tag node-content-requires add-block-requires returns insert-requires returns-2)

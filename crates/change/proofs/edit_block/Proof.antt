@@ -53,8 +53,8 @@ returns-3 : tie.Need-returns-3
 returns-3 c = let a = c .before .before .before .before .before .before .before .before .before .before .before .before .args in
     tag-node _ (changeOf (a .table .now) (a .first .now) (a .count .now) (a .o)) _ _ (a .tag) _ _ (c .before .before .before .before .before .before .before .before .before .if1 .left) (c .before .before .before .before .before .before .before .before .if2 .left) (c .before .before .before .before .before .before .before .if3 .taken) (c .before .before .copy2 .ensures ∙ c .before .before .before .before .before .node-content .ensures)
 
-cast-p : tie.Need-cast-p
-cast-p c = search needs
+cast-t34 : tie.Need-cast-t34
+cast-t34 c = search needs
 
 lay-data-requires : tie.Need-lay-data-requires
 lay-data-requires c κs = search needs
@@ -67,4 +67,4 @@ returns-4 c = let a = c .before .before .before .before .before .before .before 
     tag-data _ (changeOf (a .table .now) (a .first .now) (a .count .now) (a .o)) _ _ (a .tag) _ _ (c .before .before .before .before .before .before .if1 .left) (c .before .before .before .before .before .if2 .left) (c .before .before .before .before .if3 .left) (c .before .before .lay-data .ensures)
 
 pub edit-block-spec : {M : Type 1} → statement M
-edit-block-spec = tie.close (tie.spec copy-requires same-length returns slice-aggregate-lay-record lay-record-requires same-length-2 returns-2 sub-node-content cast-node-content node-content-requires slice-aggregate-slots copy-requires-2 same-length-3 returns-3 cast-p lay-data-requires same-length-4 returns-4)
+edit-block-spec = tie.close (tie.spec copy-requires same-length returns slice-aggregate-lay-record lay-record-requires same-length-2 returns-2 sub-node-content cast-node-content node-content-requires slice-aggregate-slots copy-requires-2 same-length-3 returns-3 cast-t34 lay-data-requires same-length-4 returns-4)

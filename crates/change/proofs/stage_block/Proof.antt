@@ -10,7 +10,7 @@ use Rattle.change.proofs.stage_block.Statement.{statement}
 use Rattle.change.proofs.stage_block.Tie as tie
 
 -- the place of the block among the images
-at : (c : tie.After-spot) → c .spot .result ≡ spot (take (c .before .before .before .before .before .before .before .before .args .many) (c .before .before .before .before .before .before .before .before .args .cells .now)) (c .before .before .before .before .before .before .before .before .args .b)
+at : (c : tie.After-spot) → c .spot .result ≡ spot (take (c .before .before .before .before .before .before .before .before .args .many) (c .before .before .before .before .before .before .before .before .args .cells .now)) (c .before .before .before .before .before .before .before .before .args .b .0)
 at c = spot-cells _ _ _ (c .before .before .before .before .before .before .before .before .pre .1) (c .before .before .before .before .staged-in .ensures .0) _ _ (c .spot .ensures)
 
 room : (c : tie.After-spot) → c .spot .result < 32
@@ -61,7 +61,7 @@ same-length c = search needs
 returns : tie.Need-returns
 returns c = (
   λ N p. let a = c .before .before .before .before .before .before .before .before .before .before .before .before .before .before .before .before .before .before .args in
-      let f = contentOf (a .i) (changeOf (a .table .now) (a .first .now) (a .count .now) (a .o)) (a .x) (a .bytes .now) (a .tag) in
+      let f = contentOf (a .i) (changeOf (a .table .now) (a .first .now) (a .count .now) (a .o)) (a .x .0) (a .bytes .now) (a .tag) in
       image-cells (a .cells .now) (a .many) _ (c .before .before .before .before .before .before .before .before .before .before .before .before .before .before .before .before .before .before .pre .1) (c .before .before .before .before .before .before .before .before .before .before .before .before .before .before .staged-in .ensures .0) _ (a .device .now) (a .work .now) _ _ (at (c .before .before .before .before .before .before .before .before .before .before)) (omega (arith, room (c .before .before .before .before .before .before .before .before .before .before), c .before .before .before .before .before .before .before .before .before .before .before .before .before .before .before .before .before .before .pre .0, c .before .before .before .before .before .before .before .before .ready-image .kept .1 .0))
       f (c .before .before .before .before .before .before .before .before .ready-image .ensures _ _ _ _ refl) _ _ (c .with-block .ensures .0) _ (c .before .before .before .before .edit-block .ensures) (search needs) N p,
   c .with-block .ensures .1,

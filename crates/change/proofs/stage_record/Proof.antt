@@ -12,7 +12,7 @@ use Rattle.change.proofs.stage_record.Statement.{statement}
 use Rattle.change.proofs.stage_record.Tie as tie
 
 -- its place, of the block by its number
-at : (c : tie.After-table-block) → c .before .before .before .before .before .before .before .before .args .k ≡ spot (take (c .before .before .before .before .before .before .before .before .args .many) (c .before .before .before .before .before .before .before .before .args .cells .now)) (c .table-block .result)
+at : (c : tie.After-table-block) → c .before .before .before .before .before .before .before .before .args .k ≡ spot (take (c .before .before .before .before .before .before .before .before .args .many) (c .before .before .before .before .before .before .before .before .args .cells .now)) (c .table-block .result .0)
 at c = c .before .before .before .before .before .before .before .before .pre .4 ∙ ap (spot (take (c .before .before .before .before .before .before .before .before .args .many) (c .before .before .before .before .before .before .before .before .args .cells .now))) (sym (c .table-block .ensures))
 
 staged-in-requires : tie.Need-staged-in-requires

@@ -13,8 +13,8 @@ first-kept-requires c κs = search needs
 least-requires : tie.Need-least-requires
 least-requires c κs = search needs
 
-add-data-end : tie.Need-add-data-end
-add-data-end c = search needs
+add-t11 : tie.Need-add-t11
+add-t11 c = search needs
 
 data-end-requires : tie.Need-data-end-requires
 data-end-requires c κs = search needs
@@ -27,9 +27,9 @@ most-requires c κs = search needs
 
 returns : tie.Need-returns
 returns c =
-    let d = c .before .before .before .before .before .first-data .ensures in
-    let k = c .before .before .before .before .first-kept .ensures in
-    let l = c .before .before .before .least .ensures in
+    let d = c .before .before .before .before .before .before .first-data .ensures in
+    let k = c .before .before .before .before .before .first-kept .ensures in
+    let l = c .before .before .before .before .least .ensures in
     let e = c .before .before .data-end .ensures in
     let g = c .before .kept-end .ensures in
     let m = c .most .ensures in
@@ -42,7 +42,7 @@ window-of-spec =
     first-data-requires
     first-kept-requires
     least-requires
-    add-data-end
+    add-t11
     data-end-requires
     kept-end-requires
     most-requires

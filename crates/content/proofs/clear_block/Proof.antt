@@ -18,7 +18,7 @@ is-last-kept-requires : tie.Need-is-last-kept-requires
 is-last-kept-requires c κs = search needs
 
 clear-from-requires-2 : tie.Need-clear-from-requires-2
-clear-from-requires-2 c κs = (c .before .before .before .before .before .pre, omega arith)
+clear-from-requires-2 c κs = (c .before .before .before .before .before .before .pre, omega arith)
 
 same-length-2 : tie.Need-same-length-2
 same-length-2 c = search needs

@@ -7,7 +7,7 @@ use Rattle.content.proofs.lay_data.Statement.{statement}
 use Rattle.content.proofs.lay_data.Tie as tie
 
 -- what the data is laid over
-under : (c : tie.Joined1) → let a = c .before .before .before .before .args in Under (a .held) (a .was) (a .size) (a .x) (a .bytes .now) (a .p) (a .block .now) (c .if1 .block)
+under : (c : tie.Joined1) → let a = c .before .before .before .before .args in Under (a .held) (a .was) (a .size) (a .x .0) (a .bytes .now) (a .p .0) (a .block .now) (c .if1 .block)
 under c =
     let l = c .before .before .before .before .pre .0 in
     ⊎-elim (λ w. under-kept _ _ _ _ _ _ _ _ l (w .5 ∙ w .2 .ensures)) (λ w. under-covered _ _ _ _ _ _ _ _ l (sym (c .before .is-covered .ensures) ∙ not-false _ (w .0 .left)) (w .1)) (c .if1 .came)

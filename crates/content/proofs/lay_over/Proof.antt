@@ -6,17 +6,17 @@ use Rattle.content.proofs.lay_over.Statement.{statement}
 use Rattle.content.proofs.lay_over.Tie as tie
 
 -- the part of the block that the data reaches
-reached : (c : tie.Then1) → let a = c .before .before .before .before .before .args in Reach (a .x) (length (a .bytes .now)) (a .p) (c .before .before .within .result) (c .before .within2 .result)
-reached c = reach _ _ _ _ _ (c .before .before .within .ensures) (c .before .within2 .ensures) (c .if1 .taken)
+reached : (c : tie.Then1) → let a = c .before .before .before .before .before .before .before .args in Reach (a .x .0) (length (a .bytes .now)) (a .p .0) (c .before .before .before .within .result) (c .before .within2 .result)
+reached c = reach _ _ _ _ _ (c .before .before .before .within .ensures) (c .before .within2 .ensures) (c .if1 .taken)
 
-mul-start : tie.Need-mul-start
-mul-start c = search needs
+mul-t10 : tie.Need-mul-t10
+mul-t10 c = search needs
 
 within-requires : tie.Need-within-requires
 within-requires c κs = search needs
 
-add-within : tie.Need-add-within
-add-within c = search needs
+add-t11 : tie.Need-add-t11
+add-t11 c = search needs
 
 within-requires-2 : tie.Need-within-requires-2
 within-requires-2 c κs = search needs
@@ -49,27 +49,27 @@ part-copy-start-2 : tie.Need-part-copy-start-2
 part-copy-start-2 c = search needs
 
 part-copy-end-2 : tie.Need-part-copy-end-2
-part-copy-end-2 c = omega (arith, reached (c .before) .inside, c .before .before .before .before .before .before .pre .0)
+part-copy-end-2 c = omega (arith, reached (c .before .before .before .before .before) .inside, c .before .before .before .before .before .before .before .before .before .before .before .before .pre .0)
 
 copy-requires : tie.Need-copy-requires
-copy-requires c κs = part-even _ _ _ _ (c .before .before .before .before .before .before .before .pre .0) _ _ (reached (c .before .before))
+copy-requires c κs = part-even _ _ _ _ (c .before .before .before .before .before .before .before .before .before .before .before .before .before .pre .0) _ _ (reached (c .before .before .before .before .before .before))
 
 same-length : tie.Need-same-length
 same-length c = search needs
 
 returns : tie.Need-returns
-returns c = part-laid _ _ _ _ (c .before .before .before .before .before .before .before .before .before .before .pre .0) _ _ (reached (c .before .before .before .before .before)) _ (c .before .before .copy .ensures)
+returns c = part-laid _ _ _ _ (c .before .before .before .before .before .before .before .before .before .before .before .before .before .before .before .before .pre .0) _ _ (reached (c .before .before .before .before .before .before .before .before .before)) _ (c .before .before .copy .ensures)
 
 returns-2 : tie.Need-returns-2
-returns-2 c = over-none _ _ _ _ (c .before .before .before .before .before .pre .0) _ _ (c .before .before .within .ensures) (c .before .within2 .ensures) (c .if1 .left)
+returns-2 c = over-none _ _ _ _ (c .before .before .before .before .before .before .before .pre .0) _ _ (c .before .before .before .within .ensures) (c .before .within2 .ensures) (c .if1 .left)
 
 pub lay-over-spec : {M : Type 1} → statement M
 lay-over-spec =
     tie.close
     (tie.spec
-    mul-start
+    mul-t10
     within-requires
-    add-within
+    add-t11
     within-requires-2
     add-a
     sub-a

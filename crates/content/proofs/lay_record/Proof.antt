@@ -1,5 +1,5 @@
 use Prim.Native.Nat.{_*_, _-_, _%_, _≤_}
-use mathlib.Core.Path.{_≡_, refl, sym, _∙_}
+use mathlib.Core.Path.{_≡_, sym, _∙_}
 use lib.ListN.{length, length-set}
 use Rattle.content.proofs.Laws.{laidTo, laid-none, laid-more, laid-all}
 use native.Mathlib.Omega.{arith}
@@ -13,11 +13,11 @@ Inv-loop q₀ i new at k₀ q k = (k ≤ length new) × (at ≡ 32 * (i % 16)) �
 abbrev μ-loop : tie.MeasureT-loop
 μ-loop q₀ i new at k₀ q k = length new - k
 
-mul-at : tie.Need-mul-at Inv-loop μ-loop
-mul-at c = omega arith
+place-in-block-requires : tie.Need-place-in-block-requires Inv-loop μ-loop
+place-in-block-requires c κs = search needs
 
 loop-holds : tie.Need-loop-holds Inv-loop μ-loop
-loop-holds c = (omega arith, refl, c .pre .1, c .pre .0, c .pre .0, laid-none _ _ _)
+loop-holds c = let s = c .before .before .before in (omega arith, c .place-in-block .ensures .0, s .pre .1, s .pre .0, s .pre .0, laid-none _ _ _)
 
 shared-slice-read-block : tie.Need-shared-slice-read-block Inv-loop μ-loop
 shared-slice-read-block c = omega arith
@@ -41,7 +41,7 @@ same-length : tie.Need-same-length Inv-loop μ-loop
 same-length c = c .before .loop .inv .3 ∙ sym (c .before .loop .inv .4)
 
 returns : tie.Need-returns Inv-loop μ-loop
-returns c = let lp = c .before .loop in let a = c .before .before .args in laid-all (a .i) _ (lp .k) _ _ _ refl (omega arith) (lp .inv .5)
+returns c = let lp = c .before .loop in let a = c .before .before .before .before .before .args in laid-all (a .i) _ (lp .k) _ _ _ (lp .inv .1) (omega arith) (lp .inv .5)
 
 pub lay-record-spec : {M : Type 1} → statement M
-lay-record-spec = tie.close (tie.spec Inv-loop μ-loop mul-at loop-holds shared-slice-read-block add-block slice-write-block add-k loop-less loop-again same-length returns)
+lay-record-spec = tie.close (tie.spec Inv-loop μ-loop place-in-block-requires loop-holds shared-slice-read-block add-block slice-write-block add-k loop-less loop-again same-length returns)

@@ -14,6 +14,9 @@ use Rattle.runs.proofs.push.Tie as tie
 abbrev before : tie.Start → Runs
 before c = columns (c .args .first .now) (c .args .count .now) (c .args .end)
 
+cast-if2 : tie.Need-cast-if2
+cast-if2 c = search needs
+
 add-t16 : tie.Need-add-t16
 add-t16 c = search needs
 
@@ -37,24 +40,27 @@ element-write-count c = search needs
 
 returns : tie.Need-returns
 returns c =
-    let z = c .before .before .before .before in
+    let z = c .before .before .before .before .before in
     let m = z .pre .4 in
     record {
-      holds = λ es h. push-joined (before z) es (z .args .b) (z .args .c) h (c .before .before .before .if1 .taken) (eqb-true _ _ (c .before .before .if2 .taken)) (omega arith);
-      small = λ n s l k. small-joined (before z) (z .args .b) (z .args .c) n s;
+      holds = λ es h. push-joined (before z) es (z .args .b .0) (z .args .c) h (c .before .before .before .before .if1 .taken) (eqb-true _ _ (c .before .before .if2 .taken)) (omega arith);
+      small = λ n s l k. small-joined (before z) (z .args .b .0) (z .args .c) n s;
     }
 
 returns-2 : tie.Need-returns-2
 returns-2 c =
-    let z = c .before .before .before in
+    let z = c .before .before .before .before in
     let m = z .pre .4 in
     record {
-      holds = λ es h. push-joined-over (before z) es (z .args .b) (z .args .c) h (c .before .before .if1 .taken) (eqb-true _ _ (c .before .if2 .taken)) (omega arith);
-      small = λ n s l k. small-over (before z) (z .args .b) (z .args .c) n s;
+      holds = λ es h. push-joined-over (before z) es (z .args .b .0) (z .args .c) h (c .before .before .before .if1 .taken) (eqb-true _ _ (c .before .if2 .taken)) (omega arith);
+      small = λ n s l k. small-over (before z) (z .args .b .0) (z .args .c) n s;
     }
 
 add-t24 : tie.Need-add-t24
 add-t24 c = search needs
+
+cast-t25 : tie.Need-cast-t25
+cast-t25 c = search needs
 
 add-t27 : tie.Need-add-t27
 add-t27 c = search needs
@@ -72,33 +78,34 @@ element-write-count-2 : tie.Need-element-write-count-2
 element-write-count-2 c = search needs
 
 -- the test failed
-apart : (c : tie.Joined1) → 0 < c .before .args .end .len → c .before .args .end .next ≡ c .before .args .b → ⊥
-apart c l e = ⊎-elim (λ w. eqb-false _ _ (w .1 .left) e) (λ w. omega arith) (c .if1 .came)
+apart : (c : tie.Joined1) → 0 < c .before .args .end .len → c .before .args .end .next ≡ c .before .args .b .0 → ⊥
+apart c l e = ⊎-elim (λ w. eqb-false _ _ (w .2 .left) e) (λ w. omega arith) (c .if1 .came)
 
 returns-3 : tie.Need-returns-3
 returns-3 c =
-    let z = c .before .before in
+    let z = c .before .before .before in
     let l = z .pre .3 in
     let m = z .pre .4 in
     record {
-      holds = λ es h. push-another (before z) es (z .args .b) (z .args .c) h (apart (c .before)) (omega arith) (omega arith);
-      small = λ n s l k. small-another (before z) (z .args .b) (z .args .c) n s l k;
+      holds = λ es h. push-another (before z) es (z .args .b .0) (z .args .c) h (apart (c .before .before)) (omega arith) (omega arith);
+      small = λ n s l k. small-another (before z) (z .args .b .0) (z .args .c) n s l k;
     }
 
 returns-4 : tie.Need-returns-4
 returns-4 c =
-    let z = c .before .before in
+    let z = c .before .before .before in
     let l = z .pre .3 in
     let m = z .pre .4 in
     record {
-      holds = λ es h. push-another-over (before z) es (z .args .b) (z .args .c) h (apart (c .before)) (omega arith) (omega arith);
-      small = λ n s l k. small-another-over (before z) (z .args .b) (z .args .c) n s l k;
+      holds = λ es h. push-another-over (before z) es (z .args .b .0) (z .args .c) h (apart (c .before .before)) (omega arith) (omega arith);
+      small = λ n s l k. small-another-over (before z) (z .args .b .0) (z .args .c) n s l k;
     }
 
 pub push-spec : {M : Type 1} → statement M
 push-spec =
     tie.close
     (tie.spec
+    cast-if2
     add-t16
     sub-k
     mul-n
@@ -109,6 +116,7 @@ push-spec =
     returns
     returns-2
     add-t24
+    cast-t25
     add-t27
     mul-first
     element-write-first

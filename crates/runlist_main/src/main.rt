@@ -1,9 +1,10 @@
 // Runs the call `run_list` over a lent list of extents: no run, one, and as many as the list has places; one more than it has; a stretch cut at the end of the file; numbers near 2^64.
 // File k has the name k 02 03 04 05 06 07 08. The list lent has eight places, each of them 7+9 before the call.
-use block::FileBlock;
 use libc::STDOUT_FILENO;
 use spec::Counted;
 use spec::Extent;
+use spec::FileBlock;
+use spec::Limits;
 use spec::Refusal;
 use spec::Session;
 use store::run_list;
@@ -119,10 +120,10 @@ fn show<'a>(device: &'a [u8], work: &'a [u8], s: Session, k: u8, from: usize, n:
 
 fn grow(device: &[u8], work: &mut [u8], s: Session, k: u8, blocks: usize) -> Session {
     let file = name(k);
-    if 2048 < blocks {
+    if Limits::MAX_FILE_BLOCKS < blocks {
         return s;
     }
-    let r = store::set_size(device, work, s, &file, 512 * blocks);
+    let r = store::set_size(device, work, s, &file, Limits::BLOCK_SIZE * blocks);
     r.session
 }
 
@@ -198,7 +199,7 @@ fn show_short<'a>(device: &'a [u8], work: &'a [u8], s: Session) {
 
 fn main() {
     let mut device = [0u8; 32768];
-    let mut work = [9u8; 16384];
+    let mut work = [9u8; Limits::WORK_SIZE];
     store::format(&mut device, Session::never_opened());
     let opened = store::open_store(&device, Session::never_opened());
     let s = files(&device, &mut work, opened.session);

@@ -63,9 +63,9 @@ use Rattle.spec.proofs.Counted as K
 use Rattle.spec.proofs.Counted.Laws as K′
 use Rattle.spec.proofs.Extent as E
 use Rattle.spec.proofs.Extent.Laws as E′
-use Rattle.block.specs.declared.FileBlock.{FileBlock}
-use Rattle.block.proofs.FileBlock as F
-use Rattle.block.proofs.FileBlock.Laws as F′
+use Rattle.spec.specs.declared.FileBlock.{FileBlock}
+use Rattle.spec.proofs.FileBlock as F
+use Rattle.spec.proofs.FileBlock.Laws as F′
 use Rattle.runlist.proofs.run_list as rl
 use Rattle.runlist.proofs.run_list.Symbol as rl-def
 use Rattle.runlist.proofs.run_list.Symbol.{name as #run-list}

@@ -74,6 +74,8 @@ impl<E> Broken<E> {
         let list = self.stores / 2;
         match self.run {
             Run::Format => Standing::NotInForce,
+            // Block 0 as it was read did not reach the device: whether its list is there is not known.
+            Run::Recovery if self.store.number == 0 => Standing::MayBeInForce,
             Run::Recovery => Standing::InForceAfterRecovery,
             Run::Commit if self.store.number < list => Standing::NotInForce,
             Run::Commit if self.store.number == list => Standing::MayBeInForce,

@@ -265,9 +265,11 @@ fn library() -> &'static Path {
     static LIBRARY: OnceLock<PathBuf> = OnceLock::new();
     LIBRARY.get_or_init(|| {
         let source = Path::new(env!("CARGO_MANIFEST_DIR")).join("tests/shim.c");
-        let target = Path::new(env!("CARGO_TARGET_TMPDIR")).join(format!("shim-{}.so", std::process::id()));
-        let made = Command::new("cc").args(["-shared", "-fPIC", "-O1", "-o"]).arg(&target).arg(&source).status();
+        let folder = Path::new(env!("CARGO_TARGET_TMPDIR"));
+        let (new, target) = (folder.join(format!("shim-{}.so", std::process::id())), folder.join("shim.so"));
+        let made = Command::new("cc").args(["-shared", "-fPIC", "-O1", "-o"]).arg(&new).arg(&source).status();
         assert!(made.expect("cc").success(), "the shim does not compile");
+        fs::rename(new, &target).expect("the shim in its place");
         target
     })
 }

@@ -5,7 +5,7 @@ use std::io::{self, ErrorKind, Read};
 use std::os::fd::AsFd;
 use std::path::{Path, PathBuf};
 
-use purse::{Failure, FileDevice, Phase, Store, FILE_MOST, WORK_SIZE};
+use purse::{Failure, FileDevice, Phase, Standing, Store, FILE_MOST, WORK_SIZE};
 
 use crate::output::tell;
 use crate::report::{counted, Answer, Force, Trouble};
@@ -47,8 +47,8 @@ impl Image {
     }
 
     /// The store opened and its log recovered in the file, where one is pending; the file; and how many stores that took.
-    /// `force`: what is in force if the file fails in the recovery.
-    pub fn opened(&mut self, force: Force) -> Answer<(Store<'_>, FileDevice<'_>, u64)> {
+    /// `force`: what is in force if the file fails in the recovery, by how the recovered change then stands.
+    pub fn opened(&mut self, force: impl Fn(Standing) -> Force) -> Answer<(Store<'_>, FileDevice<'_>, u64)> {
         let mut device = FileDevice::new(&self.file);
         let mut store = Store::new(&mut self.bytes, &mut self.work);
         store.open()?;
@@ -56,14 +56,14 @@ impl Image {
         match store.open_on(&mut device) {
             Ok(stores) => Ok((store, device, stores)),
             Err(Failure::Refused(refusal)) if pending => Err(Trouble::Refused(refusal, no_redo())),
-            Err(Failure::Device(broken)) => Err(Trouble::broken(&self.path, &broken, force)),
+            Err(Failure::Device(broken)) => Err(Trouble::broken(&self.path, &broken, force(broken.standing()))),
             Err(other) => Err(Trouble::commit(&self.path, other)),
         }
     }
 
     /// The same for a change: a recovery is told.
     pub fn ready(&mut self) -> Answer<(Store<'_>, FileDevice<'_>)> {
-        let (store, device, stores) = self.opened(Force::NotAndPending)?;
+        let (store, device, stores) = self.opened(|_| Force::NotAndPending)?;
         if stores > 0 {
             tell(format_args!("recovered an earlier change first: {stores} stores"));
         }

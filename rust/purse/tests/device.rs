@@ -109,7 +109,8 @@ fn power_on(kept: &mut [u8], left: usize, way: Way, before: u64) -> (u64, u64) {
     match store.open_on(&mut device) {
         Ok(_) => {}
         Err(Failure::Device(broken)) => {
-            assert_eq!((broken.run, broken.standing()), (Run::Recovery, Standing::InForceAfterRecovery));
+            let standing = if broken.store.number == 0 { Standing::MayBeInForce } else { Standing::InForceAfterRecovery };
+            assert_eq!((broken.run, broken.standing()), (Run::Recovery, standing));
             spent(&mut store, &mut device);
             return (before, before);
         }

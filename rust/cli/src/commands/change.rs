@@ -2,7 +2,7 @@
 
 use std::path::Path;
 
-use purse::{Refusal, Standing, Store};
+use purse::{Refusal, Store};
 
 use crate::batch::{lines_of, Line};
 use crate::image::{read_whole, Image};
@@ -27,8 +27,7 @@ fn transaction(path: &Path, stage: impl FnOnce(&mut Store) -> Answer) -> Answer 
 /// Brings a commit to its end that was broken off.
 pub fn recover(path: &Path) -> Answer {
     let mut image = Image::to_store(path)?;
-    let force = Force::Standing(Standing::InForceAfterRecovery);
-    let (_, _, stores) = image.opened(force)?;
+    let (_, _, stores) = image.opened(Force::Standing)?;
     give_stored(&format!("stores {stores}\n"))
 }
 

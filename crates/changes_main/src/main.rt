@@ -129,7 +129,15 @@ fn free<'a>(device: &'a [u8], work: &'a [u8], s: Session) {
 // Extent i of a whole file.
 fn extent<'a>(device: &'a [u8], work: &'a [u8], s: Session, k: u8, i: usize) {
     let file = name(k);
-    match store::nth_extent(device, work, s, &file, FileBlock(0), 2048, i) {
+    match store::nth_extent(
+        device,
+        work,
+        s,
+        &file,
+        FileBlock(0),
+        Limits::MAX_FILE_BLOCKS,
+        i,
+    ) {
         Run::Refused(why) => {
             refused(why);
         }
@@ -268,10 +276,10 @@ fn commit_quietly(device: &mut [u8], work: &[u8], s: Session) -> Session {
 // A file's size set with no word.
 fn grow(device: &[u8], work: &mut [u8], s: Session, k: u8, blocks: usize) -> Session {
     let file = name(k);
-    if 2048 < blocks {
+    if Limits::MAX_FILE_BLOCKS < blocks {
         return s;
     }
-    let r = store::set_size(device, work, s, &file, 512 * blocks);
+    let r = store::set_size(device, work, s, &file, Limits::BLOCK_SIZE * blocks);
     r.session
 }
 

@@ -134,13 +134,13 @@ fn show_device(device: &[u8]) {
     number(block::load2(device, 32) as u64);
     number(block::load2(device, 48) as u64);
     io::write_all(STDOUT_FILENO, b", log");
-    number(block::load(device, 512 * 1) as u64);
-    number(block::load(device, 512 * 2) as u64);
-    number(block::load(device, 512 * 3) as u64);
+    number(block::load(device, Limits::BLOCK_SIZE * 1) as u64);
+    number(block::load(device, Limits::BLOCK_SIZE * 2) as u64);
+    number(block::load(device, Limits::BLOCK_SIZE * 3) as u64);
     io::write_all(STDOUT_FILENO, b", 33 34 63:");
-    number(block::load(device, 512 * 33) as u64);
-    number(block::load(device, 512 * 34) as u64);
-    number(block::load(device, 512 * 63) as u64);
+    number(block::load(device, Limits::BLOCK_SIZE * 33) as u64);
+    number(block::load(device, Limits::BLOCK_SIZE * 34) as u64);
+    number(block::load(device, Limits::BLOCK_SIZE * 63) as u64);
     end_line();
 }
 

@@ -15,6 +15,7 @@ use inode::table_block;
 use spec::DiskBlock;
 use spec::Done;
 use spec::Extent;
+use spec::FileBlock;
 use spec::Limits;
 use spec::Phase;
 use spec::Refusal;
@@ -55,9 +56,16 @@ fn put_extent(out: &mut [u8], at: usize, e: Extent) -> usize
 }
 
 // The runs from `from` on, each behind a comma.
-fn put_more(image: &[u8], s: Session, tb: u32, from: Growing, out: &mut [u8], at: usize) -> usize
+fn put_more(
+    image: &[u8],
+    s: Session,
+    tb: DiskBlock,
+    from: Growing,
+    out: &mut [u8],
+    at: usize,
+) -> usize
     requires { ⌜ Fits from ⌝ }
-    ensures { λ p. ⌜ Written (now (out .entry)) at (moreText (restRuns (view (stateOf s (now (image .entry)) (now (image .entry)))) tb from)) (now (out .exit)) p ⌝ }
+    ensures { λ p. ⌜ Written (now (out .entry)) at (moreText (restRuns (view (stateOf s (now (image .entry)) (now (image .entry)))) (tb .0) from)) (now (out .exit)) p ⌝ }
 {
     let mut run = from;
     let mut p = at;
@@ -81,7 +89,7 @@ fn put_runs(image: &[u8], s: Session, i: usize, out: &mut [u8], at: usize) -> us
     ensures { λ p. ⌜ Written (now (out .entry)) at (runsText (view (stateOf s (now (image .entry)) (now (image .entry)))) i) (now (out .exit)) p ⌝ }
 {
     let tb = table_block(i);
-    let all = growing_from(stretch(image, image, s, i, 0, Limits::MAX_FILE_BLOCKS));
+    let all = growing_from(stretch(image, image, s, i, FileBlock(0), Limits::MAX_FILE_BLOCKS));
     match next_run(image, image, s, tb, all) {
         RunStep::Run(e, then) => {
             let p = put_extent(out, at, e);

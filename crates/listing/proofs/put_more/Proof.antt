@@ -11,10 +11,10 @@ use Rattle.listing.proofs.put_more.Statement.{statement}
 use Rattle.listing.proofs.put_more.Tie as tie
 
 abbrev Inv-loop : tie.InvT-loop
-Inv-loop image s tb out₀ at run₀ p₀ out run p = Fits run × Left out₀ at (moreText (restRuns (view (stateOf s image image)) tb run₀)) out p (moreText (restRuns (view (stateOf s image image)) tb run))
+Inv-loop image s tb out₀ at run₀ p₀ out run p = Fits run × Left out₀ at (moreText (restRuns (view (stateOf s image image)) (tb .0) run₀)) out p (moreText (restRuns (view (stateOf s image image)) (tb .0) run))
 
 abbrev μ-loop : tie.MeasureT-loop
-μ-loop image s tb out₀ at run₀ p₀ out run p = length (restRuns (view (stateOf s image image)) tb run)
+μ-loop image s tb out₀ at run₀ p₀ out run p = length (restRuns (view (stateOf s image image)) (tb .0) run)
 
 loop-holds : tie.Need-loop-holds Inv-loop μ-loop
 loop-holds c = (c .before .before .pre, left-start _ _ _ _ refl)

@@ -26,7 +26,7 @@ lowest-free-from-requires c κs = c .before .loop .inv .0
 enum-known-b : tie.Need-enum-known-b Inv-loop μ-loop
 enum-known-b c = search needs
 
-next : (c : tie.After-b Inv-loop μ-loop) → Next (bitsOf (c .before .before .before .before .loop .t)) (c .b .given .0 .0)
+next : (c : tie.After-b Inv-loop μ-loop) → Next (bitsOf (c .before .before .before .before .loop .t)) (c .b .given .0 .0 .0)
 next c =
     let e = c .before .before .lowest-free-from .ensures in
     next-free (c .before .before .before .before .loop .t) (c .b .given .0 .0) (e .1) (sym (c .b .given .1) ∙ e .0)
@@ -35,21 +35,21 @@ set-bit-requires : tie.Need-set-bit-requires Inv-loop μ-loop
 set-bit-requires c κs = next (c .before .before) .within
 
 cast-from : tie.Need-cast-from Inv-loop μ-loop
-cast-from c = omega (arith, next (c .before .before .before) .within)
+cast-from c = omega (arith, next (c .before .before .before .before) .within)
 
 add-n : tie.Need-add-n Inv-loop μ-loop
 add-n c =
-    let s = c .before .before .before .before .before .before .before .before in
+    let s = c .before .before .before .before .before .before .before .before .before in
     let l : length (s .args .table) ≡ 512 = search needs in
     omega (arith, free-le (bitsOf (s .args .table)), length-bits (s .args .table))
 
 loop-less : tie.Need-loop-less Inv-loop μ-loop
-loop-less c = rw (c .set-bit .ensures) (omega (arith, next (c .before .before .before) .fewer))
+loop-less c = rw (c .before .set-bit .ensures) (omega (arith, next (c .before .before .before .before) .fewer))
 
 loop-again : tie.Need-loop-again Inv-loop μ-loop
 loop-again c =
-    let m = next (c .before .before .before) in
-    rw (c .set-bit .ensures) (m .below, omega (arith, m .fewer))
+    let m = next (c .before .before .before .before) in
+    rw (c .before .set-bit .ensures) (m .below, omega (arith, m .fewer))
 
 enum-told : tie.Need-enum-told Inv-loop μ-loop
 enum-told c = search needs

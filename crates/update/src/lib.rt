@@ -59,7 +59,7 @@ fn change_record(
 {
     let l: &[u32] = cells;
     let staged = &l[0..staged_in(many)];
-    let k = spot(staged, DiskBlock(table_block(i)));
+    let k = spot(staged, table_block(i));
     if Limits::LOG_LENGTH <= k {
         return refused_with(many, Refusal::TooManyStaged);
     }
@@ -209,7 +209,8 @@ pub fn remove_in(
             );
             let o = outline_of(d, [0u8; Limits::INODE_SIZE], 0, 0);
             let none = &name[0..0];
-            apply(device, work, cells, many, i, &t, &first, &count, o, 0, none)
+            let x = ByteOffset(0);
+            apply(device, work, cells, many, i, &t, &first, &count, o, x, none)
         }
     }
 }
@@ -247,12 +248,12 @@ fn resize(
     many: usize,
     i: usize,
     size: usize,
-    x: usize,
+    x: ByteOffset,
     bytes: &[u8],
 ) -> Changed
-    requires { ⌜ (i < 128) × (length (now work) ≡ 16384) × (length (now cells) ≡ 32) × (x + length (now bytes) ≤ 1048576) × (size < 4294967296) ⌝ }
+    requires { ⌜ (i < 128) × (length (now work) ≡ 16384) × (length (now cells) ≡ 32) × (x .0 + length (now bytes) ≤ 1048576) × (size < 4294967296) ⌝ }
     ensures { λ r. ⌜ ((N : ℕ) (p : Phase) → left (sessionOf N p (now (cells .exit)) (r .count)) (now (device .entry)) (now (work .exit)) (doneOf (r .answer))
-        ≡ settle (outcome (stateOf (sessionOf N p (now (cells .entry)) many) (now (device .entry)) (now (work .entry)))) (rewrite (stateOf (sessionOf N p (now (cells .entry)) many) (now (device .entry)) (now (work .entry))) i size x (now (bytes .entry)))) ⌝ }
+        ≡ settle (outcome (stateOf (sessionOf N p (now (cells .entry)) many) (now (device .entry)) (now (work .entry)))) (rewrite (stateOf (sessionOf N p (now (cells .entry)) many) (now (device .entry)) (now (work .entry))) i size (x .0) (now (bytes .entry)))) ⌝ }
 {
     let l: &[u32] = cells;
     let staged = &l[0..staged_in(many)];
@@ -298,13 +299,13 @@ fn resize(
 }
 
 // The larger of a file's size and an end.
-fn larger(size: u32, end: usize) -> usize
-    requires { ⌜ end ≤ 1048576 ⌝ }
-    ensures { λ r. ⌜ (r ≡ max size end) × (r < 4294967296) ⌝ }
+fn larger(size: u32, end: ByteOffset) -> usize
+    requires { ⌜ end .0 ≤ 1048576 ⌝ }
+    ensures { λ r. ⌜ (r ≡ max size (end .0)) × (r < 4294967296) ⌝ }
 {
     let n = wide(size);
-    if n < end {
-        return end;
+    if n < end.0 {
+        return end.0;
     }
     n
 }
@@ -324,16 +325,15 @@ pub fn write_in(
     ensures { λ r. ⌜ left (sessionOf blocks phase (now (cells .exit)) (r .count)) (now (device .entry)) (now (work .exit)) (doneOf (r .answer))
         ≡ write (stateOf (sessionOf blocks phase (now (cells .entry)) many) (now (device .entry)) (now (work .entry))) (now (name .entry)) (x .0) (now (bytes .entry)) ⌝ }
 {
-    let from = x.0;
     let l: &[u32] = cells;
     let staged = &l[0..staged_in(many)];
     let n = bytes.len();
-    match look_up_sized(device, work, blocks, phase, staged, name, from, n) {
+    match look_up_sized(device, work, blocks, phase, staged, name, x, n) {
         Looked::Bad(why) => refused_with(many, why),
         Looked::At(i) => {
             let old = size_of(inode_block_in(device, work, staged, i), i);
-            let size = larger(old, from + n);
-            resize(device, work, cells, many, i, size, from, bytes)
+            let size = larger(old, ByteOffset(x.0 + n));
+            resize(device, work, cells, many, i, size, x, bytes)
         }
     }
 }
@@ -382,9 +382,10 @@ pub fn set_size_in(
 {
     let l: &[u32] = cells;
     let staged = &l[0..staged_in(many)];
-    match look_up_sized(device, work, blocks, phase, staged, name, 0, size) {
+    let x = ByteOffset(0);
+    match look_up_sized(device, work, blocks, phase, staged, name, x, size) {
         Looked::Bad(why) => refused_with(many, why),
-        Looked::At(i) => resize(device, work, cells, many, i, size, 0, &name[0..0]),
+        Looked::At(i) => resize(device, work, cells, many, i, size, x, &name[0..0]),
     }
 }
 

@@ -98,7 +98,7 @@ same-length c = search needs
 returns : tie.Need-returns
 returns c = λ N p. let a = c .before .before .before .before .before .before .before .before .before .before .before .before .before .before .before .before .before .before .before .before .args in
     told _ _ _ _ (a .device .now) (a .work .now) _ (ap (sessionOf N p (a .cells .now)) (c .refused-with .ensures .0)) (c .refused-with .ensures .1)
-    (rewrite-bad (sessionOf N p (a .cells .now) (a .many)) (a .device .now) (a .work .now) (a .i) (a .size) (a .x) (a .bytes .now) _ (planned (c .before .before .before .before) N p .verdict) _ (c .before .before .verdict .given .1))
+    (rewrite-bad (sessionOf N p (a .cells .now) (a .many)) (a .device .now) (a .work .now) (a .i) (a .size) (a .x .0) (a .bytes .now) _ (planned (c .before .before .before .before) N p .verdict) _ (c .before .before .verdict .given .1))
 
 same-length-2 : tie.Need-same-length-2
 same-length-2 c = search needs
@@ -112,14 +112,14 @@ returns-2 c = λ N p. let a = c .before .before .before .before .before .before 
     let d = planned q N p in
     let e = c .before .before .before .before .before .before .before .before .before .before .before .before .before .before .before .before .before .before .enum-told .given .1 in
     let block = c .before .before .before .before .before .before .before .before .before .before .before .before .before .before .before .before .inode-block-in .ensures .0 ∙ ap (λ (u : Disk). u (blockOfInode (a .i))) (seen (c .before .before .before .before .before .before .before .before .before .before .before .before .before .before .before .before .before .before .before .before .before .before .before .before .before .before .before .before .before .before) N p) in
-    rewrite-fine s (a .device .now) (a .work .now) (a .i) (a .size) (a .x) (a .bytes .now) _ (d .verdict) _ _ e
-    (rewrite-stores v (a .i) _ _ (a .x) (a .bytes .now) (d .tree e) _ (a .size)
+    rewrite-fine s (a .device .now) (a .work .now) (a .i) (a .size) (a .x .0) (a .bytes .now) _ (d .verdict) _ _ e
+    (rewrite-stores v (a .i) _ _ (a .x .0) (a .bytes .now) (d .tree e) _ (a .size)
     (c .before .before .before .before .before .before .before .before .before .record-bytes .ensures
     ∙ kept-record v (a .i) _ _ (a .size) (listed (t .runs))
     (levelsIn (treeOf (t .runs .first) (t .runs .count) (q .draft-of .result .end) (t .node) (t .nodes))) (c .before .before .before .before .before .before .before .before .before .before .before .before .before .name-of .ensures) block
     ∙ ap (λ (ls : List (List ℕ)). bytesOfInode (inodeWith (nameAt v (a .i)) (a .size) (listed (t .runs)) ls)) (parts-levels t))
     (kept-size v (a .i) _ _ (c .before .before .before .before .before .before .before .before .before .before .before .before .before .before .wide .ensures .0 ∙ c .before .before .before .before .before .before .before .before .before .before .before .before .before .before .before .size-of .ensures) block) refl)
-    (c .before .before .apply .ensures N p ∙ ap (λ (o : Outline). settle (outcome (stateOf s (a .device .now) (a .work .now))) (staging (stateOf s (a .device .now) (a .work .now)) (changeStores v (a .i) (changeOf (q .draft-of .last .0) (q .draft-of .last .1 .0) (q .draft-of .last .1 .1 .0) o) (a .x) (a .bytes .now)))) (c .before .before .before .before .before .before .before .before .outline-of .ensures))
+    (c .before .before .apply .ensures N p ∙ ap (λ (o : Outline). settle (outcome (stateOf s (a .device .now) (a .work .now))) (staging (stateOf s (a .device .now) (a .work .now)) (changeStores v (a .i) (changeOf (q .draft-of .last .0) (q .draft-of .last .1 .0) (q .draft-of .last .1 .1 .0) o) (a .x .0) (a .bytes .now)))) (c .before .before .before .before .before .before .before .before .outline-of .ensures))
 
 pub resize-spec : {M : Type 1} → statement M
 resize-spec = tie.close (tie.spec staged-in-requires sub-staged part-staged-start part-staged-end view-in-requires copy-of-requires blocks-for-requires draft-of-requires enum-known-verdict refused-with-requires enum-told inode-block-in-requires size-of-requires wide-requires name-of-requires record-bytes-requires outline-of-requires apply-requires same-length returns same-length-2 returns-2)

@@ -58,14 +58,14 @@ inode-block-in-requires c κs = (subst InTable (c .before .before .i .given .1) 
 size-of-requires : tie.Need-size-of-requires
 size-of-requires c κs = search needs
 
-add-larger : tie.Need-add-larger
-add-larger c = let z = size-says (session (c .before .before .before .before .before .before .before .before .before .before .before .before .before .before .before .before)) (c .before .before .before .before .before .before .before .before .before .before .before .before .before .before .before .before .args .device .now) (c .before .before .before .before .before .before .before .before .before .before .before .before .before .before .before .before .args .work .now) (c .before .before .before .before .before .before .before .before .before .before .before .before .before .before .before .before .args .name .now) _ (c .before .before .before .before .before .before .before .before .before .before .before .before .before .before .before .before .args .x .0 + length (c .before .before .before .before .before .before .before .before .before .before .before .before .before .before .before .before .args .bytes .now)) (sym (ap lookedOf (c .before .before .before .before .i .given .1)) ∙ found (c .before .before .before .before .before .before)) .1 in omega arith
+add-t29 : tie.Need-add-t29
+add-t29 c = let z = size-says (session (c .before .before .before .before .before .before .before .before .before .before .before .before .before .before .before .before .before)) (c .before .before .before .before .before .before .before .before .before .before .before .before .before .before .before .before .before .args .device .now) (c .before .before .before .before .before .before .before .before .before .before .before .before .before .before .before .before .before .args .work .now) (c .before .before .before .before .before .before .before .before .before .before .before .before .before .before .before .before .before .args .name .now) _ (c .before .before .before .before .before .before .before .before .before .before .before .before .before .before .before .before .before .args .x .0 + length (c .before .before .before .before .before .before .before .before .before .before .before .before .before .before .before .before .before .args .bytes .now)) (sym (ap lookedOf (c .before .before .before .before .before .i .given .1)) ∙ found (c .before .before .before .before .before .before .before)) .1 in omega arith
 
 larger-requires : tie.Need-larger-requires
-larger-requires c κs = size-says (session (c .before .before .before .before .before .before .before .before .before .before .before .before .before .before .before .before)) (c .before .before .before .before .before .before .before .before .before .before .before .before .before .before .before .before .args .device .now) (c .before .before .before .before .before .before .before .before .before .before .before .before .before .before .before .before .args .work .now) (c .before .before .before .before .before .before .before .before .before .before .before .before .before .before .before .before .args .name .now) _ (c .before .before .before .before .before .before .before .before .before .before .before .before .before .before .before .before .args .x .0 + length (c .before .before .before .before .before .before .before .before .before .before .before .before .before .before .before .before .args .bytes .now)) (sym (ap lookedOf (c .before .before .before .before .i .given .1)) ∙ found (c .before .before .before .before .before .before)) .1
+larger-requires c κs = size-says (session (c .before .before .before .before .before .before .before .before .before .before .before .before .before .before .before .before .before)) (c .before .before .before .before .before .before .before .before .before .before .before .before .before .before .before .before .before .args .device .now) (c .before .before .before .before .before .before .before .before .before .before .before .before .before .before .before .before .before .args .work .now) (c .before .before .before .before .before .before .before .before .before .before .before .before .before .before .before .before .before .args .name .now) _ (c .before .before .before .before .before .before .before .before .before .before .before .before .before .before .before .before .before .args .x .0 + length (c .before .before .before .before .before .before .before .before .before .before .before .before .before .before .before .before .before .args .bytes .now)) (sym (ap lookedOf (c .before .before .before .before .before .i .given .1)) ∙ found (c .before .before .before .before .before .before .before)) .1
 
 resize-requires : tie.Need-resize-requires
-resize-requires c κs = let z = size-says (session (c .before .before .before .before .before .before .before .before .before .before .before .before .before .before .before .before .before .before .before)) (c .before .before .before .before .before .before .before .before .before .before .before .before .before .before .before .before .before .before .before .args .device .now) (c .before .before .before .before .before .before .before .before .before .before .before .before .before .before .before .before .before .before .before .args .work .now) (c .before .before .before .before .before .before .before .before .before .before .before .before .before .before .before .before .before .before .before .args .name .now) _ (c .before .before .before .before .before .before .before .before .before .before .before .before .before .before .before .before .before .before .before .args .x .0 + length (c .before .before .before .before .before .before .before .before .before .before .before .before .before .before .before .before .before .before .before .args .bytes .now)) (sym (ap lookedOf (c .before .before .before .before .before .before .before .i .given .1)) ∙ found (c .before .before .before .before .before .before .before .before .before)) in (subst InTable (c .before .before .before .before .before .before .before .i .given .1) (c .before .before .before .before .before .before .before .before .before .look-up-sized .ensures .1), z .0, long (c .before .before .before .before .before .before .before .before .before .before .before .before), z .1, c .before .before .larger .ensures .1)
+resize-requires c κs = let z = size-says (session (c .before .before .before .before .before .before .before .before .before .before .before .before .before .before .before .before .before .before .before .before)) (c .before .before .before .before .before .before .before .before .before .before .before .before .before .before .before .before .before .before .before .before .args .device .now) (c .before .before .before .before .before .before .before .before .before .before .before .before .before .before .before .before .before .before .before .before .args .work .now) (c .before .before .before .before .before .before .before .before .before .before .before .before .before .before .before .before .before .before .before .before .args .name .now) _ (c .before .before .before .before .before .before .before .before .before .before .before .before .before .before .before .before .before .before .before .before .args .x .0 + length (c .before .before .before .before .before .before .before .before .before .before .before .before .before .before .before .before .before .before .before .before .args .bytes .now)) (sym (ap lookedOf (c .before .before .before .before .before .before .before .before .i .given .1)) ∙ found (c .before .before .before .before .before .before .before .before .before .before)) in (subst InTable (c .before .before .before .before .before .before .before .before .i .given .1) (c .before .before .before .before .before .before .before .before .before .before .look-up-sized .ensures .1), z .0, long (c .before .before .before .before .before .before .before .before .before .before .before .before .before), z .1, c .before .before .larger .ensures .1)
 
 same-length : tie.Need-same-length
 same-length c = search needs
@@ -78,8 +78,8 @@ same-length-2 : tie.Need-same-length-2
 same-length-2 c = search needs
 
 returns-2 : tie.Need-returns-2
-returns-2 c = write-fine (session (c .before .before .before .before .before .before .before .before .before .before .before .before .before .before .before .before .before .before .before .before .before .before)) (c .before .before .before .before .before .before .before .before .before .before .before .before .before .before .before .before .before .before .before .before .before .before .args .device .now) (c .before .before .before .before .before .before .before .before .before .before .before .before .before .before .before .before .before .before .before .before .before .before .args .work .now) (c .before .before .before .before .before .before .before .before .before .before .before .before .before .before .before .before .before .before .before .before .before .before .args .name .now) (c .before .before .before .before .before .before .before .before .before .before .before .before .before .before .before .before .before .before .before .before .before .before .args .x .0) (c .before .before .before .before .before .before .before .before .before .before .before .before .before .before .before .before .before .before .before .before .before .before .args .bytes .now) _ _ _ (sym (ap lookedOf (c .before .before .before .before .before .before .before .before .before .before .i .given .1)) ∙ found (c .before .before .before .before .before .before .before .before .before .before .before .before))
-    (c .before .before .before .before .before .larger .ensures .0 ∙ kept-end (view (stateOf (session (c .before .before .before .before .before .before .before .before .before .before .before .before .before .before .before .before .before .before .before .before .before .before)) (c .before .before .before .before .before .before .before .before .before .before .before .before .before .before .before .before .before .before .before .before .before .before .args .device .now) (c .before .before .before .before .before .before .before .before .before .before .before .before .before .before .before .before .before .before .before .before .before .before .args .work .now))) _ _ _ (c .before .before .before .before .before .before .before .before .before .before .before .before .before .before .before .before .before .before .before .before .before .before .args .x .0 + length (c .before .before .before .before .before .before .before .before .before .before .before .before .before .before .before .before .before .before .before .before .before .before .args .bytes .now)) (c .before .before .before .before .before .before .size-of .ensures) (c .before .before .before .before .before .before .before .inode-block-in .ensures .0 ∙ (ap (λ (v : Disk). v (blockOfInode (c .before .before .before .before .before .before .before .before .before .before .i .given .0 .0))) (cells-view _ _ _ (long (c .before .before .before .before .before .before .before .before .before .before .before .before .before .before .before)) (c .before .before .before .before .before .before .before .before .before .before .before .before .before .before .before .staged-in .ensures .0) (c .before .before .before .before .before .before .before .before .before .before .before .before .before .before .before .before .before .before .before .before .before .before .args .blocks) (c .before .before .before .before .before .before .before .before .before .before .before .before .before .before .before .before .before .before .before .before .before .before .args .phase) (c .before .before .before .before .before .before .before .before .before .before .before .before .before .before .before .before .before .before .before .before .before .before .args .device .now) (c .before .before .before .before .before .before .before .before .before .before .before .before .before .before .before .before .before .before .before .before .before .before .args .work .now))))) (c .before .before .resize .ensures (c .before .before .before .before .before .before .before .before .before .before .before .before .before .before .before .before .before .before .before .before .before .before .args .blocks) (c .before .before .before .before .before .before .before .before .before .before .before .before .before .before .before .before .before .before .before .before .before .before .args .phase))
+returns-2 c = write-fine (session (c .before .before .before .before .before .before .before .before .before .before .before .before .before .before .before .before .before .before .before .before .before .before .before)) (c .before .before .before .before .before .before .before .before .before .before .before .before .before .before .before .before .before .before .before .before .before .before .before .args .device .now) (c .before .before .before .before .before .before .before .before .before .before .before .before .before .before .before .before .before .before .before .before .before .before .before .args .work .now) (c .before .before .before .before .before .before .before .before .before .before .before .before .before .before .before .before .before .before .before .before .before .before .before .args .name .now) (c .before .before .before .before .before .before .before .before .before .before .before .before .before .before .before .before .before .before .before .before .before .before .before .args .x .0) (c .before .before .before .before .before .before .before .before .before .before .before .before .before .before .before .before .before .before .before .before .before .before .before .args .bytes .now) _ _ _ (sym (ap lookedOf (c .before .before .before .before .before .before .before .before .before .before .before .i .given .1)) ∙ found (c .before .before .before .before .before .before .before .before .before .before .before .before .before))
+    (c .before .before .before .before .before .larger .ensures .0 ∙ kept-end (view (stateOf (session (c .before .before .before .before .before .before .before .before .before .before .before .before .before .before .before .before .before .before .before .before .before .before .before)) (c .before .before .before .before .before .before .before .before .before .before .before .before .before .before .before .before .before .before .before .before .before .before .before .args .device .now) (c .before .before .before .before .before .before .before .before .before .before .before .before .before .before .before .before .before .before .before .before .before .before .before .args .work .now))) _ _ _ (c .before .before .before .before .before .before .before .before .before .before .before .before .before .before .before .before .before .before .before .before .before .before .before .args .x .0 + length (c .before .before .before .before .before .before .before .before .before .before .before .before .before .before .before .before .before .before .before .before .before .before .before .args .bytes .now)) (c .before .before .before .before .before .before .before .size-of .ensures) (c .before .before .before .before .before .before .before .before .inode-block-in .ensures .0 ∙ (ap (λ (v : Disk). v (blockOfInode (c .before .before .before .before .before .before .before .before .before .before .before .i .given .0 .0))) (cells-view _ _ _ (long (c .before .before .before .before .before .before .before .before .before .before .before .before .before .before .before .before)) (c .before .before .before .before .before .before .before .before .before .before .before .before .before .before .before .before .staged-in .ensures .0) (c .before .before .before .before .before .before .before .before .before .before .before .before .before .before .before .before .before .before .before .before .before .before .before .args .blocks) (c .before .before .before .before .before .before .before .before .before .before .before .before .before .before .before .before .before .before .before .before .before .before .before .args .phase) (c .before .before .before .before .before .before .before .before .before .before .before .before .before .before .before .before .before .before .before .before .before .before .before .args .device .now) (c .before .before .before .before .before .before .before .before .before .before .before .before .before .before .before .before .before .before .before .before .before .before .before .args .work .now))))) (c .before .before .resize .ensures (c .before .before .before .before .before .before .before .before .before .before .before .before .before .before .before .before .before .before .before .before .before .before .before .args .blocks) (c .before .before .before .before .before .before .before .before .before .before .before .before .before .before .before .before .before .before .before .before .before .before .before .args .phase))
 
 pub write-in-spec : {M : Type 1} → statement M
-write-in-spec = tie.close (tie.spec staged-in-requires sub-staged part-staged-start part-staged-end look-up-sized-requires enum-known-why refused-with-requires enum-known-i inode-block-in-requires size-of-requires add-larger larger-requires resize-requires same-length returns same-length-2 returns-2)
+write-in-spec = tie.close (tie.spec staged-in-requires sub-staged part-staged-start part-staged-end look-up-sized-requires enum-known-why refused-with-requires enum-known-i inode-block-in-requires size-of-requires add-t29 larger-requires resize-requires same-length returns same-length-2 returns-2)

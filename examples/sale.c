@@ -230,10 +230,12 @@ static void must(const char *what, uint32_t answer)
 /* The same for a commit or an open: where a block did not reach the disk, whether the sale is in force. */
 static void must_be_stored(const till *t, const char *sale, purse_outcome o)
 {
-    static const char *const force[] = { "not in force", "in force, the next run finishes it", "in force or not, the next run tells" };
+    static const char *const words[] = { "not in force", "in force, the next run finishes it", "in force or not, the next run tells" };
+    /* A list that was read, and may not be on the disk. */
+    uint32_t force = o.force == PURSE_IN_FORCE && !t->settled ? PURSE_FORCE_UNKNOWN : o.force;
     if (o.answer == PURSE_NOT_STORED) {
         fprintf(stderr, "store %" PRIu64 " of %" PRIu64 ", block %" PRIu64 ": %s\n", o.number, o.stores, o.block, strerror(o.error));
-        fprintf(stderr, "%s is %s\n", sale, force[o.force]);
+        fprintf(stderr, "%s is %s\n", sale, words[force]);
     }
     must(t->path, o.answer);
 }

@@ -72,15 +72,20 @@ while [ $k -le 12 ]; do
     k=$((k + 1))
 done
 
-# The plug is pulled when the list is stored, then each store of the recovery fails: the sale stays in force.
+# The plug is pulled when the list is stored, then block 0 as it was read, or a store of the recovery fails: the sale stays in force.
 k=1
-while [ $k -le 6 ]; do
+while [ $k -le 7 ]; do
     for fault in write sync; do
         rm -f "$box"
         ends 0 "$tmp/sale" "$box" 6
         ends 1 env FAULT="$fault $k" "$tmp/faulty" "$box"
-        says "the sale before is in force, the next run finishes it"
-        says "store $k of 6, block .*: Input/output error"
+        if [ $k -eq 1 ]; then
+            says "the sale before is in force or not, the next run tells"
+            says "store 1 of 6, block .*: Input/output error"
+        else
+            says "the sale before is in force, the next run finishes it"
+            says "store $((k - 1)) of 6, block .*: Input/output error"
+        fi
         sold 2
     done
     k=$((k + 1))

@@ -130,7 +130,8 @@ fn assert_true(stage: &Stage, out: &Out, what: &str, at_list: bool, tally: &mut 
         tally.in_force += 1;
     } else {
         assert!(words.contains("recover"), "{what}: nothing said of the change: {:?}", out.err);
-        assert!(at_list, "{what}: it can be known, but it said {:?}", out.err);
+        // Where block 0 as it was read could not be stored, the tool cannot know whether the disk has the list that it read.
+        assert!(at_list || words.contains("before store 1 of"), "{what}: it can be known, but it said {:?}", out.err);
         let found = seen(case, map.clone().expect("a sound image"));
         assert!(found == case.before || found == case.after, "{what}: neither before nor after");
         tally.unknown += 1;

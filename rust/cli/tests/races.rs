@@ -266,6 +266,8 @@ fn locked_from_outside() {
                 assert_eq!(out.status, 0, "{words:?} beside a reader: {}", out.err);
             }
             assert!(stage.bytes() == stage.case.image, "{words:?} on a locked box: the image is another");
+            // Not by closing it alone: a child that another test starts at this moment has the file open until it runs its program.
+            file.unlock().unwrap();
             drop(file);
             assert!(!exclusive || stage.tool(&words).run().status == 0, "{words:?} when the lock is gone");
         }

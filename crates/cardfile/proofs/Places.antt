@@ -10,11 +10,14 @@ use lib.Seq.{take-add}
 use lib.Dec.{eqb, ltb, leb}
 use borrow.Author.Tests.{eqb-true, eqb-false, ltb-true}
 use Rattle.spec.specs.Bytes.{occurs}
-use Rattle.cardfile.specs.Cards.{Entry, Proper, lineText, before, entryOf}
-use Rattle.cardfile.specs.Lines.{lineOf, lineNumber, Standing, card, tooLong, malformed, nothing, formed, standingIn, standing, cardFor, nameTold}
+use Rattle.cardfile.specs.Cards.{Entry, Proper, nameOf, lineText, before, entryOf}
+use Rattle.cardfile.specs.Lines.{lineOf, lineNumber, Standing, card, tooLong, malformed, nothing, formed, standingIn, standing, cardFor, nameTold, lineTold, lineAt}
+use Rattle.cardfile.specs.declared.Card.{Card}
+use Rattle.cardfile.specs.declared.Line.the-variants.{Found, TooLong, BadForm, NoLine}
 use Rattle.cardfile.proofs.Laws.{before-hit, before-miss, before-nil, before-is}
 use Rattle.cardfile.proofs.Forms.{take-more}
 use Rattle.cardfile.proofs.Spelling.{before-stop, read-is}
+use Rattle.cardfile.proofs.Names.{name-told}
 
 tag : Standing → ℕ
 tag (card e n) = 0
@@ -89,3 +92,59 @@ module _ (text : List ℕ) (at : ℕ) (e : Entry) (next : ℕ) where
             inside = omega (arith, m, k, d);
             number = ap (lineNumber text) (sym m) ∙ number-next text at k;
           }
+
+-- ---- what the code's answer says of what stands there
+
+long-told : (s : Standing) → lineTold s ≡ TooLong → s ≡ tooLong
+long-told (card e n) h = cc
+long-told tooLong h = refl
+long-told malformed h = cc
+long-told nothing h = cc
+
+bad-told : (s : Standing) → lineTold s ≡ BadForm → s ≡ malformed
+bad-told (card e n) h = cc
+bad-told tooLong h = cc
+bad-told malformed h = refl
+bad-told nothing h = cc
+
+none-told : (s : Standing) → lineTold s ≡ NoLine → s ≡ nothing
+none-told (card e n) h = cc
+none-told tooLong h = cc
+none-told malformed h = cc
+none-told nothing h = refl
+
+-- a card that was found is that of an entry; the code makes its name and its bytes
+pub record FoundAt (text : List ℕ) (at : ℕ) (c : Card) (next : ℕ) : Type 0 where
+  pub entry : Entry
+  pub is : standing text at ≡ card entry next
+  pub name : nameTold (c .bytes) (c .number) ≡ nameOf (entry .serial)
+  pub amount : c .amount ≡ entry .amount
+
+module _ (text : List ℕ) (at : ℕ) where
+  pub long-at : lineAt text at ≡ TooLong → standing text at ≡ tooLong
+  long-at h = long-told (standing text at) h
+
+  pub bad-at : lineAt text at ≡ BadForm → standing text at ≡ malformed
+  bad-at h = bad-told (standing text at) h
+
+  pub none-at : lineAt text at ≡ NoLine → standing text at ≡ nothing
+  none-at h = none-told (standing text at) h
+
+  pub found-at : (c : Card) (next : ℕ) → lineAt text at ≡ Found c next → FoundAt text at c next
+  unfolding cardFor
+  found-at c next h = go (standing text at) refl h
+    where
+      go : (s : Standing) → standing text at ≡ s → lineTold s ≡ Found c next → FoundAt text at c next
+      go (card e n) q h =
+          let m : n ≡ next = cc in
+          let x : cardFor e ≡ c = cc in
+          let p = stands text at e n q .proper in
+          record {
+            entry = e;
+            is = q ∙ ap (card e) m;
+            name = ap (λ (d : Card). nameTold (d .bytes) (d .number)) (sym x) ∙ name-told e p;
+            amount = ap (λ (d : Card). d .amount) (sym x);
+          }
+      go tooLong q h = let z : _≡_ {A = ℕ} 0 1 = cc in absurd (omega arith)
+      go malformed q h = let z : _≡_ {A = ℕ} 0 1 = cc in absurd (omega arith)
+      go nothing q h = let z : _≡_ {A = ℕ} 0 1 = cc in absurd (omega arith)

@@ -13,7 +13,7 @@ use Rattle.spec.specs.declared.Phase.{Phase}
 use Rattle.spec.specs.declared.Phase.the-variants.{Closed, Ready, Committing, Recovering}
 use Rattle.spec.specs.declared.Session.{Session}
 use Rattle.spec.specs.declared.Refusal.{Refusal}
-use Rattle.spec.specs.declared.Refusal.the-variants.{DeviceSize, WorkSize, BadName, TooLarge, BadHeader, Unsound, NotReady, Unknown, Taken, NoInode, NoSpace, TooManyExtents, TooManyStaged, ListShort}
+use Rattle.spec.specs.declared.Refusal.the-variants.{NotReady}
 use Rattle.spec.specs.declared.Done.{Done}
 use Rattle.spec.specs.declared.Done.the-variants as done-cases
 use Rattle.spec.specs.declared.Started.{Started}
@@ -26,7 +26,8 @@ use Rattle.spec.specs.Session.{stagedIn, inPhase}
 use Rattle.spec.specs.Answers.{Answer, refused, done, started, stored, idle, counted, file, noFile, run, noRun, refusalOf, doneOf, startedOf, isRefused, Result, refuse, accept, require, _>>=_, _>>_}
 use Rattle.spec.specs.Transaction.{State, stateOf, withSession, view, BlockStore, put, Staged, stagedOf, stage, ascending, stageAll, withStaging}
 use Rattle.spec.specs.Calls.{Outcome, outcome, left, settle, lentOk, readyOk, nameOk, isTaken, emptyInode, isReady, staging, startCommit, create, write, commit, advance, Create, Write, Do}
-use Rattle.promises.specs.Restored.{storedIn, restored, refused-is, create-keeps, write-keeps}
+use Rattle.promises.specs.Ready.{refusal-is, refused-is, create-ready, write-ready, commit-starts}
+use Rattle.promises.specs.Restored.{storedIn, restored, create-keeps, write-keeps}
 use Rattle.cardfile.specs.Cards.{nameOf, amountBytes}
 use Rattle.cardfile.specs.Lines.{Standing, card, tooLong, malformed, nothing, standing, lineAt, lineNumber, nameTold}
 use Rattle.cardfile.specs.declared.Card.{Card}
@@ -56,20 +57,7 @@ begun (run e) = done
 begun noRun = done
 
 begun-refusal : (r : Refusal) → begun (refusalOf r) ≡ refusalOf r
-begun-refusal DeviceSize = refl
-begun-refusal WorkSize = refl
-begun-refusal BadName = refl
-begun-refusal TooLarge = refl
-begun-refusal (BadHeader i) = refl
-begun-refusal Unsound = refl
-begun-refusal NotReady = refl
-begun-refusal Unknown = refl
-begun-refusal Taken = refl
-begun-refusal NoInode = refl
-begun-refusal NoSpace = refl
-begun-refusal TooManyExtents = refl
-begun-refusal TooManyStaged = refl
-begun-refusal ListShort = refl
+begun-refusal r = let f = refusal-is r .1 .1 in ap begun f ∙ sym f
 
 pub begin-is : (s : State) → outcome s (begun (commit s .answer)) ≡ begin s
 unfolding begin idleOk commit

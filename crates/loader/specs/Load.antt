@@ -57,6 +57,11 @@ pub record LoadOutcome : Type 0 where
 abbrev pub loaded : State → ℕ → LoadAnswer → LoadOutcome
 loaded s at a = record { answer = a; after = s; next = at }
 
+-- whether a step leaves all as it was: refused, or no line is left
+abbrev pub leavesAll : LoadAnswer → Bool
+leavesAll (answered a) = isRefused a
+leavesAll noneLeft = true
+
 -- "Loading stops at the first refused line and names it, counted from 1"
 abbrev pub naming : ℕ → Answer → Answer
 naming line (refused n vs) = refused n (line ∷ vs)

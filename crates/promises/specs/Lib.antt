@@ -5,3 +5,4 @@ pub mod FirstCreate
 pub mod FirstWrite
 pub mod Promises
 pub mod Images
+pub mod Advance

@@ -180,7 +180,7 @@ fn take_card(
     requires { ⌜ (stagedIn session ≡ []) × (length (now work) ≡ 16384) ⌝ }
     ensures { λ r. ⌜ leftLoad (r .session) (now (device .entry)) (now (work .exit)) (r .next) (loadedOf (r .answer))
         ≡ takeNamed (stateOf session (now (device .entry)) (now (work .entry))) at (lineNumber (now (text .entry)) at) next
-            (nameTold (card .bytes) (card .number)) (amountBytes (card .amount)) ⌝ }
+        (nameTold (card .bytes) (card .number)) (amountBytes (card .amount)) ⌝ }
 {
     let name = name_of(card);
     let amount = amount_bytes(card.amount);

@@ -262,42 +262,81 @@ module _ (N : ℕ) (text : List ℕ) (x : Running) (i : Idle N (x .both)) (e : E
         go (no-room g q f h) = absurd (no (sym (ap (λ (z : LoadOutcome). z .answer) h) ∙ accepts))
         go (stores g q f c w k h) = (line-goes N b i text (x .place) e after here c w k, ap (λ (z : LoadOutcome). z .next) h)
 
+    abbrev o : Bool
+    o = b .plain .pending
+
+    abbrev B : ℕ
+    B = b .plain .blocks
+
+    -- its eight advances
+    at₁ : Goes N (running 1 N text x .both) (plain old new Committing 3 0 o B)
+    at₁ = begins .0
+
+    at₂ : Goes N (running 2 N text x .both) (plain old new Committing 3 1 o B)
+    at₂ = moves N text old new 3 0 o B (running 1 N text x) at₁
+
+    at₃ : Goes N (running 3 N text x .both) (plain old new Committing 3 2 o B)
+    at₃ = moves N text old new 3 1 o B (running 2 N text x) at₂
+
+    at₄ : Goes N (running 4 N text x .both) (plain old new Committing 3 3 o B)
+    at₄ = moves N text old new 3 2 o B (running 3 N text x) at₃
+
+    at₅ : Goes N (running 5 N text x .both) (plain new new Committing 3 4 true B)
+    at₅ = moves N text old new 3 3 o B (running 4 N text x) at₄
+
+    at₆ : Goes N (running 6 N text x .both) (plain new new Committing 3 5 true B)
+    at₆ = moves N text new new 3 4 true B (running 5 N text x) at₅
+
+    at₇ : Goes N (running 7 N text x .both) (plain new new Committing 3 6 true B)
+    at₇ = moves N text new new 3 5 true B (running 6 N text x) at₆
+
+    at₈ : Goes N (running 8 N text x .both) (plain new new Committing 3 7 true B)
+    at₈ = moves N text new new 3 6 true B (running 7 N text x) at₇
+
+    at₉ : Goes N (running 9 N text x .both) (afterCommitStore (plain new new Committing 3 7 true B) 8)
+    at₉ = moves N text new new 3 7 true B (running 8 N text x) at₈
+
+    new-is : new ≡ at (cardName e) (some (cardBytes e)) old
+    new-is = ap (at (cardName e) (some (cardBytes e))) (maps-agree N b i text (x .place) e after here)
+
+    committed-at : {y : Both} {q : Plain} → Goes N y q → y .plain .committed ≡ q .committed
+    committed-at g = ap (λ (p : Plain). p .committed) (g .is)
+
     -- a line that is accepted is committed eight steps later
     pub line-kept : Kept N x (running 9 N text x) e after
     line-kept =
-        let o = b .plain .pending in
-        let B = b .plain .blocks in
-        let g₀ = begins .0 in
-        let x₁ = runNext N text x in
-        let g₁ = moves N text old new 3 0 o B x₁ g₀ in
-        let x₂ = runNext N text x₁ in
-        let g₂ = moves N text old new 3 1 o B x₂ g₁ in
-        let x₃ = runNext N text x₂ in
-        let g₃ = moves N text old new 3 2 o B x₃ g₂ in
-        let x₄ = runNext N text x₃ in
-        let g₄ = moves N text old new 3 3 o B x₄ g₃ in
-        let x₅ = runNext N text x₄ in
-        let g₅ = moves N text new new 3 4 true B x₅ g₄ in
-        let x₆ = runNext N text x₅ in
-        let g₆ = moves N text new new 3 5 true B x₆ g₅ in
-        let x₇ = runNext N text x₆ in
-        let g₇ = moves N text new new 3 6 true B x₇ g₆ in
-        let x₈ = runNext N text x₇ in
-        let g₈ = moves N text new new 3 7 true B x₈ g₇ in
-        let x₉ = runNext N text x₈ in
         record {
           idle = record {
-            reached = g₈ .reached;
-            lent = g₈ .lent;
-            ready = phase-at N (x₉ .both) (g₈ .reached) ∙ ap phaseOf (g₈ .is);
-            bare = empties N text new new 3 7 true B x₈ g₇ refl;
+            reached = at₉ .reached;
+            lent = at₉ .lent;
+            ready = phase-at N (running 9 N text x .both) (at₉ .reached) ∙ ap phaseOf (at₉ .is);
+            bare = empties N text new new 3 7 true B (running 8 N text x) at₈ refl;
           };
           place =
-              stays N text new new 3 7 true B x₈ g₇ ∙ stays N text new new 3 6 true B x₇ g₆ ∙ stays N text new new 3 5 true B x₆ g₅
-              ∙ stays N text new new 3 4 true B x₅ g₄ ∙ stays N text old new 3 3 o B x₄ g₃ ∙ stays N text old new 3 2 o B x₃ g₂
-              ∙ stays N text old new 3 1 o B x₂ g₁ ∙ stays N text old new 3 0 o B x₁ g₀ ∙ begins .1;
-          committed = ap (λ (q : Plain). q .committed) (g₈ .is) ∙ ap (at (cardName e) (some (cardBytes e))) (maps-agree N b i text (x .place) e after here);
+              stays N text new new 3 7 true B (running 8 N text x) at₈ ∙ stays N text new new 3 6 true B (running 7 N text x) at₇
+              ∙ stays N text new new 3 5 true B (running 6 N text x) at₆ ∙ stays N text new new 3 4 true B (running 5 N text x) at₅
+              ∙ stays N text old new 3 3 o B (running 4 N text x) at₄ ∙ stays N text old new 3 2 o B (running 3 N text x) at₃
+              ∙ stays N text old new 3 1 o B (running 2 N text x) at₂ ∙ stays N text old new 3 0 o B (running 1 N text x) at₁ ∙ begins .1;
+          committed = committed-at at₉ ∙ new-is;
         }
+
+    -- a cut inside the line: up to the third store, the fourth step, the committed map is that before the line; with the fourth, which stores the list, it has the line.
+    -- What is opened and recovered behind the cut has this map: `load-cut`
+    pub line-early : (j : ℕ) → j < 5 → running j N text x .both .plain .committed ≡ old
+    line-early zero h = refl
+    line-early (suc zero) h = committed-at at₁
+    line-early (suc (suc zero)) h = committed-at at₂
+    line-early (suc (suc (suc zero))) h = committed-at at₃
+    line-early (suc (suc (suc (suc zero)))) h = committed-at at₄
+    line-early (suc (suc (suc (suc (suc j))))) h = absurd (omega (arith, h))
+
+    pub line-late : (j : ℕ) → j < 5 → running (5 + j) N text x .both .plain .committed ≡ at (cardName e) (some (cardBytes e)) old
+    line-late zero h = committed-at at₅ ∙ new-is
+    line-late (suc zero) h = committed-at at₆ ∙ new-is
+    line-late (suc (suc zero)) h = committed-at at₇ ∙ new-is
+    line-late (suc (suc (suc zero))) h = committed-at at₈ ∙ new-is
+    line-late (suc (suc (suc (suc zero)))) h = committed-at at₉ ∙ new-is
+    line-late (suc (suc (suc (suc (suc j))))) h = absurd (omega (arith, h))
 
 -- ---- many lines
 

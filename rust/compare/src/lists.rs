@@ -306,6 +306,10 @@ impl Driver {
         self.step(&Call::Open)?;
         if self.model.phase == Phase::Recovering {
             for _ in 0..=self.model.k {
+                if self.rng.one_in(12) {
+                    let call = self.generate(gen::load);
+                    self.step(&call)?;
+                }
                 self.step(&Call::Advance)?;
             }
             if self.rng.one_in(3) {

@@ -51,6 +51,16 @@ impl Driver {
         for _ in 0..self.rng.range(1, 2) {
             self.load_file()?;
         }
+        self.faulty_lines()
+    }
+
+    /// Files of one line with a fault. It may be right all the same, and is then loaded.
+    fn faulty_lines(&mut self) -> Check {
+        for _ in 0..self.rng.range(4, 16) {
+            let card = monday::card(&mut self.rng);
+            let text = Rc::new(monday::damaged(&mut self.rng, &card));
+            self.line(&mut Load { text, ..Load::default() }, 0)?;
+        }
         Ok(())
     }
 

@@ -35,26 +35,27 @@ fn letter(rng: &mut Rng) -> char {
 }
 
 /// A line with a fault, mostly; with its feed, mostly.
-fn damaged(rng: &mut Rng, card: &Card) -> Vec<u8> {
+pub fn damaged(rng: &mut Rng, card: &Card) -> Vec<u8> {
     let letter = letter(rng);
     let good = card.spell(letter);
     let (front, amount) = good.rsplit_once(';').unwrap_or_default();
     let serial = &front[..front.len() - 2];
-    let line = match rng.below(17) {
+    let line = match rng.below(20) {
         0 => return good.into_bytes(),
-        1 => good.to_lowercase(),
-        2 => format!("{serial};{};{amount}", letter.to_ascii_lowercase()),
-        3 => format!("{front};0{amount}"),
-        4 => format!("{good}\r"),
-        5 => String::new(),
-        6 => good[1..].into(),
-        7 => format!("{}{good}", rng.pick(&["0", "00", " ", ";", "\u{feff}"])),
-        8 => format!("{};{amount}", rng.pick(&TOO_LARGE)),
-        9 => format!("{front};{}", rng.pick(&WRONG_AMOUNTS)),
-        10 => format!("{serial};{};{amount}", rng.pick(&["H", "D", "", "HH", "X", "HD", " H"])),
-        11 => format!("{good}{}", rng.pick(&[";", " ", "0", ";1", "A", "00000000"])),
-        12 => good.replacen(';', rng.pick(&["", ",", ";;"]), 1),
-        13..=15 => long(rng, &good),
+        1 => return long(rng, &good).into_bytes(),
+        2 => format!("{};{letter};{amount}", serial.to_lowercase()),
+        3 => format!("{serial};{};{amount}", letter.to_ascii_lowercase()),
+        4 => format!("{front};0{amount}"),
+        5 => format!("{good}\r"),
+        6 => String::new(),
+        7 => good[1..].into(),
+        8 => format!("{}{good}", rng.pick(&["0", "00", " ", ";", "\u{feff}"])),
+        9 => format!("{};{amount}", rng.pick(&TOO_LARGE)),
+        10..=11 => format!("{front};{}", rng.pick(&WRONG_AMOUNTS)),
+        12 => format!("{serial};{};{amount}", rng.pick(&["H", "D", "", "HH", "X", "HD", " H"])),
+        13 => format!("{good}{}", rng.pick(&[";", " ", "0", ";1", "A", "00000000"])),
+        14 => good.replacen(';', rng.pick(&["", ",", ";;"]), 1),
+        15..=16 => long(rng, &good),
         _ => return one_byte(rng, &good),
     };
     format!("{line}\n").into_bytes()
@@ -78,12 +79,16 @@ fn one_byte(rng: &mut Rng, good: &str) -> Vec<u8> {
     line
 }
 
+pub fn card(rng: &mut Rng) -> Card {
+    Card { serial: serial(rng), amount: amount(rng) }
+}
+
 /// A file of a few lines. The store may hold the cards `taken`.
 pub fn file(rng: &mut Rng, taken: &[Card]) -> Vec<u8> {
     let (mut cards, mut text) = (taken.to_vec(), Vec::new());
     let right = rng.one_in(2);
     for _ in 0..rng.pick(&[0, 1, 2, 3, 4, 5, 6, 8, 12]) {
-        let mut card = Card { serial: serial(rng), amount: amount(rng) };
+        let mut card = card(rng);
         if !cards.is_empty() && rng.one_in(if right { 30 } else { 8 }) {
             card.serial.clone_from(&cards[rng.index(cards.len())].serial);
         }

@@ -30,7 +30,7 @@ for m in 1 2 3 4 5 6 7 8 9 10 11 12 13; do
     *) verdict=broken missed=$((missed + 1)) ;;
     esac
     echo "m$m $verdict: $(what "$m")"
-    echo "$out" | sed -n '/^difference: /{s/^/    /;s/\(.\{150\}\).*/\1 ../;p;}'
+    printf "%s\n" "$out" | sed -n '/^difference: /{s/^/    /;s/\(.\{150\}\).*/\1 ../;p;}'
 done
 echo "missed $missed"
 [ "$missed" -eq 0 ]

@@ -72,7 +72,7 @@ impl Pair {
             return Err(format!("{call}: plain answers {plain:?}, proved {proved:?}"));
         }
         if a != b {
-            return Err(format!("{call}: the lent buffer or list or the place differs"));
+            return Err(format!("{call}: the lent buffer, list or place differs"));
         }
         self.same().map_err(|e| format!("{call} -> {plain:?}: {e}"))?;
         self.keeps_out(call, plain, before)?;

@@ -1,5 +1,5 @@
 #!/bin/sh
-# Ten known errors in the plain store, one at a time: the comparison has to find each.
+# Thirteen known errors in the plain store, one at a time: the comparison has to find each.
 # usage: rust/mutate.sh [LISTS [SEED]]; exit status 1 if one is missed.
 cd "$(dirname "$0")" || exit 2
 lists=${1:-300} seed=${2:-1}
@@ -15,10 +15,13 @@ what() {
     8) echo "extent blocks held are counted as wanted again" ;;
     9) echo "read touches the byte behind the last one" ;;
     10) echo "staged numbers stay in the session after a commit" ;;
+    11) echo "the number of a D line is not reversed" ;;
+    12) echo "a refused line moves the place of the load" ;;
+    13) echo "the image of a create stays behind a line refused with 16" ;;
     esac
 }
 missed=0
-for m in 1 2 3 4 5 6 7 8 9 10; do
+for m in 1 2 3 4 5 6 7 8 9 10 11 12 13; do
     cargo build -q --release -p compare --features "m$m" --target-dir target/mutants || exit 2
     out=$(target/mutants/release/compare "$lists" "$seed")
     case $? in
@@ -27,7 +30,7 @@ for m in 1 2 3 4 5 6 7 8 9 10; do
     *) verdict=broken missed=$((missed + 1)) ;;
     esac
     echo "m$m $verdict: $(what "$m")"
-    echo "$out" | sed -n '/^difference: /{s/^/    /;s/\(.\{150\}\).*/\1 ../;p;}'
+    printf "%s\n" "$out" | sed -n '/^difference: /{s/^/    /;s/\(.\{150\}\).*/\1 ../;p;}'
 done
 echo "missed $missed"
 [ "$missed" -eq 0 ]

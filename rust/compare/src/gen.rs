@@ -1,7 +1,10 @@
 //! Random arguments, mostly around limits.
 
+use crate::cards::Card;
+use crate::monday;
 use crate::rng::Rng;
 use crate::side::{Call, Name};
+use std::rc::Rc;
 
 /// What the generator knows of the store.
 pub struct Known<'a> {
@@ -13,6 +16,8 @@ pub struct Known<'a> {
     /// The size of a file, 0 if there is none of this name.
     pub size: &'a dyn Fn(&[u8]) -> u64,
     pub blocks: u64,
+    /// Cards that were loaded.
+    pub cards: &'a [Card],
 }
 
 const LENGTHS: [u64; 12] = [0, 1, 2, 10, 100, 511, 512, 513, 600, 1024, 1025, 2048];
@@ -127,13 +132,24 @@ pub fn query(rng: &mut Rng, known: &Known) -> Call {
     }
 }
 
+/// A call of a load.
+pub fn load(rng: &mut Rng, known: &Known) -> Call {
+    if rng.one_in(4) {
+        return Call::LoadBegin;
+    }
+    let text = monday::file(rng, known.cards);
+    let place = if rng.one_in(2) { 0 } else { monday::place(rng, &text) };
+    Call::LoadStep(Rc::new(text), place)
+}
+
 /// Any call but format and open.
 pub fn any(rng: &mut Rng, known: &Known) -> Call {
-    match rng.below(24) {
+    match rng.below(27) {
         0 => Call::Commit,
         1 => Call::Abort,
         2..=3 => Call::Advance,
         4..=13 => query(rng, known),
+        14..=16 => load(rng, known),
         _ => change(rng, known),
     }
 }

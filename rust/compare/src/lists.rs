@@ -1,19 +1,23 @@
 //! The lists of calls.
 
+use crate::cards::Card;
 use crate::damage;
 use crate::gen::{self, Known};
 use crate::image::{free_of, map_of, name_of, sound_device, Shape};
+use crate::loads::Taken;
 use crate::model::{Map, Model, Phase};
 use crate::pair::{Check, Pair, Tally};
 use crate::rng::Rng;
 use crate::side::{Answer, Call, Name};
 use plain::{Session, BLOCK, WORK_SIZE};
 
-struct Driver {
-    rng: Rng,
-    pair: Pair,
-    model: Model,
+pub struct Driver {
+    pub rng: Rng,
+    pub pair: Pair,
+    pub model: Model,
     names: Vec<Name>,
+    /// Cards that were loaded.
+    pub cards: Vec<Card>,
 }
 
 /// Runs the list of a seed. The tally comes with the first fault, if there is one.
@@ -51,7 +55,7 @@ impl Driver {
         let model = Model::new(Map::new(), shape.blocks);
         let fresh = [200, 201].into_iter();
         let names = (0..shape.files + 1).chain(fresh).map(|i| name_of(i).to_vec()).collect();
-        Driver { rng, pair, model, names }
+        Driver { rng, pair, model, names, cards: Vec::new() }
     }
 
     fn list(&mut self, shape: Shape) -> Check {
@@ -63,7 +67,11 @@ impl Driver {
         }
         let big = shape.blocks > 700;
         let rounds = if big { 3 } else { self.rng.range(2, 7) };
+        let loads = self.rng.one_in(4);
         for _ in 0..rounds {
+            if loads {
+                self.loads()?;
+            }
             self.transaction()?;
             self.probe()?;
         }
@@ -113,7 +121,8 @@ impl Driver {
     // ---- one call
 
     /// A call of a list that was not tampered with.
-    fn step(&mut self, call: &Call) -> Check<Answer> {
+    pub fn step(&mut self, call: &Call) -> Check<Answer> {
+        self.model.staged = self.pair.plain.session.count;
         let answer = self.pair.call(call)?;
         self.model.take(call, answer, &self.pair.lent)?;
         match answer {
@@ -125,7 +134,7 @@ impl Driver {
     }
 
     /// The device with the staged images laid over it.
-    fn working(&self) -> Vec<u8> {
+    pub fn working(&self) -> Vec<u8> {
         let state = &self.pair.proved;
         let mut device = state.device.clone();
         for (image, &b) in state.work.chunks(BLOCK).zip(state.session.staged()) {
@@ -147,12 +156,12 @@ impl Driver {
         }
     }
 
-    fn generate(&mut self, make: fn(&mut Rng, &Known) -> Call) -> Call {
+    pub fn generate(&mut self, make: fn(&mut Rng, &Known) -> Call) -> Call {
         let working = &self.model.working;
         let size = |a: &[u8]| working.get(a).map_or(0, |f| f.len() as u64);
         let file = |i: usize| working.keys().nth(i).map(|a| a.to_vec());
         let blocks = self.model.blocks as u64;
-        let known = Known { names: &self.names, file: &file, files: working.len(), size: &size, blocks };
+        let known = Known { names: &self.names, file: &file, files: working.len(), size: &size, blocks, cards: &self.cards };
         make(&mut self.rng, &known)
     }
 
@@ -181,7 +190,7 @@ impl Driver {
         }
     }
 
-    fn commit_whole(&mut self) -> Check {
+    pub fn commit_whole(&mut self) -> Check {
         self.step(&Call::Commit)?;
         let strange = self.rng.index(80);
         for i in 0.. {
@@ -189,11 +198,23 @@ impl Driver {
                 let call = self.generate(gen::query);
                 self.step(&call)?;
             }
-            if self.step(&Call::Advance)? == Answer::Idle {
+            let call = self.next_store();
+            if self.step(&call)? == Answer::Idle {
                 break;
             }
         }
         self.sound_and_mapped()
+    }
+
+    /// Mostly advance; a step of a load makes the next store of any commit.
+    fn next_store(&mut self) -> Call {
+        if self.model.phase != Phase::Committing || !self.rng.one_in(60) {
+            return Call::Advance;
+        }
+        match self.generate(gen::load) {
+            Call::LoadBegin => Call::Advance,
+            step => step,
+        }
     }
 
     /// A commit that is cut, forgotten or opened anew somewhere.
@@ -221,11 +242,12 @@ impl Driver {
     }
 
     /// A call that is lent a wrong length of device or work space.
-    fn wrong_lengths(&mut self) -> Check {
+    pub fn wrong_lengths(&mut self) -> Check {
         let call = match self.rng.below(8) {
             0 => Call::Open,
             1 => Call::Format,
             2 => Call::Advance,
+            3 => self.generate(gen::load),
             _ => self.generate(gen::any),
         };
         let free = matches!(call, Call::Open | Call::Format);
@@ -265,7 +287,7 @@ impl Driver {
     }
 
     /// A cut; then open, the recovery with further cuts in it, and the second open.
-    fn cut_and_check(&mut self) -> Check {
+    pub fn cut_and_check(&mut self) -> Check {
         self.cut();
         if self.rng.one_in(4) {
             let call = self.generate(gen::any);
@@ -284,6 +306,10 @@ impl Driver {
         self.step(&Call::Open)?;
         if self.model.phase == Phase::Recovering {
             for _ in 0..=self.model.k {
+                if self.rng.one_in(12) {
+                    let call = self.generate(gen::load);
+                    self.step(&call)?;
+                }
                 self.step(&Call::Advance)?;
             }
             if self.rng.one_in(3) {
@@ -296,7 +322,7 @@ impl Driver {
     }
 
     /// The device is sound and its map is the committed one.
-    fn sound_and_mapped(&mut self) -> Check {
+    pub fn sound_and_mapped(&mut self) -> Check {
         if self.model.phase != Phase::Ready {
             return Err("not ready after a commit or recovery".into());
         }
@@ -307,13 +333,21 @@ impl Driver {
         Ok(())
     }
 
-    /// A commit cut at each of its places, each recovery cut at each of its places where there are few.
+    /// A commit cut at each of its places.
     fn every_cut(&mut self) -> Check {
         let Answer::Started(stores) = self.step(&Call::Commit)? else { return Ok(()) };
+        self.cut_everywhere(stores, None)?;
+        self.cut_and_check()
+    }
+
+    /// Cuts at each place of a commit that begins, and each recovery at each of its places where there are
+    /// few. The commit may be that of a line, which a load begun anew then meets again.
+    pub fn cut_everywhere(&mut self, stores: u64, line: Option<&Taken>) -> Check {
+        let call = line.map_or(Call::Advance, Taken::advance);
         for place in 0..=stores {
             let saved = self.save();
             for _ in 0..place {
-                self.step(&Call::Advance)?;
+                self.step(&call)?;
             }
             self.cut();
             let last = if stores <= 10 && self.model.pending { self.model.k + 1 } else { 0 };
@@ -327,18 +361,19 @@ impl Driver {
                     self.cut();
                 }
                 self.recover()?;
-                self.load(saved);
+                line.map_or(Ok(()), |line| self.begin_anew(line))?;
+                self.restore(saved);
             }
-            self.load(saved);
+            self.restore(saved);
         }
-        self.cut_and_check()
+        Ok(())
     }
 
     fn save(&self) -> (crate::side::State, Model) {
         (self.pair.plain.clone(), self.model.clone())
     }
 
-    fn load(&mut self, saved: (crate::side::State, Model)) {
+    fn restore(&mut self, saved: (crate::side::State, Model)) {
         self.pair.say(|| "  back".into());
         self.pair.plain.clone_from(&saved.0);
         (self.pair.proved, self.model) = saved;
@@ -347,13 +382,13 @@ impl Driver {
     // ---- tampering
 
     /// Calls on a tampered session or work space; then everything is as before.
-    fn probe(&mut self) -> Check {
+    pub fn probe(&mut self) -> Check {
         let saved = self.save();
         self.pair.tampering = true;
         for _ in 0..self.rng.range(1, 3) {
             self.tamper();
             let result = self.wild_calls();
-            self.load(saved.clone());
+            self.restore(saved.clone());
             result?;
         }
         self.pair.tampering = false;
@@ -376,6 +411,9 @@ impl Driver {
 
     /// Any calls, with no claim but that both stores agree.
     fn wild_calls(&mut self) -> Check {
+        if self.rng.one_in(8) {
+            self.wild_load()?;
+        }
         for _ in 0..self.rng.range(2, 8) {
             let call = match self.rng.below(16) {
                 0 => Call::Open,
@@ -424,7 +462,15 @@ impl Driver {
     }
 
     fn forged_calls(&mut self, blocks: usize) -> Check {
-        self.pair.both(|s| s.session = Session::fresh(blocks, plain::Phase::Ready));
+        let forge = |pair: &mut Pair| pair.both(|s| s.session = Session::fresh(blocks, plain::Phase::Ready));
+        forge(&mut self.pair);
+        if self.rng.one_in(3) {
+            let b = self.rng.index(46);
+            let clear = self.rng.one_in(3);
+            self.pair.both(|s| s.device[33 * BLOCK + b / 8] &= !((clear as u8) << (b % 8)));
+            self.wild_load()?;
+            forge(&mut self.pair);
+        }
         let whole = |a: &Name| [Call::RunList(a.clone(), 0, u64::MAX, 513), Call::Read(a.clone(), 0, 5000), Call::Size(a.clone())];
         for call in self.names.clone().iter().flat_map(whole) {
             self.pair.call(&call)?;

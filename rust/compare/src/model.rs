@@ -1,6 +1,7 @@
 //! The plain store of document 01's cut rule: maps from names to bytes, fed with calls, answers and
 //! cuts. It knows nothing of blocks.
 
+use crate::cards::{line_at, Card, Line};
 use crate::side::{Answer, Call, Lent};
 use std::collections::BTreeMap;
 use std::rc::Rc;
@@ -29,6 +30,8 @@ pub struct Model {
     /// The N of the session: 0 if it was never opened.
     pub n: usize,
     pub blocks: usize,
+    /// How many blocks were staged before the call. A load asks for it, and maps do not tell.
+    pub staged: usize,
 }
 
 const LIMIT: u64 = 1_048_576;
@@ -39,7 +42,7 @@ fn name8(name: &[u8]) -> Option<Name8> {
 
 impl Model {
     pub fn new(map: Map, blocks: usize) -> Model {
-        Model { committed: map.clone(), working: map, phase: Phase::Closed, k: 0, d: 0, pending: false, n: 0, blocks }
+        Model { committed: map.clone(), working: map, phase: Phase::Closed, k: 0, d: 0, pending: false, n: 0, blocks, staged: 0 }
     }
 
     pub fn cut(&mut self) {
@@ -52,6 +55,8 @@ impl Model {
         let queries: (Vec<&[u8]>, Option<u128>) = match call {
             Call::Format | Call::Open => return None,
             Call::Advance => return (self.n == 0).then_some(1),
+            Call::LoadBegin => return self.due_from_session(),
+            Call::LoadStep(text, place) => return self.due_from_line(line_at(text, *place)),
             Call::Commit | Call::Abort | Call::Free | Call::Record(_) => (vec![], None),
             Call::Create(a) | Call::Remove(a) | Call::Size(a) => (vec![a], None),
             Call::Read(a, ..) | Call::RunList(a, ..) | Call::NthExtent(a, ..) => (vec![a], None),
@@ -67,6 +72,26 @@ impl Model {
             _ if self.phase != Phase::Ready => Some(12),
             _ => self.due_from_map(call, &names),
         }
+    }
+
+    /// "A load begins on a ready session with nothing staged, else it gives 12."
+    fn due_from_session(&self) -> Option<u32> {
+        match () {
+            _ if self.n == 0 => Some(1),
+            _ if self.phase != Phase::Ready || self.staged > 0 => Some(12),
+            _ => None,
+        }
+    }
+
+    /// A step on a committing session is an advance; else what the line at its place gets.
+    fn due_from_line(&self, line: Option<Line>) -> Option<u32> {
+        if self.phase == Phase::Committing {
+            return None;
+        }
+        self.due_from_session().or_else(|| match line?.card {
+            Ok(card) => self.due(&Call::Create(card.name().to_vec())),
+            Err(number) => Some(number),
+        })
     }
 
     fn due_from_map(&self, call: &Call, names: &[&[u8]]) -> Option<u32> {
@@ -87,6 +112,7 @@ impl Model {
             Call::Write(..) | Call::SetSize(..) => (16..=18).contains(&number),
             Call::Create(_) | Call::Remove(_) | Call::Rename(..) => number == 18,
             Call::RunList(..) => number == 19,
+            Call::LoadStep(..) => number == 16,
             _ => false,
         }
     }
@@ -98,7 +124,7 @@ impl Model {
             Answer::Refused(n, _) => due == Some(n) || (due.is_none() && Model::may(call, n)),
             _ => due.is_none() && self.told(call, answer, lent),
         };
-        if !right {
+        if !right || !Model::on_line(call, answer, lent.place) {
             return Err(format!("{call} -> {answer:?}, which the maps do not allow (due {due:?})"));
         }
         if !matches!(answer, Answer::Refused(..)) {
@@ -107,12 +133,29 @@ impl Model {
         Ok(())
     }
 
+    /// Whether a step of a load names the line that is refused and no other, and hands back the place behind
+    /// a line that it takes up, else the place that it was given.
+    fn on_line(call: &Call, answer: Answer, back: usize) -> bool {
+        let Call::LoadStep(text, place) = call else { return true };
+        let line = line_at(text, *place);
+        match answer {
+            Answer::Refused(1 | 2 | 12, named) => named.is_none() && back == *place,
+            Answer::Refused(_, named) => line.is_some_and(|l| named == Some(l.number)) && back == *place,
+            Answer::Started(_) => line.is_some_and(|l| back == l.end),
+            _ => back == *place,
+        }
+    }
+
     /// Whether an accepted call answers what the maps tell.
     fn told(&self, call: &Call, answer: Answer, lent: &Lent) -> bool {
         let file = |a: &[u8]| self.working[a].clone();
         match (call, answer) {
             (Call::Advance, Answer::Idle) => matches!(self.phase, Phase::Closed | Phase::Ready),
             (Call::Advance, Answer::Stored { number, last, .. }) => self.told_store(number, last),
+            (Call::LoadStep(..), Answer::Stored { number, last, .. }) => self.phase == Phase::Committing && self.told_store(number, last),
+            (Call::LoadStep(text, place), Answer::Started(8)) => self.phase == Phase::Ready && line_at(text, *place).is_some(),
+            (Call::LoadStep(text, place), Answer::NoneLeft) => self.phase == Phase::Ready && line_at(text, *place).is_none(),
+            (Call::LoadStep(..), _) => false,
             (Call::Commit, Answer::Started(n)) => n % 2 == 0 && n != 2 && n <= 66,
             (Call::Read(a, x, len), Answer::Counted(n)) => {
                 let bytes = file(a);
@@ -155,9 +198,22 @@ impl Model {
                 }
             }
             Call::Advance => self.advance(),
+            Call::LoadStep(text, place) if matches!(answer, Answer::Started(_)) => {
+                let card = line_at(text, *place).and_then(|l| l.card.ok());
+                card.iter().for_each(|card| self.load(card, answer));
+            }
+            Call::LoadStep(..) => self.advance(),
             Call::Abort => self.working = self.committed.clone(),
             _ => self.change(call),
         }
+    }
+
+    /// "Each line is one committed transaction."
+    fn load(&mut self, card: &Card, answer: Answer) {
+        let name = card.name().to_vec();
+        self.accept(&Call::Create(name.clone()), Answer::Done);
+        self.accept(&Call::Write(name, 0, card.content().to_vec()), Answer::Done);
+        self.accept(&Call::Commit, answer);
     }
 
     fn advance(&mut self) {

@@ -1,7 +1,7 @@
 //! Both stores side by side: every call goes to both, and everything is compared after it.
 
 use crate::side::{Answer, Call, Lent, Plain, Proved, Side, State};
-use plain::{Extent, Session, BLOCK, WORK_SIZE};
+use plain::{Extent, Phase, Session, BLOCK, WORK_SIZE};
 
 /// What was done, for the table at the end.
 #[derive(Default, Clone)]
@@ -9,10 +9,23 @@ pub struct Tally {
     pub calls: u64,
     pub cuts: u64,
     pub tampered: u64,
-    pub refused: [u64; 20],
+    pub refused: [u64; 22],
+    /// Those of them that were steps of a load.
+    pub refused_steps: [u64; 22],
+    /// Lines that a step took up.
+    pub lines: u64,
     /// Accepted calls, in the order of `Call`.
-    pub accepted: [u64; 16],
+    pub accepted: [u64; 18],
     pub most_extents: usize,
+}
+
+/// What a call may do to the device.
+enum Device {
+    Anything,
+    /// It was so, and one block may change.
+    OneBlock(Vec<u8>),
+    /// Its sum was so and stays so.
+    Same(u64),
 }
 
 pub type Check<T = ()> = Result<T, String>;
@@ -20,7 +33,7 @@ pub type Check<T = ()> = Result<T, String>;
 pub struct Pair {
     pub plain: State,
     pub proved: State,
-    /// The lent buffer and list as the last call left them.
+    /// The lent buffer, list and place as the last call left them.
     pub lent: Lent,
     pub tally: Tally,
     pub tampering: bool,
@@ -50,6 +63,7 @@ impl Pair {
         let mut a = lend(call);
         let mut b = a.clone();
         let before = self.digest(call);
+        let kept = matches!(call, Call::LoadStep(..)).then(|| (self.plain.work.clone(), self.plain.session.clone()));
         let plain = Plain.call(&mut self.plain, call, &mut a);
         let proved = Proved.call(&mut self.proved, call, &mut b);
         self.say(|| format!("  {call} -> {plain:?}"));
@@ -58,23 +72,33 @@ impl Pair {
             return Err(format!("{call}: plain answers {plain:?}, proved {proved:?}"));
         }
         if a != b {
-            return Err(format!("{call}: the lent buffer or list differs"));
+            return Err(format!("{call}: the lent buffer, list or place differs"));
         }
         self.same().map_err(|e| format!("{call} -> {plain:?}: {e}"))?;
         self.keeps_out(call, plain, before)?;
+        if let (Answer::Refused(..), Some((work, session))) = (plain, kept) {
+            if work != self.plain.work || session != self.plain.session {
+                return Err(format!("{call} -> {plain:?} changed the work space or the session"));
+            }
+        }
         self.lent = a;
         Ok(plain)
     }
 
     fn count(&mut self, call: &Call, answer: Answer) {
-        self.tally.calls += 1;
-        self.tally.tampered += self.tampering as u64;
+        let (tally, load) = (&mut self.tally, matches!(call, Call::LoadStep(..)));
+        tally.calls += 1;
+        tally.tampered += self.tampering as u64;
+        tally.lines += (load && matches!(answer, Answer::Started(_))) as u64;
         match answer {
-            Answer::Refused(n, _) => self.tally.refused[n as usize] += 1,
-            _ => self.tally.accepted[kind(call)] += 1,
+            Answer::Refused(n, _) => {
+                tally.refused[n as usize] += 1;
+                tally.refused_steps[n as usize] += load as u64;
+            }
+            _ => tally.accepted[kind(call)] += 1,
         }
         if let (Call::RunList(..), Answer::Counted(n)) = (call, answer) {
-            self.tally.most_extents = self.tally.most_extents.max(n as usize);
+            tally.most_extents = tally.most_extents.max(n as usize);
         }
     }
 
@@ -93,19 +117,24 @@ impl Pair {
         Ok(())
     }
 
-    /// The device before an advance; nothing for other calls, which may not change it at all.
-    fn digest(&self, call: &Call) -> (Option<Vec<u8>>, u64) {
+    /// Only format and advance may change the device, and a step of a load where it is an advance.
+    fn digest(&self, call: &Call) -> Device {
+        let committing = matches!(self.plain.session.phase, Phase::Committing(_));
         let small = self.plain.device.len() <= 256 * BLOCK;
-        let copy = (small && matches!(call, Call::Advance)).then(|| self.plain.device.clone());
-        (copy, if matches!(call, Call::Format | Call::Advance) { 0 } else { sum(&self.plain.device) })
+        match call {
+            Call::Format => Device::Anything,
+            Call::LoadStep(..) if !committing => Device::Same(sum(&self.plain.device)),
+            Call::Advance | Call::LoadStep(..) if small => Device::OneBlock(self.plain.device.clone()),
+            Call::Advance | Call::LoadStep(..) => Device::Anything,
+            _ => Device::Same(sum(&self.plain.device)),
+        }
     }
 
     /// "besides format only advance may then store, one block at most"
-    fn keeps_out(&self, call: &Call, answer: Answer, before: (Option<Vec<u8>>, u64)) -> Check {
-        match call {
-            Call::Format => Ok(()),
-            Call::Advance => before.0.map_or(Ok(()), |old| one_block(&old, &self.plain.device, answer)),
-            _ if before.1 != sum(&self.plain.device) => Err(format!("{call} changed the device")),
+    fn keeps_out(&self, call: &Call, answer: Answer, before: Device) -> Check {
+        match before {
+            Device::OneBlock(old) => one_block(&old, &self.plain.device, answer),
+            Device::Same(old) if old != sum(&self.plain.device) => Err(format!("{call} changed the device")),
             _ => Ok(()),
         }
     }
@@ -142,8 +171,9 @@ fn restore(bytes: &mut Vec<u8>, (len, tail): Tail) {
 /// A fresh buffer and list with bytes that no call writes by chance.
 fn lend(call: &Call) -> Lent {
     match call {
-        Call::Read(_, _, n) => Lent { buffer: (0..*n).map(|i| 0xc3 ^ i as u8).collect(), list: Vec::new() },
-        Call::RunList(_, _, _, n) => Lent { buffer: Vec::new(), list: vec![Extent { first: 0xdead, count: 0xbeef }; *n] },
+        Call::Read(_, _, n) => Lent { buffer: (0..*n).map(|i| 0xc3 ^ i as u8).collect(), ..Lent::default() },
+        Call::RunList(_, _, _, n) => Lent { list: vec![Extent { first: 0xdead, count: 0xbeef }; *n], ..Lent::default() },
+        Call::LoadStep(_, place) => Lent { place: *place, ..Lent::default() },
         _ => Lent::default(),
     }
 }
@@ -167,6 +197,8 @@ pub fn kind(call: &Call) -> usize {
         Call::Record(..) => 13,
         Call::RunList(..) => 14,
         Call::NthExtent(..) => 15,
+        Call::LoadBegin => 16,
+        Call::LoadStep(..) => 17,
     }
 }
 

@@ -2,7 +2,7 @@
 
 use crate::side::{Answer, Call, Lent, Side, State};
 use plain::{Phase, Session};
-use purse::{RawSession, Refusal, Store};
+use purse::{LoadRefusal, LoadStep, RawSession, Refusal, Store};
 
 pub struct Proved;
 
@@ -31,8 +31,8 @@ fn cooked(s: &RawSession) -> Session {
 fn settle<T>(r: Result<T, Refusal>, accepted: impl FnOnce(T) -> Answer) -> Answer {
     match r {
         Ok(value) => accepted(value),
-        Err(Refusal::BadHeader(i)) => Answer::Refused(10, i),
-        Err(refusal) => Answer::Refused(refusal.number(), 0),
+        Err(Refusal::BadHeader(i)) => Answer::Refused(10, Some(i)),
+        Err(refusal) => Answer::Refused(refusal.number(), None),
     }
 }
 
@@ -66,6 +66,8 @@ fn ask(store: &mut Store, call: &Call, lent: &mut Lent) -> Answer {
         Call::Record(i) => settle(store.record(*i), recorded),
         Call::RunList(a, from, n, _) => run_list(store, a, *from, *n, &mut lent.list),
         Call::NthExtent(a, from, n, k) => settle(store.nth_extent(a, *from, *n, *k), run),
+        Call::LoadBegin => settle(store.load_begin(), done),
+        Call::LoadStep(text, _) => loaded(store.load_step(text, &mut lent.place)),
     }
 }
 
@@ -73,6 +75,16 @@ fn stored(store: Option<purse::BlockStore>) -> Answer {
     match store {
         Some(s) => Answer::Stored { block: s.block, last: s.last, number: s.number },
         None => Answer::Idle,
+    }
+}
+
+fn loaded(r: Result<LoadStep, LoadRefusal>) -> Answer {
+    match r {
+        Ok(LoadStep::Started(n)) => Answer::Started(n),
+        Ok(LoadStep::Stored(store)) => stored(Some(store)),
+        Ok(LoadStep::Idle) => Answer::Idle,
+        Ok(LoadStep::NoneLeft) => Answer::NoneLeft,
+        Err(e) => Answer::Refused(e.refusal.number(), e.line),
     }
 }
 

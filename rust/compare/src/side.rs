@@ -1,7 +1,8 @@
 //! The two stores behind one trait.
 
-use plain::{Extent, Refusal, Session};
+use plain::{Extent, LoadRefusal, LoadStep, Refusal, Session};
 use std::fmt;
+use std::rc::Rc;
 
 /// Everything that a call is lent, but for its arguments.
 #[derive(Clone, PartialEq)]
@@ -11,14 +12,18 @@ pub struct State {
     pub session: Session,
 }
 
-/// A lent buffer and a lent list; empty where a call has none.
+/// A lent buffer and a lent list, empty where a call has none, and the place of a load.
 #[derive(Clone, Default, PartialEq)]
 pub struct Lent {
     pub buffer: Vec<u8>,
     pub list: Vec<Extent>,
+    pub place: usize,
 }
 
 pub type Name = Vec<u8>;
+
+/// A Monday file.
+pub type Text = Rc<Vec<u8>>;
 
 #[derive(Clone, Debug)]
 pub enum Call {
@@ -40,11 +45,19 @@ pub enum Call {
     /// Name, first block place, count, length of the list.
     RunList(Name, u64, u64, usize),
     NthExtent(Name, u64, u64, u64),
+    LoadBegin,
+    /// The whole text and the place in it.
+    LoadStep(Text, usize),
 }
 
-/// The call, cut off where its data is long.
+/// The call, cut off where its data is long. Of a text, what stands at the place.
 impl fmt::Display for Call {
     fn fmt(&self, f: &mut fmt::Formatter) -> fmt::Result {
+        if let Call::LoadStep(text, place) = self {
+            let rest = text.get(*place..).unwrap_or_default();
+            let front = &rest[..rest.len().min(80)];
+            return write!(f, "LoadStep at {place} of {}: {}", text.len(), front.escape_ascii());
+        }
         let text = format!("{self:?}");
         match text.get(..120) {
             Some(front) => write!(f, "{front} .."),
@@ -55,8 +68,8 @@ impl fmt::Display for Call {
 
 #[derive(Clone, Copy, Debug, PartialEq)]
 pub enum Answer {
-    /// The number, and the record that goes with 10.
-    Refused(u32, u64),
+    /// The number, and the record that goes with 10 or the line that a load names.
+    Refused(u32, Option<u64>),
     Done,
     Started(u64),
     Stored {
@@ -70,6 +83,7 @@ pub enum Answer {
     NoFile,
     Run(Extent),
     NoRun,
+    NoneLeft,
 }
 
 pub trait Side {
@@ -79,8 +93,8 @@ pub trait Side {
 fn settle<T>(r: Result<T, Refusal>, accepted: impl FnOnce(T) -> Answer) -> Answer {
     match r {
         Ok(value) => accepted(value),
-        Err(Refusal::BadHeader(i)) => Answer::Refused(10, i as u64),
-        Err(refusal) => Answer::Refused(refusal.number(), 0),
+        Err(Refusal::BadHeader(i)) => Answer::Refused(10, Some(i as u64)),
+        Err(refusal) => Answer::Refused(refusal.number(), None),
     }
 }
 
@@ -109,6 +123,8 @@ impl Side for Plain {
             Call::Record(i) => settle(plain::record_at(d, w, s, *i), recorded),
             Call::RunList(a, from, n, _) => settle(plain::run_list(d, w, s, a, *from, *n, &mut lent.list), counted),
             Call::NthExtent(a, from, n, k) => settle(plain::nth_extent(d, w, s, a, *from, *n, *k), run),
+            Call::LoadBegin => settle(plain::load_begin(d, w, s), done),
+            Call::LoadStep(text, _) => loaded(plain::load_step(d, w, s, text, &mut lent.place)),
         }
     }
 }
@@ -129,6 +145,16 @@ fn recorded(file: Option<plain::File>) -> Answer {
 
 fn run(extent: Option<Extent>) -> Answer {
     extent.map_or(Answer::NoRun, Answer::Run)
+}
+
+fn loaded(r: Result<LoadStep, LoadRefusal>) -> Answer {
+    match r {
+        Ok(LoadStep::Started(n)) => Answer::Started(n as u64),
+        Ok(LoadStep::Stored(store)) => stored(Some(store)),
+        Ok(LoadStep::Idle) => Answer::Idle,
+        Ok(LoadStep::NoneLeft) => Answer::NoneLeft,
+        Err(e) => Answer::Refused(e.refusal.number(), e.line.map(|n| n as u64)),
+    }
 }
 
 /// Without the proved store the driver compares the plain one with itself.

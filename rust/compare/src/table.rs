@@ -4,7 +4,7 @@ use crate::lists;
 use crate::pair::Tally;
 use std::panic::catch_unwind;
 
-const CALLS: [&str; 16] = [
+const CALLS: [&str; 18] = [
     "format",
     "open",
     "advance",
@@ -21,6 +21,8 @@ const CALLS: [&str; 16] = [
     "record i",
     "run list",
     "n-th extent",
+    "load begin",
+    "load step",
 ];
 
 impl Tally {
@@ -29,6 +31,8 @@ impl Tally {
         self.cuts += other.cuts;
         self.tampered += other.tampered;
         self.most_extents = self.most_extents.max(other.most_extents);
+        self.lines += other.lines;
+        self.refused_steps.iter_mut().zip(other.refused_steps).for_each(|(a, b)| *a += b);
         self.refused.iter_mut().zip(other.refused).for_each(|(a, b)| *a += b);
         self.accepted.iter_mut().zip(other.accepted).for_each(|(a, b)| *a += b);
     }
@@ -39,11 +43,15 @@ impl Tally {
         println!("cuts {}", self.cuts);
         println!("tampered calls {}", self.tampered);
         println!("most extents of a file {}", self.most_extents);
+        println!("lines taken up {}", self.lines);
         for (name, n) in CALLS.iter().zip(self.accepted) {
             println!("accepted {name:<12} {n:>9}");
         }
         for (number, n) in self.refused.iter().enumerate().filter(|(i, _)| (1..5).contains(i) || *i > 9) {
             println!("refused {number:>2} {n:>9}");
+        }
+        for (number, n) in self.refused_steps.iter().enumerate().filter(|(_, n)| **n > 0) {
+            println!("refused {number:>2} {n:>9} as a load step");
         }
     }
 }

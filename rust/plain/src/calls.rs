@@ -12,7 +12,7 @@ use crate::view::View;
 type Done = Result<(), Refusal>;
 type Name = [u8; 8];
 
-fn require(holds: bool, refusal: Refusal) -> Done {
+pub(crate) fn require(holds: bool, refusal: Refusal) -> Done {
     if holds {
         Ok(())
     } else {
@@ -29,7 +29,7 @@ fn length(device: &[u8]) -> Result<usize, Refusal> {
 }
 
 /// 1 and 2.
-fn lent(device: &[u8], work: &[u8], session: &Session) -> Done {
+pub(crate) fn lent(device: &[u8], work: &[u8], session: &Session) -> Done {
     require(length(device)? == session.blocks, Refusal::DeviceSize)?;
     require(work.len() == WORK_SIZE, Refusal::WorkSize)
 }

@@ -1,4 +1,5 @@
-//! A purse store in plain Rust, written from document 01 and docs/DECISIONS.md alone.
+//! A purse store in plain Rust, written from documents 01 and 02 and docs/DECISIONS.md alone. Of document
+//! 02 it has A1, the load.
 //!
 //! It shares no line with the proved store, of which neither the code nor the definitions were read for
 //! it. It serves as the second opinion in the differential tests and as the baseline when speed is
@@ -25,7 +26,9 @@
 
 mod bits;
 mod calls;
+mod cards;
 mod journal;
+mod load;
 mod mutant;
 mod plan;
 pub mod sound;
@@ -34,4 +37,5 @@ mod types;
 mod view;
 
 pub use calls::*;
+pub use load::*;
 pub use types::*;

@@ -1,4 +1,4 @@
-//! Ten known errors, each behind a cargo feature. All are off in every ordinary build.
+//! Thirteen known errors, each behind a cargo feature. All are off in every ordinary build.
 
 /// Whether error number `n` is built in.
 pub const fn on(n: u8) -> bool {
@@ -13,6 +13,9 @@ pub const fn on(n: u8) -> bool {
         8 => cfg!(feature = "m8"),
         9 => cfg!(feature = "m9"),
         10 => cfg!(feature = "m10"),
+        11 => cfg!(feature = "m11"),
+        12 => cfg!(feature = "m12"),
+        13 => cfg!(feature = "m13"),
         _ => false,
     }
 }

@@ -72,7 +72,7 @@ pub struct File {
     pub size: u32,
 }
 
-/// Why a call was refused, in the order of document 01's numbers.
+/// Why a call was refused, in the order of document 01's numbers; the last two are document 02's.
 #[derive(Clone, Copy, Debug, PartialEq, Eq)]
 pub enum Refusal {
     DeviceSize,
@@ -90,10 +90,14 @@ pub enum Refusal {
     TooManyExtents,
     TooManyStaged,
     ListShort,
+    /// A line of a load: "longer than 64 bytes".
+    LineTooLong,
+    /// A line of a load: "not of this form or without its feed".
+    BadLine,
 }
 
 impl Refusal {
-    /// Document 01's number.
+    /// The number that the papers give it.
     pub fn number(self) -> u32 {
         match self {
             Refusal::DeviceSize => 1,
@@ -110,6 +114,8 @@ impl Refusal {
             Refusal::TooManyExtents => 17,
             Refusal::TooManyStaged => 18,
             Refusal::ListShort => 19,
+            Refusal::LineTooLong => 20,
+            Refusal::BadLine => 21,
         }
     }
 }

@@ -98,6 +98,33 @@ impl Till {
         self.work.fill(0x99);
     }
 
+    pub fn load_begin(&self) -> Result<(), Refusal> {
+        load_begin(&self.device, &self.work, &self.session)
+    }
+
+    pub fn load_step(&mut self, text: &[u8], place: &mut usize) -> Result<LoadStep, LoadRefusal> {
+        load_step(&mut self.device, &mut self.work, &mut self.session, text, place)
+    }
+
+    /// Steps from the front of a text on until none is left, or up to the first refusal.
+    pub fn load(&mut self, text: &[u8]) -> Result<(), (Option<usize>, u32)> {
+        let mut place = 0;
+        loop {
+            match self.load_step(text, &mut place) {
+                Ok(LoadStep::NoneLeft) => return Ok(()),
+                Ok(_) => {}
+                Err(e) => return Err((e.line, e.refusal.number())),
+            }
+        }
+    }
+
+    /// A whole file.
+    pub fn file(&self, name: &[u8]) -> Vec<u8> {
+        let mut bytes = vec![0; self.size(name).unwrap() as usize];
+        assert_eq!(self.read(name, 0, &mut bytes), Ok(bytes.len()));
+        bytes
+    }
+
     pub fn block(&self, b: usize) -> &[u8] {
         &self.device[b * BLOCK..(b + 1) * BLOCK]
     }

@@ -88,7 +88,7 @@ pub enum End {
 }
 
 impl Cached {
-    fn to_disk(&mut self, block: u64) {
+    fn put_on_disk(&mut self, block: u64) {
         let at = 512 * block as usize;
         self.disk[at..at + 512].copy_from_slice(&self.cache[at..at + 512]);
     }
@@ -111,12 +111,12 @@ impl Device for Cached {
         let dirty = std::mem::take(&mut self.dirty);
         if self.left > 0 {
             self.left -= 1;
-            dirty.into_iter().for_each(|b| self.to_disk(b));
+            dirty.into_iter().for_each(|b| self.put_on_disk(b));
             return Ok(());
         }
         match self.end {
-            End::First => dirty.first().into_iter().for_each(|&b| self.to_disk(b)),
-            End::Last => dirty.last().into_iter().for_each(|&b| self.to_disk(b)),
+            End::First => dirty.first().into_iter().for_each(|&b| self.put_on_disk(b)),
+            End::Last => dirty.last().into_iter().for_each(|&b| self.put_on_disk(b)),
             End::Killed | End::Forgotten => {}
         }
         Err(Pulled)

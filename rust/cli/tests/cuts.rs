@@ -241,10 +241,10 @@ fn load() {
         let (at, image) = (lists_before(&list, c.number), stage.bytes());
         assert_map(committed(&image), &parts[at], &what);
         load_goes_on(&stage, &image, at, &what);
-        tally.ends += 1;
     }
     end_cut(&stage, &mut tally);
     tally.tell("load");
+    eprintln!("load: {} ends before a system call", trace.len());
 }
 
 /// A second load goes on behind a cut, and is cut at each of its stores: a first part of the lines is there, and no line is lost or doubled.

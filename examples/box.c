@@ -383,7 +383,7 @@ static void loads(void)
 {
     static const uint64_t order[] = { 1, 2, 3, 0, 33, 34, 42, 0, 1, 2, 3, 0, 33, 34, 43, 0, 1, 2, 3, 0, 33, 34, 44, 0 };
     faults f = faults_at(0, 0);
-    uint64_t place = 0;
+    uint64_t place = 0, stores;
     purse_load_outcome o;
     make_empty();
     o = purse_box_load(&box, (const uint8_t *)monday, strlen(monday), &place, write_block, &f);
@@ -404,7 +404,9 @@ static void loads(void)
     same_outcome("load with something staged", o.outcome, PURSE_NOT_READY, PURSE_NOT_IN_FORCE, 0, 0);
     same("no line", o.line + o.lines, 0);
     same("not broken", box.broken, 0);
-    same("the transaction goes on", commit(faults_at(0, 0)).answer, PURSE_OK);
+    same("commit by hand", purse_commit(image, LEN, work, sizeof work, &box.session, &stores), PURSE_OK);
+    same_outcome("load in a commit", load(faults_at(1, 0), &place).outcome, PURSE_NOT_READY, PURSE_NOT_IN_FORCE, 0, 0);
+    same("nothing of it is stored", box.session.place, 0);
     reload();
     same_outcome("load when never opened", load(faults_at(1, 0), &place).outcome, PURSE_DEVICE_SIZE, PURSE_NOT_IN_FORCE, 0, 0);
 }

@@ -4,8 +4,8 @@ mod common;
 
 use common::{never, Cached, End, Plug, Pulled, Way, WAYS};
 use purse::{
-    BlockStore, Failure, Load, LoadFailure, LoadRefusal, LoadStep, LoadedLine, MemoryDevice, OutsideDevice, Phase, Refusal, Standing,
-    Store, WORK_SIZE,
+    BlockStore, Device, Failure, Load, LoadFailure, LoadRefusal, LoadStep, LoadedLine, MemoryDevice, OutsideDevice, Phase, Refusal,
+    Standing, Store, WORK_SIZE,
 };
 
 /// Four cards: line, name, cents.
@@ -97,7 +97,9 @@ fn go_on(kept: &mut [u8], left: usize, way: Way, load: &mut Load) -> (usize, usi
             assert_eq!(failure.line.unwrap() as usize, before + steps.len());
             assert_eq!(failure.go_on(), Some(load.line()));
             spent(&mut store, &mut device, load);
-            told(failure)
+            let (least, most) = told(failure);
+            assert_eq!(load.line(), least as u64 + 1, "it goes on at the first line that is not certain");
+            (least, most)
         }
         _ => {
             assert_eq!((cards_in(&store), load.place()), (CARDS.len(), load.text().len()));
@@ -329,7 +331,11 @@ fn a_transaction_under_way_is_not_mixed_with_a_load() {
     let mut load = Load::new(&text);
     let failed = store.load_line_on(&mut device, &mut load).unwrap_err();
     assert_eq!(failed.to_string(), "refused 12: the session is closed, committing or recovering");
-    store.commit_on(&mut device).unwrap();
+    store.commit().unwrap();
+    let failed = store.load_line_on(&mut device, &mut load).unwrap_err();
+    assert_eq!((failed.line, failed.failure, load.line()), (None, Failure::Refused(Refusal::NotReady), 1));
+    assert_eq!(store.phase(), Phase::Committing(0), "a load stores nothing of a commit that it did not begin");
+    store.each_store(|stored, bytes| device.write_block(stored.block, bytes)).unwrap();
     assert_eq!(store.load_on(&mut device, &mut load).filter(Result::is_ok).count(), 4);
     assert_eq!(store.files().count(), 5);
 }

@@ -35,18 +35,25 @@ def functions(library):
 
 
 def tables(library):
-    """Name -> the places that a table of jumps leads to."""
+    """Name -> the places that its tables of jumps lead to."""
     text = subprocess.run(["objdump", "-r", library], check=True, capture_output=True, text=True).stdout
-    found, section = {}, ""
+    starts, entries, section = {}, {}, ""
     for line in text.splitlines():
         if line.startswith("RELOCATION RECORDS FOR"):
             section = line
-        elif ".rodata." in section and ".text." in line:
-            # an entry is relative to its table, which the place of the entry corrects
-            place = int(line.split()[0], 16)
-            name, _, add = line.split()[-1].partition("+0x")
-            found.setdefault(name.replace(".text.", ""), []).append(int(add or "0", 16) - place)
-    return found
+            continue
+        match = re.match(r"([0-9a-f]+) R_X86_64_PC32\s+\.(text|rodata)\.(.*?)(?:([-+])0x([0-9a-f]+))?$", line)
+        if not match:
+            continue
+        place, area, name = int(match.group(1), 16), match.group(2), match.group(3)
+        add = int((match.group(4) or "+") + (match.group(5) or "0"), 16)
+        if ".rodata." in section and area == "text":
+            entries.setdefault(name, []).append((place, add))
+        elif ".text." in section and area == "rodata":
+            starts.setdefault(name, set()).add(add + 4)
+    # an entry is relative to its table, which the place of the entry in it corrects
+    begin = lambda name, place: max((s for s in starts.get(name, ()) if s <= place), default=0)
+    return {name: [add - (place - begin(name, place)) for place, add in of] for name, of in entries.items()}
 
 
 def moved(mnemonic, operands):

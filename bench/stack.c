@@ -9,7 +9,7 @@
 
 #include "purse.h"
 
-enum { STACK = 32768, ROWS = 20 };
+enum { STACK = 32768, ROWS = 22 };
 
 static uint8_t stack[STACK] __attribute__((aligned(64)));
 static uint8_t device[PURSE_MOST_BLOCKS * PURSE_BLOCK], kept_device[sizeof device], bytes[PURSE_FILE_MAX];
@@ -25,6 +25,8 @@ static volatile uint64_t answer; /* so that no call is the last thing its functi
 static purse_store done;
 static purse_file file;
 static purse_extent list[PURSE_EXTENTS_MAX];
+static purse_load_answer step;
+static const char *text = "";
 
 static void must(int ok, const char *what)
 {
@@ -62,6 +64,9 @@ static void do_free_count(void) { answer = purse_free_count(LENT, &n); }
 static void do_record(void) { answer = purse_record(LENT, x, &file); }
 static void do_nth_extent(void) { answer = purse_nth_extent(LENT, name, 8, 0, 4096, x, list); }
 static void do_run_list(void) { answer = purse_run_list(LENT, name, 8, 0, 4096, list, (size_t)x, &n); }
+static void do_load_begin(void) { answer = purse_load_begin(LENT); }
+static void do_load_step(void) { answer = purse_load_step(LENT, (const uint8_t *)text, strlen(text), &n, &step); }
+static void do_box_load(void) { answer = purse_box_load(&box, (const uint8_t *)text, strlen(text), &n, write_block, NULL).lines; }
 static void do_box_open(void) { answer = purse_box_open(&box, write_block, NULL).answer; }
 static void do_box_commit(void) { answer = purse_box_commit(&box, write_block, NULL).answer; }
 
@@ -88,8 +93,11 @@ static row rows[ROWS] = {
     { "record", do_record, { 0 } },
     { "n-th extent", do_nth_extent, { 0 } },
     { "run list", do_run_list, { 0 } },
+    { "load begin", do_load_begin, { 0 } },
+    { "load step", do_load_step, { 0 } },
     { "purse_box_open", do_box_open, { 0 } },
     { "purse_box_commit", do_box_commit, { 0 } },
+    { "purse_box_load", do_box_load, { 0 } },
 };
 
 /* ---- The painted stack */
@@ -261,6 +269,30 @@ static void changing(uint64_t size)
     }
 }
 
+/* Loads: of lines of each form, of refused ones, and each store of a line. */
+static void loading(void)
+{
+    static const char *const texts[] = { "", "x\n", "04A1B2C3;H;1250\n", "72057594037927935;D;10000000\n04A1B2C3D4E5F6;H;99999999\n",
+        "04A1B2C3;H;1\n3283263748;D;1\n", "00000000000000000000000000000000000000000000000000000000000000000000000000000000" };
+    for (size_t i = 0; i < sizeof texts / sizeof texts[0]; i++) {
+        text = texts[i];
+        n = 0;
+        try(do_load_begin);
+        n = 0;
+        try(do_load_step);
+        n = 0;
+        try(do_box_load);
+    }
+    text = texts[2];
+    n = 0;
+    if (purse_load_step(LENT, (const uint8_t *)text, strlen(text), &n, &step) != 0)
+        return;
+    while (box.session.phase == PURSE_COMMITTING)
+        measure(do_load_step);
+    must(purse_box_remove(&box, (const uint8_t *)"\4\4\xa1\xb2\xc3\0\0\0") == 0, "remove");
+    commit_all();
+}
+
 /* Each call on the store as it is, with arguments that lead far, and with changes that wait for their commit. */
 static void calls(void)
 {
@@ -270,6 +302,7 @@ static void calls(void)
     try(do_box_open);
     try(do_abort);
     try(do_advance);
+    loading();
     for (unsigned k = 0; k < 2; k++) {
         name = k == 0 ? A : B;
         try(do_create);

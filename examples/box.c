@@ -1,6 +1,6 @@
-/* The calls of a box on a device that fails: each store of a commit, of a recovery and of the recovery of a recovery, lost, torn, or made but not
- * told. Behind each failure the device is read and opened again, and must hold the files that the outcome told. Prints the first 20 differences,
- * then the result. */
+/* The calls of a box on a device that fails: each store of a commit, of a recovery, of the recovery of a recovery and of a load, lost, torn, or
+ * made but not told. Behind each failure the device is read and opened again, and must hold the files that the outcome told. Prints the first 20
+ * differences, then the result. */
 #include <inttypes.h>
 #include <stdio.h>
 #include <string.h>
@@ -62,6 +62,15 @@ static purse_outcome open_box(faults f) { return purse_box_open(&box, write_bloc
 
 static purse_outcome commit(faults f) { return purse_box_commit(&box, write_block, &f); }
 
+static const char monday[] = "04A1B2C3;H;1250\n69495546249912580;D;5\n80E91F04;H;99999999\n";
+
+static purse_load_outcome load_text(const char *text, faults f, uint64_t *place)
+{
+    return purse_box_load(&box, (const uint8_t *)text, strlen(text), place, write_block, &f);
+}
+
+static purse_load_outcome load(faults f, uint64_t *place) { return load_text(monday, f, place); }
+
 static void must_open(void)
 {
     purse_outcome o = open_box(faults_at(0, 0));
@@ -90,6 +99,10 @@ static void make(void)
 }
 
 enum { K = 6, STORES = 2 * K + 2, LIST = K + 1 };
+enum { LINES = 3, LINE_STORES = 8, LINE_LIST = 4 };
+
+/* Where the lines of the text begin, and its end. */
+static const uint64_t starts[LINES + 1] = { 0, 16, 38, 58 };
 
 /* The device holds the files from before the transaction, or those from behind it, whole. */
 static void holds(int in_force)
@@ -141,6 +154,9 @@ static void is_broken(void)
     same("never opened", box.session.blocks + box.session.phase + box.session.place + box.session.count, 0);
     same_outcome("open of a broken box", open_box(faults_at(1, PURSE_BLOCK)), PURSE_BROKEN, PURSE_FORCE_UNKNOWN, 0, 0);
     same_outcome("commit of a broken box", commit(faults_at(1, PURSE_BLOCK)), PURSE_BROKEN, PURSE_FORCE_UNKNOWN, 0, 0);
+    n = 5;
+    same_outcome("load of a broken box", load(faults_at(1, PURSE_BLOCK), &n).outcome, PURSE_BROKEN, PURSE_FORCE_UNKNOWN, 0, 0);
+    same("its place", n, 5);
     same("format", purse_box_format(&box), PURSE_BROKEN);
     same("abort", purse_box_abort(&box), PURSE_BROKEN);
     same("create", purse_box_create(&box, B), PURSE_BROKEN);
@@ -288,18 +304,117 @@ static int meddle(void *context, uint64_t block, const uint8_t *bytes)
 
 static void meddled(void)
 {
+    uint64_t place = 0;
     make();
     same_outcome("meddled", purse_box_commit(&box, meddle, NULL), PURSE_BROKEN, PURSE_NOT_IN_FORCE, STORES, 2);
     is_broken();
     reload();
     must_open();
     holds(0);
+    same_outcome("meddled load", purse_box_load(&box, (const uint8_t *)monday, strlen(monday), &place, meddle, NULL).outcome, PURSE_BROKEN,
+        PURSE_NOT_IN_FORCE, LINE_STORES, 2);
+    same("its place", place, 0);
+    is_broken();
+    reload();
+    must_open();
+    holds(0);
+}
+
+/* ---- Loads */
+
+/* An empty box on the device, open. */
+static void make_empty(void)
+{
+    purse_box_lend(&box, image, LEN, work, sizeof work);
+    same("format", purse_box_format(&box), PURSE_OK);
+    memcpy(disk, image, LEN);
+    must_open();
+}
+
+/* The device holds the first n cards of the text, each whole, and no other file. */
+static void holds_cards(uint64_t n)
+{
+    static const uint8_t names[LINES][8] = { { 4, 0x04, 0xa1, 0xb2, 0xc3 }, { 7, 0x04, 0xa1, 0xb2, 0xc3, 0xd4, 0xe5, 0xf6 },
+        { 4, 0x80, 0xe9, 0x1f, 0x04 } };
+    static const uint8_t amounts[LINES][8] = { { 0xe2, 0x04 }, { 5 }, { 0xff, 0xe0, 0xf5, 0x05 } };
+    uint8_t bytes[9];
+    uint64_t count;
+    purse_file file;
+    for (uint64_t k = 0; k < LINES; k++) {
+        same("record", purse_box_record(&box, k, &file), PURSE_OK);
+        same("card", file.used, k < n);
+        same("amount", purse_box_read(&box, names[k], 0, bytes, sizeof bytes, &count), k < n ? PURSE_OK : PURSE_UNKNOWN);
+        same("bytes", count, k < n ? 8 : 0);
+        same("cents", k < n && memcmp(bytes, amounts[k], 8) != 0, 0);
+    }
+    same("no other", purse_box_record(&box, LINES, &file), PURSE_OK);
+    same("used", file.used, 0);
+    same("image and device", (uint64_t)(memcmp(image, disk, LEN) != 0), 0);
+}
+
+/* A store of a load fails: the lines before it are there, its own as the outcome tells, and the load goes on without a line lost or doubled. */
+static void failed_load(uint64_t store, size_t made)
+{
+    uint64_t before = (store - 1) / LINE_STORES, number = (store - 1) % LINE_STORES + 1, place = 0;
+    uint32_t force = number < LINE_LIST ? PURSE_NOT_IN_FORCE : number == LINE_LIST ? PURSE_FORCE_UNKNOWN : PURSE_IN_FORCE;
+    uint64_t kept = before + (number > LINE_LIST || (number == LINE_LIST && made == PURSE_BLOCK));
+    purse_load_outcome o;
+    make_empty();
+    o = load(faults_at(store, made), &place);
+    same_outcome("load, store", o.outcome, PURSE_NOT_STORED, force, LINE_STORES, number);
+    same("lines before", o.lines, before);
+    same("line", o.line, before + 1);
+    same("place", place, starts[before + (force == PURSE_IN_FORCE)]);
+    same("behind", o.behind, starts[before + 1]);
+    is_broken();
+    reload();
+    if (open_box(faults_at(0, 0)).force == PURSE_IN_FORCE && force == PURSE_FORCE_UNKNOWN)
+        place = o.behind;
+    holds_cards(kept);
+    o = load(faults_at(0, 0), &place);
+    same_outcome("going on", o.outcome, PURSE_OK, PURSE_IN_FORCE, 0, 0);
+    same("lines", o.lines, LINES - kept);
+    same("no line", o.line + o.behind, 0);
+    holds_cards(LINES);
+}
+
+/* Loads without a failure: the order, refused lines, and what a load begins on. */
+static void loads(void)
+{
+    static const uint64_t order[] = { 1, 2, 3, 0, 33, 34, 42, 0, 1, 2, 3, 0, 33, 34, 43, 0, 1, 2, 3, 0, 33, 34, 44, 0 };
+    faults f = faults_at(0, 0);
+    uint64_t place = 0, stores;
+    purse_load_outcome o;
+    make_empty();
+    o = purse_box_load(&box, (const uint8_t *)monday, strlen(monday), &place, write_block, &f);
+    same_outcome("load", o.outcome, PURSE_OK, PURSE_IN_FORCE, 0, 0);
+    same("lines", o.lines * 1000 + place, LINES * 1000 + strlen(monday));
+    same("order", f.stores * 10 + (memcmp(f.blocks, order, sizeof order) != 0), sizeof order / sizeof order[0] * 10);
+    holds_cards(LINES);
+    place = starts[1];
+    o = load(faults_at(1, 0), &place);
+    same_outcome("a card again", o.outcome, PURSE_TAKEN, PURSE_NOT_IN_FORCE, 0, 0);
+    same("its line", o.line * 1000 + o.lines + place, 2000 + starts[1]);
+    place = 0;
+    o = load_text("0000000000;D;1\nx\n", faults_at(0, 0), &place);
+    same_outcome("a bad line", o.outcome, PURSE_BAD_LINE, PURSE_NOT_IN_FORCE, 0, 0);
+    same("its line", o.line * 1000 + o.lines + place, 2000 + 1 + 15);
+    same("create", purse_box_create(&box, A), PURSE_OK);
+    o = load(faults_at(1, 0), &place);
+    same_outcome("load with something staged", o.outcome, PURSE_NOT_READY, PURSE_NOT_IN_FORCE, 0, 0);
+    same("no line", o.line + o.lines, 0);
+    same("not broken", box.broken, 0);
+    same("commit by hand", purse_commit(image, LEN, work, sizeof work, &box.session, &stores), PURSE_OK);
+    same_outcome("load in a commit", load(faults_at(1, 0), &place).outcome, PURSE_NOT_READY, PURSE_NOT_IN_FORCE, 0, 0);
+    same("nothing of it is stored", box.session.place, 0);
+    reload();
+    same_outcome("load when never opened", load(faults_at(1, 0), &place).outcome, PURSE_DEVICE_SIZE, PURSE_NOT_IN_FORCE, 0, 0);
 }
 
 /* Each answer has words of its own. */
 static void texts(void)
 {
-    static const uint32_t answers[] = { 0, 1, 2, 3, 4, 10, 11, 12, 13, 14, 15, 16, 17, 18, 19, PURSE_NOT_STORED, PURSE_BROKEN, 5 };
+    static const uint32_t answers[] = { 0, 1, 2, 3, 4, 10, 11, 12, 13, 14, 15, 16, 17, 18, 19, 20, 21, PURSE_NOT_STORED, PURSE_BROKEN, 5 };
     for (size_t i = 0; i < sizeof answers / sizeof answers[0]; i++)
         for (size_t k = 0; k < i; k++)
             same("the same words", (uint64_t)(strcmp(purse_refusal_text(answers[i]), purse_refusal_text(answers[k])) == 0), 0);
@@ -331,7 +446,11 @@ int main(void)
         for (uint64_t first = 1; first <= K + !torn; first++)
             for (uint64_t second = 1; second <= K + !torn; second++)
                 failed_recovery(first, second, made[i]);
+        for (uint64_t store = 1; store <= LINES * LINE_STORES; store++)
+            if (!torn || store % LINE_LIST != 0)
+                failed_load(store, made[i]);
     }
+    loads();
     meddled();
     removed_bytes_stay();
     texts();

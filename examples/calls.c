@@ -1,5 +1,6 @@
-/* Calls every function once or more, and compares with the worked examples of the paper (E1 to E13); then with sessions that the store did not
- * make, refused and accepted, all that is lent compared before and behind. Prints the first 20 differences, then the result. */
+/* Calls every function once or more, and compares with the worked examples of the paper (E1 to E13); loads lines of every form, right and wrong;
+ * then with sessions that the store did not make, refused and accepted, all that is lent compared before and behind. Prints the first 20
+ * differences, then the result. */
 #include <inttypes.h>
 #include <stdio.h>
 #include <string.h>
@@ -254,6 +255,224 @@ static void refusals(void)
     same("unsound", purse_open(device, len, &s, &record), PURSE_UNSOUND);
 }
 
+/* ---- Loading */
+
+typedef struct {
+    const char *line;
+    uint8_t name[8];
+    uint64_t cents;
+} card;
+
+static const card cards[] = {
+    { "04A1B2C3;H;1250\n", { 4, 0x04, 0xa1, 0xb2, 0xc3 }, 1250 },
+    { "3283263748;D;1250\n", { 4, 0x04, 0xa1, 0xb2, 0xc3 }, 1250 },
+    { "04A1B2C3D4E5F6;H;0\n", { 7, 0x04, 0xa1, 0xb2, 0xc3, 0xd4, 0xe5, 0xf6 }, 0 },
+    { "69495546249912580;D;0\n", { 7, 0x04, 0xa1, 0xb2, 0xc3, 0xd4, 0xe5, 0xf6 }, 0 },
+    { "00000000;H;99999999\n", { 4 }, 99999999 },
+    { "0000000000;D;1\n", { 4 }, 1 },
+    { "4294967295;D;7\n", { 4, 0xff, 0xff, 0xff, 0xff }, 7 },
+    { "72057594037927935;D;10000000\n", { 7, 0xff, 0xff, 0xff, 0xff, 0xff, 0xff, 0xff }, 10000000 },
+};
+
+/* Lines that are refused with 21, each with its feed behind it. */
+static const char *const bad_lines[] = { "", ";H;", "04A1B2C3;H", "04A1B2C3;H;", "04A1B2C3;H;1;", ";04A1B2C3;H;1", "04a1b2c3;H;1", "04A1B2C;H;1",
+    "04A1B2C3D;H;1", "04A1B2C3;h;1", "04A1B2C3;X;1", "04A1B2C3;;1", "04A1B2C3;H;01", "04A1B2C3;H;00", "04A1B2C3;H;123456789", "04A1B2C3;H;-1",
+    "04A1B2C3;H;1 ", " 04A1B2C3;H;1", "04A1B2C3;H;1\r", "04A1B2C3,H,1", "4294967296;D;1", "9999999999;D;1", "328326374;D;1", "03283263748;D;1",
+    "72057594037927936;D;1", "3283263748;H;1", "04A1B2C3;D;1", "04A1B2C3;H;1.5", "G4A1B2C3;H;1", "04A1B2C3D4E5F6A7B8C9;H;1", "04A1B2C3;H;+1",
+    "04A1B2C3;H;\xB2", "99999999999999999;D;1", "04A1B2C3;HH;1", "04A1B2C3;H;1;2", ";;", "#", "serial;letter;amount" };
+
+static uint64_t place;
+static purse_load_answer step;
+
+static uint32_t load_step(const void *text, size_t n) { return purse_load_step(LENT, &s, (const uint8_t *)text, n, &place, &step); }
+
+static uint32_t load_begin(void) { return purse_load_begin(LENT, &s); }
+
+/* The step that takes up the line at the place, and those that store it: in blocks 33, its record's and its own. */
+static void load_line(const char *text, uint64_t record, uint64_t block)
+{
+    const uint64_t order[] = { 1, 2, 3, 0, 33, record, block, 0 };
+    uint64_t next = place + (uint64_t)(strchr(text + place, '\n') + 1 - (text + place));
+    same("load begins", load_begin(), 0);
+    same("line", load_step(text, strlen(text)), 0);
+    same("taken up", step.kind, PURSE_LOAD_TAKEN);
+    same("stores of a line", step.stores, 8);
+    same("nothing stored yet", step.line + step.store.block + step.store.last + step.store.number, 0);
+    for (uint64_t k = 0; k < 8; k++) {
+        same("place behind the line", place, next);
+        same("load begins in a commit", load_begin(), PURSE_NOT_READY);
+        same("step", load_step(text, strlen(text)), 0);
+        same("stored", step.kind, PURSE_LOAD_STORED);
+        same("block of a line", step.store.block, order[k]);
+        same("last of a line", step.store.last, k == 7);
+        same("number in a line", step.store.number, k + 1);
+        same("neither line nor stores", step.line + step.stores, 0);
+    }
+    same("ready behind a line", s.phase * 100 + s.count, 100);
+}
+
+/* The file of a card holds its amount in 8 bytes. */
+static void holds(const card *c)
+{
+    uint8_t bytes[9];
+    uint64_t n, cents = 0;
+    same("read of a card", purse_read(LENT, &s, c->name, 8, 0, bytes, sizeof bytes, &n), 0);
+    same("bytes of a card", n, 8);
+    for (int k = 0; k < 8; k++)
+        cents |= (uint64_t)bytes[k] << (8 * k);
+    same("amount", cents, c->cents);
+}
+
+/* A step that is refused, naming a line: everything is as before it, and so is the next one. */
+static void refused_step(const char *what, const void *text, size_t n, uint32_t refusal, uint64_t line)
+{
+    static uint8_t device_before[sizeof device], work_before[sizeof work];
+    const purse_session session_before = s;
+    const uint64_t place_before = place;
+    memcpy(device_before, device, sizeof device);
+    memcpy(work_before, work, sizeof work);
+    for (int k = 0; k < 2; k++) {
+        memset(&step, 0x77, sizeof step);
+        same(what, load_step(text, n), refusal);
+        same("refused line", step.line, line);
+        same("answer of a refused step", step.kind + step.stores + step.store.block + step.store.last + step.store.number, 0);
+        same("place of a refused step", place, place_before);
+        same("device of a refused step", (uint64_t)(memcmp(device, device_before, sizeof device) != 0), 0);
+        same("work space of a refused step", (uint64_t)(memcmp(work, work_before, sizeof work) != 0), 0);
+        same("session of a refused step", (uint64_t)(memcmp(&s, &session_before, sizeof s) != 0), 0);
+    }
+}
+
+static void none_left(const void *text, size_t n)
+{
+    uint64_t was = place;
+    same("no line", load_step(text, n), 0);
+    same("none left", step.kind, PURSE_LOAD_NONE);
+    same("answer of none", step.line + step.stores + step.store.block + step.store.last + step.store.number, 0);
+    same("place of none", place, was);
+}
+
+/* Lines of the form: each makes its file. */
+static void good_lines(void)
+{
+    for (size_t i = 0; i < sizeof cards / sizeof cards[0]; i++) {
+        fresh(64);
+        place = 0;
+        load_line(cards[i].line, 34, 42);
+        none_left(cards[i].line, strlen(cards[i].line));
+        holds(&cards[i]);
+        same("free behind a card", free_blocks(), 21);
+        place = 0;
+        refused_step("the card again", cards[i].line, strlen(cards[i].line), PURSE_TAKEN, 1);
+    }
+}
+
+/* Lines that are not, alone and behind others; too long ones; and the ends of a text. */
+static void wrong_lines(void)
+{
+    char text[200];
+    fresh(64);
+    for (size_t i = 0; i < sizeof bad_lines / sizeof bad_lines[0]; i++) {
+        place = 0;
+        snprintf(text, sizeof text, "%s\n", bad_lines[i]);
+        refused_step(bad_lines[i], text, strlen(text), PURSE_BAD_LINE, 1);
+        snprintf(text, sizeof text, "\n\nwords\n%s\n04A1B2C3;H;1\n", bad_lines[i]);
+        place = 8;
+        refused_step(bad_lines[i], text, strlen(text), PURSE_BAD_LINE, 4);
+    }
+    memset(text, '0', sizeof text);
+    text[64] = '\n';
+    place = 0;
+    refused_step("64 bytes and a feed", text, 65, PURSE_BAD_LINE, 1);
+    refused_step("64 bytes and no feed", text, 64, PURSE_BAD_LINE, 1);
+    text[64] = '0';
+    text[65] = '\n';
+    refused_step("65 bytes and a feed", text, 66, PURSE_LINE_TOO_LONG, 1);
+    refused_step("65 bytes and no feed", text, 65, PURSE_LINE_TOO_LONG, 1);
+    text[65] = '0';
+    refused_step("200 bytes", text, sizeof text, PURSE_LINE_TOO_LONG, 1);
+    refused_step("no feed", "04A1B2C3;H;1", 12, PURSE_BAD_LINE, 1);
+    place = 13;
+    refused_step("no feed in line 2", "04A1B2C3;H;1\n04A1B2C4;H;1", 25, PURSE_BAD_LINE, 2);
+    place = 0;
+    none_left("", 0);
+    none_left(NULL, 0);
+    place = 13;
+    none_left("04A1B2C3;H;1\n", 13);
+    place = UINT64_MAX;
+    none_left("04A1B2C3;H;1\n", 13);
+}
+
+/* Three lines, the third the first card again; a place that no step gave. */
+static void three_lines(void)
+{
+    static const char text[] = "04A1B2C3;H;1250\n69495546249912580;D;5\n3283263748;D;9\n";
+    static const card second = { NULL, { 7, 0x04, 0xa1, 0xb2, 0xc3, 0xd4, 0xe5, 0xf6 }, 5 };
+    static const card odd = { NULL, { 7, 0xff, 0xff, 0xff, 0xff, 0xff, 0xff, 0xff }, 3 };
+    fresh(64);
+    place = 0;
+    load_line(text, 34, 42);
+    load_line(text, 34, 43);
+    refused_step("a card again", text, strlen(text), PURSE_TAKEN, 3);
+    holds(&cards[0]);
+    holds(&second);
+    place = 5;
+    load_line("04A1;72057594037927935;D;3\n", 34, 44);
+    holds(&odd);
+}
+
+/* 12 comes before every line, and where none is left: staged, closed, recovering. */
+static void not_idle(void)
+{
+    uint64_t record;
+    purse_store done;
+    const char *text = cards[0].line;
+    fresh(64);
+    place = 0;
+    create(A);
+    same("begin with something staged", load_begin(), PURSE_NOT_READY);
+    refused_step("step with something staged", text, strlen(text), PURSE_NOT_READY, 0);
+    refused_step("a bad line with something staged", "x\n", 2, PURSE_NOT_READY, 0);
+    refused_step("no line with something staged", "", 0, PURSE_NOT_READY, 0);
+    same("commit", purse_commit(LENT, &s, &record), 0);
+    for (int k = 0; k < 2; k++) /* a commit that no load began */
+        same("step in a commit", load_step("x\n", 2) + step.kind, PURSE_LOAD_STORED);
+    memset(&s, 0, sizeof s);
+    same("open", purse_open(device, len, &s, &record), 0);
+    same("begin in a recovery", load_begin(), PURSE_NOT_READY);
+    refused_step("step in a recovery", text, strlen(text), PURSE_NOT_READY, 0);
+    refused_step("no line in a recovery", "", 0, PURSE_NOT_READY, 0);
+    for (int k = 0; k < 2; k++)
+        same("advance", purse_advance(LENT, &s, &done), 0);
+    same("begin when closed", load_begin(), PURSE_NOT_READY);
+    refused_step("step when closed", text, strlen(text), PURSE_NOT_READY, 0);
+    refused_step("no line when closed", "", 0, PURSE_NOT_READY, 0);
+}
+
+/* A box that is full: of blocks, and of records. */
+static void full(void)
+{
+    char text[64 * 16];
+    uint8_t name[8] = { 1 };
+    uint64_t stores;
+    purse_store done;
+    fresh(64);
+    place = 0;
+    for (int k = 0; k < 23; k++)
+        snprintf(text + 13 * k, sizeof text - 13 * (size_t)k, "%08X;H;1\n", (unsigned)k + 256);
+    for (uint64_t k = 0; k < 22; k++)
+        load_line(text, 34 + k / 16, 42 + k);
+    refused_step("no block", text, strlen(text), PURSE_NO_SPACE, 23);
+    fresh(128);
+    for (name[1] = 0; name[1] < 128; name[1]++)
+        create(name);
+    same("commit", purse_commit(LENT, &s, &stores), 0);
+    while (stores-- > 0)
+        same("advance", purse_advance(LENT, &s, &done), 0);
+    place = 0;
+    refused_step("no record", text, strlen(text), PURSE_NO_RECORD, 1);
+}
+
 /* ---- Sessions that the store did not make: each call, refused and accepted */
 
 /* All that the calls below are lent. */
@@ -341,6 +560,25 @@ static uint32_t do_nth_extent(void)
 }
 
 static uint32_t do_run_list(void) { return with_count(purse_run_list_v(DEVICE, WORK, NUMBERS, NAME, at.s.staged, 0, 9, at.list, 6)); }
+
+static uint32_t do_load_begin(void) { return purse_load_begin_v(DEVICE, WORK, NUMBERS, at.s.staged).refusal; }
+
+static uint32_t load_at(const char *text, uint64_t from)
+{
+    purse_loaded r = purse_load_step_v(DEVICE, WORK, NUMBERS, at.s.staged, (const uint8_t *)text, strlen(text), from);
+    const purse_advanced advanced = { r.refusal, r.block, r.last, r.number };
+    stored = advanced;
+    answered = r.line * 100 + r.kind * 10 + r.stores + (r.kind == PURSE_LOAD_TAKEN ? 0 : r.next - from);
+    return r.refusal;
+}
+
+static uint32_t do_load(void) { return load_at("04A1B2C3;H;1250\n", 0); }
+
+static uint32_t do_load_bad(void) { return load_at("\n04A1B2C3;H;1250", 1); }
+
+static uint32_t do_load_long(void) { return load_at("04A1B2C3;H;1250 04A1B2C3;H;1250 04A1B2C3;H;1250 04A1B2C3;H;1250 04", 0); }
+
+static uint32_t do_load_none(void) { return load_at("04A1B2C3;H;1250\n", UINT64_MAX); }
 
 static uint32_t do_short_list(void) { return with_count(purse_run_list_v(DEVICE, WORK, NUMBERS, NAME, at.s.staged, 0, 9, at.list, 1)); }
 
@@ -446,7 +684,7 @@ static uint64_t phase_behind(const odd_call *c)
         return PURSE_CLOSED;
     if (c->call == do_advance)
         return before.s.phase == PURSE_READY ? PURSE_READY : PURSE_CLOSED;
-    return c->call == do_commit ? PURSE_COMMITTING : PURSE_READY;
+    return c->call == do_commit || c->call == do_load ? PURSE_COMMITTING : PURSE_READY;
 }
 
 /* What an accepted call leaves. */
@@ -588,6 +826,76 @@ static void odd_others(void)
     same("the name stays", f.name[0] * 256u + f.name[7], 0x7777);
 }
 
+/* Loads: refusal and answer of a ready session with nothing staged; the answer is line, kind and stores as load_at puts them together. */
+static const odd_call odd_loads[] = {
+    { "load begin", do_load_begin, NULL, NULL, 0, 0, 0, 0, 0, 1 },
+    { "load", do_load, NULL, NULL, 0, 3, 18, 0, 0, 0 },
+    { "load of a bad line", do_load_bad, NULL, NULL, 21, 0, 200, 0, 0, 0 },
+    { "load of a long line", do_load_long, NULL, NULL, 20, 0, 100, 0, 0, 0 },
+    { "load of no line", do_load_none, NULL, NULL, 0, 0, 30, 0, 0, 1 },
+};
+
+static uint32_t load_due(const odd_call *c, enum damage d, uint64_t phase, uint64_t count)
+{
+    if (d == SHORT_DEVICE || d == OTHER_DEVICE)
+        return PURSE_DEVICE_SIZE;
+    if (d == SHORT_WORK)
+        return PURSE_WORK_SIZE;
+    if (phase == PURSE_COMMITTING && c->call != do_load_begin)
+        return 0;
+    return phase != PURSE_READY || count != 0 ? PURSE_NOT_READY : c->refusal;
+}
+
+/* What a load leaves that is accepted. */
+static void accepted_load(const odd_call *c, enum damage d)
+{
+    if (c->reads) {
+        at.s.place = before.s.place; /* of no meaning where the session is ready */
+        unchanged(c, d);
+    } else {
+        accepted(c, d);
+    }
+    same_in(c, d, "answer of a load", answered, c->answer);
+}
+
+/* One load on one session. */
+static void odd_load(const odd_call *c, enum damage d, uint64_t phase, uint64_t odd_place, uint64_t count)
+{
+    uint32_t want = load_due(c, d, phase, count);
+    at = base;
+    at.s.phase = phase;
+    at.s.place = odd_place;
+    at.s.count = count;
+    at.len -= d == SHORT_DEVICE;
+    at.s.blocks += d == OTHER_DEVICE;
+    at.work_len -= d == SHORT_WORK;
+    if (want != 0)
+        memset(at.s.staged + 20, 0xab, 12 * sizeof at.s.staged[0]);
+    before = at;
+    answered = 0;
+    same_in(c, d, "refusal", c->call(), want);
+    if (want != 0) {
+        unchanged(c, d);
+        same_in(c, d, "answer of a refusal", answered, want >= PURSE_LINE_TOO_LONG ? c->answer : 0);
+    } else if (phase == PURSE_COMMITTING) {
+        odd_advance(c, d);
+        same_in(c, d, "answer of an advance", answered, 20);
+    } else {
+        accepted_load(c, d);
+    }
+}
+
+static void odd_loading(void)
+{
+    static const uint64_t counts[] = { 0, 1, 33, UINT64_MAX };
+    for (size_t c = 0; c < sizeof odd_loads / sizeof odd_loads[0]; c++)
+        for (int d = NONE; d < ZERO_NAME; d++)
+            for (size_t p = 0; p < sizeof odd_phases / sizeof odd_phases[0]; p++)
+                for (size_t k = 0; k < sizeof odd_places / sizeof odd_places[0]; k++)
+                    for (size_t n = 0; n < sizeof counts / sizeof counts[0]; n++)
+                        odd_load(&odd_loads[c], (enum damage)d, odd_phases[p], odd_places[k], counts[n]);
+}
+
 /* NULL where the length is 0. */
 static void nothing_lent(void)
 {
@@ -598,6 +906,11 @@ static void nothing_lent(void)
     same("no device", purse_create(NULL, 0, NULL, 0, &s, NULL, 0), PURSE_DEVICE_SIZE);
     same("no work space", purse_create(device, len, NULL, 0, &s, NULL, 0), PURSE_WORK_SIZE);
     same("no name", purse_create(LENT, &s, NULL, 0), PURSE_BAD_NAME);
+    same("no device to load", purse_load_begin(NULL, 0, NULL, 0, &s), PURSE_DEVICE_SIZE);
+    n = 5;
+    same("no work space to load", purse_load_step(device, len, NULL, 0, &s, NULL, 0, &n, &step), PURSE_WORK_SIZE);
+    same("the place stays", n, 5);
+    same("no text", purse_load_step(LENT, &s, NULL, 0, &n, &step) + step.kind, PURSE_LOAD_NONE);
     create(A);
     same("no new name", purse_rename(LENT, &s, A, 8, NULL, 0), PURSE_BAD_NAME);
     same("no bytes", purse_write(LENT, &s, A, 8, 1000, NULL, 0), 0);
@@ -617,8 +930,14 @@ int main(void)
     limits();
     pieces();
     refusals();
+    good_lines();
+    wrong_lines();
+    three_lines();
+    not_idle();
+    full();
     odd_sessions();
     odd_others();
+    odd_loading();
     nothing_lent();
     printf("%u tests, %u failed\n", tests, failures);
     return failures != 0;

@@ -24,5 +24,12 @@ int main()
     good = good && purse_box_create(&box, name) == PURSE_OK && purse_box_write(&box, name, 600, nullptr, 0) == PURSE_OK;
     good = good && purse_box_commit(&box, write_block, nullptr).answer == PURSE_OK;
     good = good && purse_box_size(&box, name, &size) == PURSE_OK && size == 600;
+    const uint8_t line[] = { '0', '4', 'A', '1', 'B', '2', 'C', '3', ';', 'H', ';', '5', '\n' };
+    uint64_t place = 0;
+    purse_load_answer step;
+    good = good && purse_load_begin(image, sizeof image, work, sizeof work, &box.session) == PURSE_OK;
+    good = good && purse_box_load(&box, line, sizeof line, &place, write_block, nullptr).lines == 1 && place == sizeof line;
+    good = good && purse_load_step(image, sizeof image, work, sizeof work, &box.session, nullptr, 0, &place, &step) == PURSE_OK;
+    good = good && step.kind == PURSE_LOAD_NONE;
     return good && std::memcmp(disk, image, sizeof disk) == 0 ? 0 : 1;
 }

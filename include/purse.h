@@ -13,7 +13,7 @@
  *
  * Every function answers 0 where the call is accepted, else the number of the refusal (enum purse_refusal). A refused call changes nothing:
  * device, work space, session, name, buffer and list are byte for byte as before, whatever they held. What is answered through a pointer
- * is then 0, but for purse_open's record and the name of purse_record, which stays.
+ * is then 0, but for purse_open's record and purse_load_step's line; the name of purse_record and the place of a load stay.
  *
  * Every pointer must point to as many elements as its length says; NULL may stand where the length is 0, and nowhere else.
  * What a function writes must not overlap anything else that it is given.
@@ -37,7 +37,7 @@
 extern "C" {
 #endif
 
-#define PURSE_VERSION 0x000200u   /* 0.2.0, two hexadecimal digits each: of this file, and of the library it was written for */
+#define PURSE_VERSION 0x000300u   /* 0.3.0, two hexadecimal digits each: of this file, and of the library it was written for */
 
 #define PURSE_BLOCK 512u          /* bytes of a block */
 #define PURSE_FEWEST_BLOCKS 64u   /* blocks of the smallest device */
@@ -48,6 +48,8 @@ extern "C" {
 #define PURSE_FILE_MAX 1048576u   /* bytes of a file, at most */
 #define PURSE_EXTENTS_MAX 512u    /* extents of a file, at most */
 #define PURSE_STAGED_MAX 32u      /* blocks that one transaction changes, at most */
+#define PURSE_LINE_MAX 64u        /* bytes of a line that is loaded, at most, without its feed */
+#define PURSE_LOAD_ENOUGH 16384u  /* bytes of a text that are enough: behind 128 lines of 65 bytes the next one is refused */
 
 enum purse_refusal {
     PURSE_OK = 0,
@@ -64,7 +66,9 @@ enum purse_refusal {
     PURSE_NO_SPACE = 16,         /* more blocks are wanted than are free */
     PURSE_TOO_MANY_EXTENTS = 17, /* the file would lie in more than 512 pieces */
     PURSE_TOO_MANY_STAGED = 18,  /* the transaction would change more than 32 blocks */
-    PURSE_LIST_SHORT = 19        /* run list: the list lent is too short */
+    PURSE_LIST_SHORT = 19,       /* run list: the list lent is too short */
+    PURSE_LINE_TOO_LONG = 20,    /* load: the line has more than 64 bytes before its feed, or to the end of the text */
+    PURSE_BAD_LINE = 21          /* load: the line is not serial;letter;amount, or has no feed */
 };
 
 /* Answers of a box (purse_box) that are no refusals. */
@@ -78,6 +82,14 @@ enum purse_phase {
     PURSE_READY = 1,
     PURSE_COMMITTING = 2,
     PURSE_RECOVERING = 3
+};
+
+/* What a step of a load did. */
+enum purse_load_kind {
+    PURSE_LOAD_REFUSED = 0, /* nothing: it was refused */
+    PURSE_LOAD_TAKEN = 1,   /* it took up a line: the next steps store it */
+    PURSE_LOAD_STORED = 2,  /* it made an advance */
+    PURSE_LOAD_NONE = 3     /* no line is left */
 };
 
 /* Owned by the store: read it, do not write it. */
@@ -110,6 +122,14 @@ typedef struct {
     uint32_t first;
     uint32_t count;
 } purse_extent;
+
+/* What a step of a load answered. */
+typedef struct {
+    uint32_t kind;     /* enum purse_load_kind */
+    uint64_t line;     /* the line that was refused, counted from 1; 0 where none is named */
+    uint64_t stores;   /* PURSE_LOAD_TAKEN: how many steps store it, 8 */
+    purse_store store; /* PURSE_LOAD_STORED: the block stored; else all 0 */
+} purse_load_answer;
 
 /* ---- What the library exports: `numbers` points to the four numbers of the session, blocks, phase, place and count in this order, and `staged` to
  * its 32 cells. The functions further below are easier to use. */
@@ -145,6 +165,14 @@ typedef struct {
     uint32_t first, count;
 } purse_run;
 
+typedef struct {
+    uint32_t refusal;
+    uint32_t kind;
+    uint64_t line, stores;
+    uint64_t block, last, number;
+    uint64_t next; /* the load's place behind the step; as given where it is refused */
+} purse_loaded;
+
 purse_finished purse_format_v(uint8_t *device, size_t len, uint64_t *numbers, uint32_t *staged);
 purse_finished purse_open_v(const uint8_t *device, size_t len, uint64_t *numbers, uint32_t *staged);
 purse_advanced purse_advance_v(uint8_t *device, size_t len, const uint8_t *work, size_t work_len, uint64_t *numbers, uint32_t *staged);
@@ -171,6 +199,10 @@ purse_run purse_nth_extent_v(const uint8_t *device, size_t len, const uint8_t *w
     const uint8_t *name, size_t name_len, const uint32_t *staged, uint64_t from, uint64_t n, uint64_t k);
 purse_counted purse_run_list_v(const uint8_t *device, size_t len, const uint8_t *work, size_t work_len, const uint64_t *numbers,
     const uint8_t *name, size_t name_len, const uint32_t *staged, uint64_t from, uint64_t n, uint32_t *list, size_t cells);
+purse_finished purse_load_begin_v(const uint8_t *device, size_t len, const uint8_t *work, size_t work_len, const uint64_t *numbers,
+    const uint32_t *staged);
+purse_loaded purse_load_step_v(uint8_t *device, size_t len, uint8_t *work, size_t work_len, uint64_t *numbers, uint32_t *staged,
+    const uint8_t *text, size_t text_len, uint64_t at);
 
 /* ---- The calls */
 
@@ -349,6 +381,31 @@ static inline uint32_t purse_run_list(const uint8_t *device, size_t len, const u
     return r.refusal;
 }
 
+/* Whether a load may begin: the session is ready and nothing is staged. A load is a place in a text, which the caller keeps; its first is 0. */
+static inline uint32_t purse_load_begin(const uint8_t *device, size_t len, const uint8_t *work, size_t work_len, const purse_session *s)
+{
+    return purse_load_begin_v(PURSE_IN(device, len), PURSE_IN(work, work_len), purse_numbers_of(s), s->staged).refusal;
+}
+
+/* A step of a load. On a ready session with nothing staged it takes up the line at *place, one transaction that makes a file, and moves *place
+ * behind it; or it answers that no line is left. On a committing one it is an advance: write the block through before the next step. A refused
+ * line leaves nothing, and the next step finds it again. Behind a cut begin anew at a line that was not kept: the place has passed the line
+ * that was being stored. */
+static inline uint32_t purse_load_step(uint8_t *device, size_t len, uint8_t *work, size_t work_len, purse_session *s, const uint8_t *text,
+    size_t text_len, uint64_t *place, purse_load_answer *out)
+{
+    purse_loaded r = purse_load_step_v(PURSE_OUT(device, len), PURSE_OUT(work, work_len), purse_numbers_in(s), s->staged, PURSE_IN(text, text_len),
+        *place);
+    *place = r.next;
+    out->kind = r.kind;
+    out->line = r.line;
+    out->stores = r.stores;
+    out->store.block = r.block;
+    out->store.last = r.last;
+    out->store.number = r.number;
+    return r.refusal;
+}
+
 #undef PURSE_IN
 #undef PURSE_OUT
 
@@ -371,6 +428,8 @@ static inline const char *purse_refusal_text(uint32_t answer)
     case PURSE_TOO_MANY_EXTENTS: return "the file would lie in more than 512 pieces";
     case PURSE_TOO_MANY_STAGED: return "the transaction would change more than 32 blocks";
     case PURSE_LIST_SHORT: return "the list lent is too short";
+    case PURSE_LINE_TOO_LONG: return "the line is longer than 64 bytes";
+    case PURSE_BAD_LINE: return "the line is not serial;letter;amount, or has no line feed";
     case PURSE_NOT_STORED: return "a block did not reach the device";
     case PURSE_BROKEN: return "the box is broken: read the device again, lend it and open it";
     default: return "no answer of the store";
@@ -522,6 +581,68 @@ static inline purse_outcome purse_box_commit(purse_box *b, purse_write_block *wr
     if (o.stores == 0)
         return o;
     return purse_box_store_all(b, write_block, context, o.stores, o.stores / 2);
+}
+
+/* What a load has done. */
+typedef struct {
+    purse_outcome outcome; /* as of a commit, of the last line tried. PURSE_OK: no line is left */
+    uint64_t lines;        /* lines that this call has stored: they count, whatever the answer is. The line below is not among them */
+    uint64_t line;         /* the line that was refused, or that a store of failed, counted from 1; else 0 */
+    uint64_t behind;       /* a store failed: the place behind that line */
+} purse_load_outcome;
+
+/* The number of the line at a place of a text: 1 and the feeds before it. */
+static inline uint64_t purse_line_at(const uint8_t *text, size_t text_len, uint64_t place)
+{
+    uint64_t line = 1;
+    for (size_t k = 0; k < text_len && k < place; k++)
+        line += text[k] == 0x0a;
+    return line;
+}
+
+/* Takes up the line at *place and stores it. 1: it is stored, and *place is behind it. Else *place is where to go on. */
+static inline int purse_box_load_line(purse_box *b, const uint8_t *text, size_t text_len, uint64_t *place, purse_write_block *write_block,
+    void *context, purse_load_outcome *o)
+{
+    static const purse_outcome nothing = { PURSE_OK, PURSE_IN_FORCE, 0, 0, 0, 0, 0 };
+    purse_load_answer step;
+    uint64_t at = *place;
+    o->outcome = nothing;
+    o->outcome.answer = purse_load_step(b->device, b->len, b->work, b->work_len, &b->session, text, text_len, &at, &step);
+    o->line = step.line;
+    if (o->outcome.answer != PURSE_OK)
+        o->outcome.force = PURSE_NOT_IN_FORCE;
+    if (step.kind != PURSE_LOAD_TAKEN)
+        return 0;
+    o->outcome = purse_box_store_all(b, write_block, context, step.stores, step.stores / 2);
+    if (o->outcome.answer != PURSE_OK) {
+        o->line = purse_line_at(text, text_len, *place);
+        o->behind = at;
+    }
+    /* A line that may count is tried again: it is refused then with PURSE_TAKEN. One that was passed over would be lost. */
+    if (o->outcome.force == PURSE_IN_FORCE)
+        *place = at;
+    return o->outcome.answer == PURSE_OK;
+}
+
+/* Loads a text from *place on, line by line, each a transaction whose blocks are stored by write_block, until no line is left (PURSE_OK). It stops
+ * at the first line that is refused, which leaves nothing, and at the first store that fails, which breaks the box; the lines before stay. It
+ * begins on an open box with nothing staged. *place is then where to go on: at the line named, or behind it where outcome.force is
+ * PURSE_IN_FORCE. Where that is PURSE_FORCE_UNKNOWN, the next open tells: go on at `behind` if its force is PURSE_IN_FORCE, else at *place. Of a
+ * long text PURSE_LOAD_ENOUGH bytes from *place on are enough. */
+static inline purse_load_outcome purse_box_load(purse_box *b, const uint8_t *text, size_t text_len, uint64_t *place, purse_write_block *write_block,
+    void *context)
+{
+    purse_load_outcome o = { { PURSE_BROKEN, PURSE_FORCE_UNKNOWN, 0, 0, 0, 0, 0 }, 0, 0, 0 };
+    if (b->broken)
+        return o;
+    o.outcome.answer = purse_load_begin(b->device, b->len, b->work, b->work_len, &b->session);
+    o.outcome.force = PURSE_NOT_IN_FORCE;
+    if (o.outcome.answer != PURSE_OK)
+        return o;
+    while (purse_box_load_line(b, text, text_len, place, write_block, context, &o))
+        o.lines++;
+    return o;
 }
 
 /* Gives up the changes of this transaction. */

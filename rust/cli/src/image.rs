@@ -103,17 +103,21 @@ pub fn locked(path: &Path, file: &File, lock: fn(&File) -> Result<(), TryLockErr
     }
 }
 
-/// The bytes of a FILE, `-` for standard input: read whole, or it fails. Of one that is too long for a purse one byte
-/// too many is read, so that the store refuses it.
+/// A FILE to be read, `-` for standard input.
+pub fn open_file(path: &Path) -> io::Result<File> {
+    // Standard input as a file of its own: the library's would take one that cannot be read for an empty one.
+    match path.as_os_str() == "-" {
+        true => io::stdin().as_fd().try_clone_to_owned().map(File::from),
+        false => File::open(path),
+    }
+}
+
+/// The bytes of a FILE: read whole, or it fails. Of one that is too long for a purse one byte too many is read, so that the
+/// store refuses it.
 pub fn read_whole(path: &Path) -> Answer<Vec<u8>> {
     let mut bytes = Vec::new();
     let limit = FILE_MOST as u64 + 1;
-    // Standard input as a file of its own: the library's would take one that cannot be read for an empty one.
-    let file = match path.as_os_str() == "-" {
-        true => io::stdin().as_fd().try_clone_to_owned().map(File::from),
-        false => File::open(path),
-    };
-    match file.and_then(|file| file.take(limit).read_to_end(&mut bytes)) {
+    match open_file(path).and_then(|file| file.take(limit).read_to_end(&mut bytes)) {
         Ok(_) => Ok(bytes),
         Err(e) => Err(Trouble::file(path, &e)),
     }

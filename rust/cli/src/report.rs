@@ -34,6 +34,8 @@ pub enum Force {
     NotAndPending,
     /// It is not, and what was put so far may be left as a second purse.
     NotAndLeft,
+    /// By what the store said of a line that was being loaded; so many lines were loaded before it.
+    Line { line: u64, standing: Standing, before: usize },
 }
 
 impl Force {
@@ -43,7 +45,27 @@ impl Force {
             Force::Standing(standing) => standing.to_string(),
             Force::NotAndPending => "not in force, and the log of an earlier change is still pending: run purse recover".into(),
             Force::NotAndLeft => "not in force; what was put so far may be left as a second purse, which the next put removes".into(),
+            Force::Line { line, standing, before } => format!("{standing}; {}; {}", loaded_before(before), go_on(line, standing)),
         }
+    }
+}
+
+/// What stays of a load that stopped at a line.
+pub fn loaded_before(lines: usize) -> String {
+    match lines {
+        0 => "no line was loaded before it".into(),
+        1 => "1 line was loaded before it and stays".into(),
+        n => format!("{n} lines were loaded before it and stay"),
+    }
+}
+
+/// Where a load goes on that was broken off at a line.
+fn go_on(line: u64, standing: Standing) -> String {
+    let next = line.saturating_add(1);
+    match standing {
+        Standing::NotInForce => format!("go on at line {line}"),
+        Standing::MayBeInForce => format!("go on at line {line}, or at line {next} if {line} is refused with 14"),
+        Standing::InForceAfterRecovery => format!("go on at line {next}"),
     }
 }
 
@@ -140,6 +162,16 @@ mod tests {
             assert!(force.words().starts_with("not in force"));
             assert!(!force.words().contains("in force after"));
         }
+        let words = |standing, before| Force::Line { line: 5, standing, before }.words();
+        assert_eq!(words(Standing::NotInForce, 4), "not in force; 4 lines were loaded before it and stay; go on at line 5");
+        assert_eq!(
+            words(Standing::MayBeInForce, 0),
+            "may be in force: recover tells; no line was loaded before it; go on at line 5, or at line 6 if 5 is refused with 14"
+        );
+        assert_eq!(
+            words(Standing::InForceAfterRecovery, 1),
+            "in force after recover; 1 line was loaded before it and stays; go on at line 6"
+        );
     }
 
     #[test]

@@ -24,6 +24,7 @@ pub enum Command {
     Remove { image: PathBuf, name: Name },
     Rename { image: PathBuf, name: Name, new: Name },
     Batch { image: PathBuf, file: PathBuf },
+    Load { image: PathBuf, file: PathBuf, line: u64 },
     Dump { image: PathBuf, dir: PathBuf },
     Restore { dir: PathBuf, image: PathBuf },
     Salvage { image: PathBuf, dir: PathBuf },
@@ -38,7 +39,7 @@ impl Command {
 }
 
 /// Each command: its word, the words behind it, and what it does.
-const FORMS: [(&str, &str, &str); 16] = [
+const FORMS: [(&str, &str, &str); 17] = [
     ("format", "IMAGE BLOCKS", "make a new, empty box of 64 to 4096 blocks; no file is overwritten"),
     ("list", "[--json] IMAGE", "the purses: name, size and where the blocks lie"),
     ("check", "IMAGE", "whether the box is sound"),
@@ -52,6 +53,7 @@ const FORMS: [(&str, &str, &str); 16] = [
     ("remove", "IMAGE NAME", "remove a purse"),
     ("rename", "IMAGE NAME NEW", "give a purse another name"),
     ("batch", "IMAGE FILE", "several changes as one, a line each"),
+    ("load", "IMAGE FILE [LINE]", "the printer's file: a purse for each line, from the first or LINE on"),
     ("dump", "IMAGE DIR", "each purse into a new file of its name"),
     ("restore", "DIR IMAGE", "put each file that has the name of a purse"),
     ("salvage", "IMAGE DIR", "what can be saved from a box that is refused"),
@@ -67,6 +69,7 @@ pub fn help() -> String {
     text.push_str(
         "\nNAME is 16 hexadecimal digits. FILE is - for standard input. In a batch a line is create NAME, remove NAME,\n\
          rename NAME NEW, write NAME OFFSET FILE or resize NAME SIZE; empty lines and those that begin with # are skipped.\n\
+         In the printer's file a line is serial;letter;amount: 04A1B2C3;H;1250 and 3283263748;D;1250 are one card with 1250 cents.\n\
          Exit status: 0 done, 1 refused by the store, 2 wrong words, 3 the system failed.\n",
     );
     text
@@ -99,11 +102,19 @@ pub fn command_of(words: &[OsString]) -> Answer<Command> {
     if given.help {
         return Ok(Command::Help);
     }
-    let wanted = form.1.split(' ').filter(|w| !w.starts_with('[') && !w.ends_with(']')).count();
-    match given.operands.len() == wanted {
-        true => given.command(),
-        false => Err(given.wrong(format!("{} takes {}, not {}", form.0, counted(wanted, "word"), given.operands.len()))),
+    let (fewest, most) = operands_of(form.1);
+    match given.operands.len() {
+        n if (fewest..=most).contains(&n) => given.command(),
+        n if fewest < most => Err(given.wrong(format!("{} takes {fewest} or {}, not {n}", form.0, counted(most, "word")))),
+        n => Err(given.wrong(format!("{} takes {}, not {n}", form.0, counted(fewest, "word")))),
     }
+}
+
+/// How many operands a form has, at least and at most. `[LINE]` is one that may be left out, `[--json]` and `[--svg FILE]` are options.
+fn operands_of(form: &str) -> (usize, usize) {
+    let fewest = form.split(' ').filter(|w| !w.starts_with('[') && !w.ends_with(']')).count();
+    let more = form.split(' ').filter(|w| w.starts_with('[') && !w.starts_with("[-")).count();
+    (fewest, fewest + more)
 }
 
 /// The words behind a command.
@@ -157,6 +168,15 @@ impl Given {
         number_in(&self.operands[i]).map_err(|cause| self.wrong(cause))
     }
 
+    /// A line, counted from 1; the first where it is left out.
+    fn line(&self, i: usize) -> Answer<u64> {
+        match self.operands.get(i).map(|_| self.number(i)) {
+            None => Ok(1),
+            Some(Ok(0)) => Err(self.wrong("LINE is counted from 1")),
+            Some(line) => line,
+        }
+    }
+
     /// The command. There are as many operands as its form has.
     fn command(self) -> Answer<Command> {
         let first = self.path(0);
@@ -174,6 +194,7 @@ impl Given {
             "remove" => Command::Remove { image: first, name: self.name(1)? },
             "rename" => Command::Rename { image: first, name: self.name(1)?, new: self.new_name(2)? },
             "batch" => Command::Batch { image: first, file: self.path(1) },
+            "load" => Command::Load { image: first, file: self.path(1), line: self.line(2)? },
             "dump" => Command::Dump { image: first, dir: self.path(1) },
             "restore" => Command::Restore { dir: first, image: self.path(1) },
             _ => Command::Salvage { image: first, dir: self.path(1) },
@@ -228,10 +249,13 @@ mod tests {
         assert_eq!(of("write a.img 0102030405060708 7 -"), Ok(write));
         assert_eq!(of("list --json a.img"), Ok(Command::List { image: image.clone(), json: true }));
         assert_eq!(of("map a.img --svg b.svg"), Ok(Command::Map { image, svg: Some("b.svg".into()) }));
+        let load = |line| Command::Load { image: "a.img".into(), file: "-".into(), line };
+        assert_eq!((of("load a.img -"), of("load a.img - 12")), (Ok(load(1)), Ok(load(12))));
         assert_eq!(of("check -- -x"), Ok(Command::Check { image: "-x".into() }));
         assert_eq!(of("--help"), Ok(Command::Help));
         assert_eq!(of("put --help"), Ok(Command::Help));
         assert!(of("restore d a.img").unwrap().changes());
+        assert!(of("load a.img x").unwrap().changes());
         assert!(!of("salvage a.img d").unwrap().changes());
     }
 
@@ -254,6 +278,10 @@ mod tests {
         assert_eq!(cause("get a.img 01"), "01 is no NAME: 16 hexadecimal digits");
         assert_eq!(cause("check --json a.img"), "check has no option --json");
         assert_eq!(cause("map a.img --svg"), "--svg takes a FILE");
+        assert_eq!(cause("load a.img"), "load takes 2 or 3 words, not 1");
+        assert_eq!(of("load a.img x 1 2").unwrap_err().1, "load IMAGE FILE [LINE]");
+        assert_eq!(cause("load a.img x 0"), "LINE is counted from 1");
+        assert_eq!(cause("load a.img x 1st"), "1st is no decimal number");
         assert_eq!(cause("format a.img 0x40"), "0x40 is no decimal number");
         let reserved = "FFFFFFFFFFFFFFFF is reserved: a long put gathers under this name";
         assert_eq!(cause("put a.img ffffffffffffffff x"), reserved);

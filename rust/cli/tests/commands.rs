@@ -8,65 +8,9 @@ use std::os::unix::process::CommandExt;
 use std::path::Path;
 use std::process::{Command, Stdio};
 
-/// A box in a folder, and the tool in that folder.
-struct Place {
-    scratch: Scratch,
-}
-
-impl Place {
-    fn new(image: &[u8]) -> Place {
-        let scratch = Scratch::new("commands");
-        scratch.file("box.img", image);
-        Place { scratch }
-    }
-
-    fn tool(&self, words: &[&str]) -> Tool {
-        tool(words).folder(&self.scratch.path)
-    }
-
-    /// Runs and asks for a status.
-    fn run(&self, status: i32, words: &[&str]) -> Out {
-        let out = self.tool(words).run();
-        assert_eq!(out.status, status, "{words:?}: {}{}", out.text(), out.err);
-        let beside = ["recovered an earlier change", "removing FFFFFFFFFFFFFFFF", "the box is sound"];
-        let told = out.err.lines().any(|l| !beside.iter().any(|b| l.starts_with(b)));
-        assert_eq!(status != 0, told, "{words:?}: standard error: {:?}", out.err);
-        out
-    }
-
-    /// A refusal by the store: status 1, number and sentence, and the image stays.
-    fn refused(&self, number: u32, words: &[&str]) {
-        let before = self.image();
-        let out = self.run(1, words);
-        assert!(out.err.contains(&format!("refused {number}")), "{words:?}: {}", out.err);
-        assert!(out.err.trim_end().len() > format!("refused {number}").len() + 5, "{words:?}: no sentence: {}", out.err);
-        assert!(self.image() == before, "{words:?}: refused, but the image is another");
-    }
-
-    fn image(&self) -> Vec<u8> {
-        fs::read(self.scratch.at("box.img")).unwrap()
-    }
-
-    fn map(&self) -> Map {
-        let image = self.image();
-        assert!(matches!(look(&image), Seen::Sound { .. }), "{}", listing(&image));
-        map_of(&image)
-    }
-
-    fn list(&self) -> String {
-        let out = self.run(0, &["list", "box.img"]);
-        assert_eq!(out.text(), listing(&self.image()));
-        out.text()
-    }
-
-    fn file(&self, name: &str, bytes: &[u8]) {
-        self.scratch.file(name, bytes);
-    }
-}
-
-const COMMANDS: [&str; 16] = [
-    "format", "list", "check", "recover", "map", "get", "put", "remove", "rename", "resize", "write", "append", "batch", "dump", "restore",
-    "salvage",
+const COMMANDS: [&str; 17] = [
+    "format", "list", "check", "recover", "map", "get", "put", "remove", "rename", "resize", "write", "append", "batch", "load", "dump",
+    "restore", "salvage",
 ];
 
 #[test]
@@ -95,7 +39,7 @@ fn wrong_words() {
         lists.push(vec![c]);
         lists.push(vec![c, "box.img", A, "0", "file", "more", "words"]);
     }
-    for c in ["get", "remove", "put", "rename", "resize", "write", "append", "batch", "dump", "restore", "salvage", "format"] {
+    for c in ["get", "remove", "put", "rename", "resize", "write", "append", "batch", "load", "dump", "restore", "salvage", "format"] {
         lists.push(vec![c, "box.img"]);
     }
     for c in ["list", "check", "recover", "map"] {
@@ -131,7 +75,10 @@ fn wrong_words() {
         lists.push(vec!["resize", "box.img", A, n]);
         lists.push(vec!["write", "box.img", A, n, "file"]);
         lists.push(vec!["format", "new.img", n]);
+        lists.push(vec!["load", "box.img", "file", n]);
     }
+    lists.push(vec!["load", "box.img", "file", "0"]);
+    lists.push(vec!["load", "box.img", "file", "00"]);
     let (before, count) = (place.image(), lists.len());
     for words in lists {
         let out = place.run(2, &words);
@@ -646,6 +593,10 @@ fn standard_output_full_or_closed() {
         assert!(place.image() == image);
     }
     // A change whose words cannot be said is in force all the same, and says so.
+    place.file("monday", b"04A1B2C3;H;1250\n");
+    let out = place.tool(&["load", "box.img", "monday"]).stdout(full()).run();
+    assert!(out.status == 3 && out.err.contains("in force") && !out.err.contains("not in force"), "{}: {}", out.status, out.err);
+    assert_eq!(place.map()[&name("0404A1B2C3000000")], 1250u64.to_le_bytes());
     let out = place.tool(&["put", "box.img", NEXT, "file"]).stdout(full()).run();
     assert!(out.status == 3 && out.err.contains("in force") && !out.err.contains("not in force"), "{}: {}", out.status, out.err);
     assert!(place.map()[&name(NEXT)] == pattern(1, 600));
@@ -662,12 +613,14 @@ fn no_standard_files() {
         for words in [
             &["put", "box.img", NEXT, "file"][..],
             &["remove", "box.img", NEXT],
+            &["load", "box.img", "monday"],
             &["list", "box.img"],
             &["recover", "box.img"],
             &["get", "box.img", A],
         ] {
             let place = Place::new(&small_box());
             place.file("file", &pattern(1, 600));
+            place.file("monday", b"04A1B2C3;H;1250\n");
             let mut command = Command::new(env!("CARGO_BIN_EXE_purse"));
             command.args(words).current_dir(&place.scratch.path).stdin(Stdio::null()).stdout(Stdio::null()).stderr(Stdio::null());
             unsafe {
@@ -683,6 +636,9 @@ fn no_standard_files() {
             let mut wanted = map_of(&small_box());
             if words[0] == "put" && status.code() == Some(0) {
                 wanted.insert(name(NEXT), pattern(1, 600));
+            }
+            if words[0] == "load" && status.code() == Some(0) {
+                wanted.insert(name("0404A1B2C3000000"), 1250u64.to_le_bytes().to_vec());
             }
             assert!(place.map() == wanted, "{words:?} without {closed:?}");
         }
@@ -706,7 +662,7 @@ fn images_that_are_no_files() {
                 "rename" => vec![c, image, A, D],
                 "resize" => vec![c, image, A, "5"],
                 "write" => vec![c, image, A, "0", "file"],
-                "batch" => vec![c, image, "/dev/null"],
+                "batch" | "load" => vec![c, image, "/dev/null"],
                 "restore" => vec![c, "folder", image],
                 _ => vec![c, image, "out"],
             };
@@ -731,6 +687,8 @@ fn files_to_put() {
             vec!["append", "box.img", A, f],
             vec!["write", "box.img", A, "0", f],
             vec!["batch", "box.img", f],
+            vec!["load", "box.img", f],
+            vec!["load", "box.img", f, "3"],
         ] {
             let out = place.run(3, &words);
             assert!(out.err.contains("not in force"), "{words:?}: {}", out.err);
@@ -749,12 +707,19 @@ fn files_to_put() {
     }
     // Standard input that is a folder cannot be read: nothing is stored.
     let before = place.image();
-    let out = place.tool(&["put", "box.img", A, "-"]).stdin(File::open(place.scratch.at("folder")).unwrap()).run();
-    assert!(out.status == 3 && place.image() == before, "{}: {}", out.status, out.err);
+    for words in [&["put", "box.img", A, "-"][..], &["load", "box.img", "-"], &["load", "box.img", "-", "9"]] {
+        let out = place.tool(words).stdin(File::open(place.scratch.at("folder")).unwrap()).run();
+        assert!(out.status == 3 && place.image() == before, "{words:?}: {}: {}", out.status, out.err);
+    }
     // Nor can one that is open for writing only.
-    for words in
-        [&["put", "box.img", A, "-"][..], &["append", "box.img", A, "-"], &["write", "box.img", A, "0", "-"], &["batch", "box.img", "-"]]
-    {
+    for words in [
+        &["put", "box.img", A, "-"][..],
+        &["append", "box.img", A, "-"],
+        &["write", "box.img", A, "0", "-"],
+        &["batch", "box.img", "-"],
+        &["load", "box.img", "-"],
+        &["load", "box.img", "-", "2"],
+    ] {
         let out = place.tool(words).stdin(File::create(place.scratch.at("written")).unwrap()).run();
         assert!(
             out.status == 3 && place.image() == before,

@@ -176,6 +176,107 @@ fn restore() {
     tally.tell("restore");
 }
 
+/// How many of the lists of a load are stored before a call.
+fn lists_before(list: &[(usize, usize)], call: usize) -> usize {
+    list_stores(list).iter().filter(|&&i| list[i].0 < call).count()
+}
+
+/// What a cut has left of a load is told by the next one, which then goes on from there: no line is left out or loaded twice.
+fn load_goes_on(stage: &Stage, left: &[u8], at: usize, what: &str) {
+    let lines = stage.case.each.len();
+    stage.set(left);
+    if at > 0 {
+        let out = stage.command().run();
+        let next = match at == lines {
+            true => "the cards of all lines from there on are in the box".to_string(),
+            false => format!("the next line whose card is not in the box is {}", at + 1),
+        };
+        let wanted = format!("refused 14: a file has this name, line 1; no line was loaded before it; {next}\n");
+        assert_eq!((out.status, out.err.ends_with(&wanted)), (1, true), "{what}: again: {}", out.err);
+    }
+    let out = stage.tool(&["load", "box.img", "monday", &(at + 1).to_string()]).run();
+    assert_eq!(out.status, 0, "{what}: from line {}: {}", at + 1, out.err);
+    let loaded = match lines - at {
+        1 => "loaded 1 line\n".to_string(),
+        n => format!("loaded {n} lines\n"),
+    };
+    assert_eq!(out.text(), loaded, "{what}");
+    assert!(matches!(look(&stage.bytes()), Seen::Sound { .. }), "{what}: {}", listing(&stage.bytes()));
+    assert_map(committed(&stage.bytes()), &stage.case.after, &format!("{what}: gone on with"));
+}
+
+/// A load makes one purse after the other: a cut leaves a first part of them, each whole, by the lists that are stored.
+#[test]
+fn load() {
+    let mut tally = Tally::default();
+    let stage = Stage::new(load_case());
+    let (out, trace) = stage.whole();
+    assert_eq!((out.text().as_str(), out.err.as_str()), ("loaded 4 lines\n", ""));
+    let case = &stage.case;
+    let words: Vec<&str> = case.words.iter().map(String::as_str).collect();
+    let (parts, list) = (case.parts(), stores(&trace));
+    assert_eq!((list.len(), list_stores(&list).len()), (33, 4));
+    let (mut left, mut seen_at) = (Vec::new(), list.iter().flat_map(|s| [(s.0 + 1, true), (s.0, false)]));
+    tally.cuts += cut_each(&stage, &case.image, &words, 1, |what, _, image| {
+        // Kept: the store counts. Lost: it does not.
+        let (call, kept) = seen_at.next().unwrap();
+        assert_eq!(kept, what.contains("cut-kept"), "{what}");
+        let at = lists_before(&list, call);
+        assert_map(committed(&image), &parts[at], what);
+        left.push((what.to_string(), at, image));
+    });
+    for (what, at, image) in left {
+        stage.set(&image);
+        assert!(stage.recovered(&what) == parts[at], "{what}: recover made another map");
+        next_change(&stage, &image, &parts[at], &what);
+        load_goes_on(&stage, &image, at, &what);
+        if matches!(look(&image), Seen::Recover(_)) {
+            cut_again(&stage, &image, &parts[at], &mut tally);
+        }
+    }
+    for c in &trace {
+        let (out, _) = stage.disturbed(c.number, "cut");
+        let what = format!("load: the end before call {} ({})", c.number, c.function);
+        assert_eq!(out.status, CUT, "{what}: {}", out.err);
+        let (at, image) = (lists_before(&list, c.number), stage.bytes());
+        assert_map(committed(&image), &parts[at], &what);
+        load_goes_on(&stage, &image, at, &what);
+    }
+    end_cut(&stage, &mut tally);
+    tally.tell("load");
+    eprintln!("load: {} ends before a system call", trace.len());
+}
+
+/// A second load goes on behind a cut, and is cut at each of its stores: a first part of the lines is there, and no line is lost or doubled.
+#[test]
+fn load_cut_twice() {
+    let mut cuts = 0;
+    let stage = Stage::new(load_case());
+    let (_, trace) = stage.whole();
+    let (parts, list) = (stage.case.parts(), stores(&trace));
+    for &(number, _) in list.iter().step_by(5) {
+        stage.disturbed(number, "cut-kept");
+        let image = stage.bytes();
+        let at = lists_before(&list, number + 1);
+        let from = (at + 1).to_string();
+        let words = ["load", "box.img", "monday", from.as_str()];
+        if at == parts.len() - 1 {
+            continue;
+        }
+        let mut reached = at;
+        cuts += cut_each(&stage, &image, &words, 1, |what, _, left| {
+            let found = committed(&left).unwrap_or_else(|| panic!("{what}: not sound"));
+            let now = parts.iter().position(|p| *p == found).unwrap_or_else(|| panic!("{what}: no first part: {}", show(&found)));
+            assert!(now >= at && now + 1 >= reached && now <= reached + 1, "{what}: part {now} behind {reached}");
+            reached = now.max(reached);
+            load_goes_on(&stage, &left, now, what);
+        });
+        assert_eq!(reached, parts.len() - 1);
+    }
+    eprintln!("load: {cuts} cuts of a load that goes on behind a cut");
+    assert!(cuts > 100);
+}
+
 /// The longest put on the largest box, cut at some of its stores.
 #[test]
 fn longest_put() {
@@ -207,7 +308,7 @@ fn longest_put() {
 #[test]
 fn behind_a_failed_flush() {
     let (mut flushes, mut cuts, mut ends) = (0, 0, 0);
-    let wanted = ["put a new purse", "put in place of a purse", "remove", "recover", "put with a log pending"];
+    let wanted = ["put a new purse", "put in place of a purse", "remove", "recover", "put with a log pending", "load a line"];
     for case in short_cases().into_iter().filter(|c| wanted.contains(&c.what)) {
         let stage = Stage::new(case);
         let (_, trace) = stage.whole();

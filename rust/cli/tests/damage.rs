@@ -138,7 +138,7 @@ fn examine_from(stage: &Stage, base: &[u8], image: &[u8], what: &str, tally: &mu
             }
         }
     }
-    let changes: [&[&str]; 10] = [
+    let changes: [&[&str]; 11] = [
         &["put", "box.img", NEXT, "next"],
         &["recover", "box.img"],
         &["remove", "box.img", A],
@@ -149,10 +149,11 @@ fn examine_from(stage: &Stage, base: &[u8], image: &[u8], what: &str, tally: &mu
         &["batch", "box.img", "lines"],
         &["restore", "folder", "box.img"],
         &["put", "box.img", A, "long"],
+        &["load", "box.img", "monday"],
     ];
     // The first two on every image, of the others two in turn.
-    let turn = 2 + tally.runs % 8;
-    for words in [changes[0], changes[1], changes[turn], changes[2 + (turn + 3) % 8]] {
+    let turn = 2 + tally.runs % 9;
+    for words in [changes[0], changes[1], changes[turn], changes[2 + (turn + 3) % 9]] {
         let out = run(words);
         tally.runs += 1;
         match (&found, &map) {
@@ -171,6 +172,11 @@ fn examine_from(stage: &Stage, base: &[u8], image: &[u8], what: &str, tally: &mu
             wanted.insert(name(NEXT), pattern(77, 700));
             assert_map(committed(&stage.bytes()), &wanted, &format!("{what}: put"));
         }
+        if words[0] == "load" && out.status == 0 {
+            let mut wanted = map.clone().unwrap();
+            wanted.extend(CARDS.iter().map(|card| (name(card.1), cents(card.2))));
+            assert_map(committed(&stage.bytes()), &wanted, &format!("{what}: load"));
+        }
         if words[0] == "recover" && out.status == 0 {
             assert_map(committed(&stage.bytes()), map.as_ref().unwrap(), &format!("{what}: recover"));
         }
@@ -185,7 +191,7 @@ fn examine_from(stage: &Stage, base: &[u8], image: &[u8], what: &str, tally: &mu
 
 fn stage() -> Stage {
     let case = Case::new("damage", small_box(), &["list", "box.img"], |_| ());
-    let case = case.file("long", &pattern(80, 35 * 512)).file(&format!("folder/{NEXT}"), &pattern(81, 600));
+    let case = case.file("long", &pattern(80, 35 * 512)).file(&format!("folder/{NEXT}"), &pattern(81, 600)).file("monday", &monday());
     Stage::new(case.file("lines", format!("rename {A} {NEXT}\ncreate {A}\nresize {A} 100\n").as_bytes()))
 }
 

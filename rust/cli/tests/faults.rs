@@ -93,6 +93,20 @@ fn assert_stops(trace: &[Call], what: &str) {
     }
 }
 
+/// Of a load: how many lines were loaded before, and where to go on so that no line is left out or tried twice.
+fn assert_place(err: &str, at: usize, maybe: bool, found: &Map, parts: &[Map], what: &str) {
+    let Some((_, rest)) = err.split_once("go on at line ") else { return };
+    let before = match at {
+        0 => "no line was loaded before it;".to_string(),
+        1 => "1 line was loaded before it and stays;".to_string(),
+        n => format!("{n} lines were loaded before it and stay;"),
+    };
+    assert!(err.contains(&before), "{what}: {at} lines before: {err}");
+    let go_on: usize = rest.split(|c: char| !c.is_ascii_digit()).next().unwrap().parse().unwrap();
+    assert_eq!(maybe, err.contains(&format!("or at line {} if {go_on} is refused with 14", go_on + 1)), "{what}: {err}");
+    assert!(if maybe { go_on == at + 1 } else { *found == parts[go_on - 1] }, "{what}: go on at {go_on}: {err}");
+}
+
 /// What the tool says of the change is so.
 fn assert_true(stage: &Stage, out: &Out, what: &str, at_list: bool, tally: &mut Tally) {
     let case = &stage.case;
@@ -103,7 +117,10 @@ fn assert_true(stage: &Stage, out: &Out, what: &str, at_list: bool, tally: &mut 
         // The purse that is named is in force or not, those before it are, those behind it are not.
         let found = seen(case, map.clone().expect("a sound image"));
         let parts = case.parts();
-        let named = case.each.iter().position(|n| out.err.contains(&format!("purse {}, ", hex(n))));
+        let tells = |(i, n): (usize, &Name)| {
+            out.err.contains(&format!("purse {}, ", hex(n))) || out.err.contains(&format!("purse: line {}: ", i + 1))
+        };
+        let named = case.each.iter().enumerate().position(tells);
         let at = named.unwrap_or(if words.contains("not in force") { 0 } else { parts.len() - 2 });
         let (not, maybe) = (words.contains("not in force"), words.contains("may be in force"));
         assert!(maybe || not || words.contains("in force"), "{what}: nothing said of the change: {:?}", out.err);
@@ -113,6 +130,7 @@ fn assert_true(stage: &Stage, out: &Out, what: &str, at_list: bool, tally: &mut 
             out.err,
             show(&found)
         );
+        assert_place(&out.err, at, maybe, &found, &parts, what);
         *if not {
             &mut tally.not_in_force
         } else if maybe {
@@ -198,10 +216,11 @@ fn long_changes() {
     let mut tally = Tally::default();
     fault_everywhere(full_case(), 3, &mut tally);
     fault_everywhere(restore_case(), 3, &mut tally);
+    fault_everywhere(load_case(), 1, &mut tally);
     for case in long_cases() {
         fault_everywhere(case, 5, &mut tally);
     }
-    tally.tell("puts of 30 blocks and more");
+    tally.tell("puts of 30 blocks and more, restore, a load of four lines");
 }
 
 /// Every call is interrupted, and every read and write does a little only: the command does what it does undisturbed.
@@ -212,6 +231,7 @@ fn stutter() {
     cases.extend(long_cases());
     cases.push(full_case());
     cases.push(restore_case());
+    cases.push(load_case());
     for case in cases {
         let stage = Stage::new(case);
         let (whole, trace) = stage.whole();

@@ -41,6 +41,11 @@ fn ops() -> Vec<Op> {
         op(&["rename", "box.img", A, NEXT], |m| rename(m, A, NEXT)),
         op(&["resize", "box.img", A, "5"], |m| m.get_mut(&name(A)).map(|b| b.resize(5, 0)).is_some()),
         op(&["batch", "box.img", "lines"], |m| append(m, B, Vec::new()) && rename(m, C, D)),
+        op(&["load", "box.img", "monday"], |m| {
+            let new = !m.contains_key(&name(CARDS[0].1));
+            m.extend(CARDS.iter().filter(|_| new).map(|card| (name(card.1), cents(card.2))));
+            new
+        }),
     ]
 }
 
@@ -53,7 +58,8 @@ fn stage() -> Stage {
         .file("one", &pattern(61, 100))
         .file("two", &pattern(62, 700))
         .file("long", &pattern(63, 40 * 512))
-        .file("lines", format!("rename {C} {D}\n").as_bytes());
+        .file("lines", format!("rename {C} {D}\n").as_bytes())
+        .file("monday", &monday());
     Stage::new(case)
 }
 
@@ -124,8 +130,8 @@ fn inside(stage: &Stage, first: &[String], n: usize, second: &[String]) -> Optio
 fn a_change_inside_a_change() {
     let (stage, ops) = (stage(), ops());
     let (mut places, mut busy, mut both) = (0, 0, 0);
-    for (i, j) in [(0, 1), (1, 2), (2, 0), (0, 4), (4, 5), (5, 6), (6, 0), (7, 1), (3, 1), (1, 3)] {
-        let step = if i == 3 { 9 } else { 1 };
+    for (i, j) in [(0, 1), (1, 2), (2, 0), (0, 4), (4, 5), (5, 6), (6, 0), (7, 1), (3, 1), (1, 3), (8, 1), (1, 8), (8, 8)] {
+        let step = if i == 3 || i == 8 { 9 } else { 1 };
         for n in (1..).step_by(step) {
             let Some((a, b)) = inside(&stage, &ops[i].words, n, &ops[j].words) else { break };
             places += 1;
@@ -231,6 +237,8 @@ fn every_command() -> Vec<(Vec<&'static str>, bool)> {
         (vec!["write", "box.img", A, "3", "one"], true),
         (vec!["append", "box.img", A, "one"], true),
         (vec!["batch", "box.img", "lines"], true),
+        (vec!["load", "box.img", "monday"], true),
+        (vec!["load", "box.img", "monday", "4"], true),
         (vec!["restore", "folder", "box.img"], true),
     ]
 }
@@ -376,6 +384,37 @@ fn two_formats() {
         assert!(fs::read(&image).unwrap() == empty([64, 128][done[0]]), "the box of the one that was done");
     }
     eprintln!("{RACES} races of two formats");
+}
+
+/// A load is killed at a random moment: a first part of its lines is there, and it goes on behind them.
+#[test]
+fn kills_of_a_load() {
+    let stage = Stage::new(load_case());
+    let parts = stage.case.parts();
+    let mut rng = Rng(99);
+    let (mut logs, mut late, mut reached) = (0, 0, vec![0; parts.len()]);
+    const KILLS: usize = 200;
+    for k in 0..KILLS {
+        stage.reset();
+        let slow = rng.below(3) as u32 * 40;
+        let t = stage.command();
+        let mut a = if slow > 0 { t.slow(&stage.image, slow).spawn() } else { t.spawn() };
+        std::thread::sleep(Duration::from_micros(rng.below(3000 + 100 * slow as usize) as u64));
+        let _ = a.child.kill();
+        let out = a.wait();
+        late += (out.status == 0) as usize;
+        assert!(out.status == -9 || out.status == 0, "status {}: {}", out.status, out.err);
+        logs += matches!(look(&stage.bytes()), Seen::Recover(_)) as usize;
+        let found = committed(&stage.bytes()).expect("a sound image behind a kill");
+        let at = parts.iter().position(|p| *p == found).unwrap_or_else(|| panic!("kill {k}: no first part: {}", show(&found)));
+        assert!(out.status == -9 || at == parts.len() - 1, "kill {k}: it said done");
+        reached[at] += 1;
+        let out = stage.tool(&["load", "box.img", "monday", &(at + 1).to_string()]).run();
+        assert_eq!(out.status, 0, "kill {k}: from line {}: {}", at + 1, out.err);
+        assert_map(committed(&stage.bytes()), &stage.case.after, "gone on with");
+    }
+    eprintln!("{KILLS} kills of a load: {reached:?} by the lines that were there, {logs} with a log pending, {late} came too late");
+    assert!(reached[0] > 5 && reached[4] > 5);
 }
 
 /// Killed at a random moment; then the box is as before or as after, and recovers.

@@ -85,6 +85,19 @@ pub struct Run {
     pub count: u32,
 }
 
+/// `purse_loaded`. `kind`: 0 refused, 1 a line was taken up, 2 an advance was made, 3 no line is left; `line` 0: none is named.
+#[repr(C)]
+pub struct Loaded {
+    pub refusal: u32,
+    pub kind: u32,
+    pub line: u64,
+    pub stores: u64,
+    pub block: u64,
+    pub last: u64,
+    pub number: u64,
+    pub next: u64,
+}
+
 /// A first block and how many blocks there are from it on: two cells of a lent list.
 #[repr(C)]
 #[derive(Clone, Copy, Debug, Default, PartialEq, Eq)]
@@ -129,4 +142,7 @@ extern "C" {
         name: Bytes, name_len: usize, staged: Cells, from: u64, n: u64, k: u64) -> Run;
     pub fn purse_run_list_v(device: Bytes, len: usize, work: Bytes, work_len: usize, numbers: Numbers,
         name: Bytes, name_len: usize, staged: Cells, from: u64, n: u64, list: *mut u32, cells: usize) -> Counted;
+    pub fn purse_load_begin_v(device: Bytes, len: usize, work: Bytes, work_len: usize, numbers: Numbers, staged: Cells) -> Finished;
+    pub fn purse_load_step_v(device: BytesMut, len: usize, work: BytesMut, work_len: usize, numbers: NumbersMut, staged: CellsMut,
+        text: Bytes, text_len: usize, at: u64) -> Loaded;
 }

@@ -33,6 +33,28 @@
 //! # Ok::<(), purse::Failure<purse::OutsideDevice>>(())
 //! ```
 //!
+//! # The Monday file
+//!
+//! [`Store::load_on`] fills a store from the card printer's file: a line is a serial, a letter and an amount, and makes a purse of
+//! 8 bytes in a transaction of its own. [`Load`] is the place in the text that was come to.
+//!
+//! ```
+//! # use purse::{Load, MemoryDevice, Store, WORK_SIZE};
+//! # let (mut kept, mut image, mut work) = (vec![0u8; 64 * 512], vec![0u8; 64 * 512], vec![0u8; WORK_SIZE]);
+//! # let mut device = MemoryDevice::new(&mut kept);
+//! # let mut store = Store::new(&mut image, &mut work);
+//! # store.format_on(&mut device).unwrap();
+//! # store.open_on(&mut device).unwrap();
+//! let mut load = Load::new(b"04A1B2C3;H;1250\n3283263749;D;500\n");
+//! for line in store.load_on(&mut device, &mut load) {
+//!     line?;
+//! }
+//! let mut cents = [0u8; 8];
+//! store.read(&[4, 0x04, 0xa1, 0xb2, 0xc3, 0, 0, 0], 0, &mut cents).unwrap();
+//! assert_eq!(u64::from_le_bytes(cents), 1250);
+//! # Ok::<(), purse::LoadFailure<purse::OutsideDevice>>(())
+//! ```
+//!
 //! # When the device fails
 //!
 //! A write or a flush that fails leaves the image in memory ahead of the device. The store then refuses every further call
@@ -54,6 +76,7 @@ mod failure;
 mod ffi;
 #[cfg(all(feature = "std", unix))]
 mod file;
+mod load;
 mod refusal;
 mod store;
 mod through;
@@ -63,6 +86,7 @@ pub use failure::{Broken, Failure, Run, Standing, Step};
 pub use ffi::{Extent, RawSession};
 #[cfg(all(feature = "std", unix))]
 pub use file::FileDevice;
+pub use load::{Load, LoadFailure, LoadRefusal, LoadStep, LoadedLine, LINE_MOST, LOAD_ENOUGH};
 pub use refusal::Refusal;
 pub use store::{BlockStore, File, Phase, Store, Stores};
 

@@ -3,7 +3,7 @@
 use core::error::Error;
 use core::fmt;
 
-/// Why a call was refused, in the order of document 01's numbers. A refusal changes nothing.
+/// Why a call was refused, in the order of the numbers of documents 01 and 02. A refusal changes nothing.
 ///
 /// ```
 /// let refusal = purse::Refusal::NoSpace;
@@ -41,10 +41,14 @@ pub enum Refusal {
     TooManyStaged,
     /// 19: the lent list is shorter than the run list.
     ListShort,
+    /// 20: a line that is loaded has more than 64 bytes.
+    LineTooLong,
+    /// 21: a line that is loaded is not of its form, or has no feed.
+    BadLine,
 }
 
 impl Refusal {
-    /// Document 01's number.
+    /// The number that documents 01 and 02 give it.
     pub fn number(self) -> u32 {
         match self {
             Refusal::DeviceSize => 1,
@@ -61,6 +65,8 @@ impl Refusal {
             Refusal::TooManyExtents => 17,
             Refusal::TooManyStaged => 18,
             Refusal::ListShort => 19,
+            Refusal::LineTooLong => 20,
+            Refusal::BadLine => 21,
         }
     }
 
@@ -81,6 +87,8 @@ impl Refusal {
             Refusal::TooManyExtents => "the file would lie in more than 512 pieces",
             Refusal::TooManyStaged => "the transaction would change more than 32 blocks",
             Refusal::ListShort => "the list lent is too short",
+            Refusal::LineTooLong => "the line is longer than 64 bytes",
+            Refusal::BadLine => "the line is not serial;letter;amount, or has no line feed",
         }
     }
 
@@ -102,7 +110,9 @@ impl Refusal {
             17 => Refusal::TooManyExtents,
             18 => Refusal::TooManyStaged,
             19 => Refusal::ListShort,
-            _ => unreachable!("the store answers the numbers of document 01 only, not {number}"),
+            20 => Refusal::LineTooLong,
+            21 => Refusal::BadLine,
+            _ => unreachable!("the store answers the numbers of documents 01 and 02 only, not {number}"),
         }
     }
 }

@@ -65,7 +65,7 @@ impl fmt::Debug for Store<'_> {
 
 /// A slice as the header wants it: a pointer to an element even where the length is 0.
 #[inline]
-fn lend(bytes: &[u8]) -> (*const u8, usize) {
+pub(crate) fn lend(bytes: &[u8]) -> (*const u8, usize) {
     static NOTHING: u8 = 0;
     match bytes.len() {
         0 => (&NOTHING, 0),
@@ -75,16 +75,16 @@ fn lend(bytes: &[u8]) -> (*const u8, usize) {
 
 /// The same for a slice that the store writes; `own` stands in for an empty one.
 #[inline]
-fn lend_mut<T>(items: &mut [T], own: &mut T) -> (*mut T, usize) {
+pub(crate) fn lend_mut<T>(items: &mut [T], own: &mut T) -> (*mut T, usize) {
     match items.len() {
         0 => (own, 0),
         n => (items.as_mut_ptr(), n),
     }
 }
 
-/// A number of document 01 as a result; `record` goes with refusal 10.
+/// The number of a refusal as a result; `record` goes with refusal 10.
 #[inline]
-fn settle<T>(number: u32, record: u64, value: T) -> Result<T, Refusal> {
+pub(crate) fn settle<T>(number: u32, record: u64, value: T) -> Result<T, Refusal> {
     match number {
         0 => Ok(value),
         n => Err(Refusal::of(n, record)),
@@ -175,7 +175,7 @@ impl<'a> Store<'a> {
 
     /// A store whose image is ahead of its device must not go on.
     #[inline]
-    fn settled(&self) -> Result<(), Refusal> {
+    pub(crate) fn settled(&self) -> Result<(), Refusal> {
         match self.ahead {
             true => Err(Refusal::NotReady),
             false => Ok(()),

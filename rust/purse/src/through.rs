@@ -124,7 +124,7 @@ impl Store<'_> {
     /// The stores under way, on a device. Block 0 is written once more before the first store since the image was read: a
     /// program before this one may have been stopped between its write and its flush, or its flush may have failed, and
     /// what was read is then not what a power cut leaves.
-    fn through_on<D: Device>(&mut self, device: &mut D) -> Result<u64, Failure<D::Error>> {
+    pub(crate) fn through_on<D: Device>(&mut self, device: &mut D) -> Result<u64, Failure<D::Error>> {
         let (run, stores) = self.under_way();
         if stores > 0 && !self.anchored {
             if let Err((step, error)) = put(device, 0, self.bytes_of(0)) {
@@ -147,7 +147,7 @@ impl Store<'_> {
     }
 
     /// An image in which blocks were stored that the device never got must not be brought to it in part.
-    fn together(&self) -> Result<(), Refusal> {
+    pub(crate) fn together(&self) -> Result<(), Refusal> {
         match self.apart {
             true => Err(Refusal::NotReady),
             false => Ok(()),

@@ -3,6 +3,7 @@
 mod change;
 mod folder;
 mod format;
+mod load;
 mod look;
 mod salvage;
 
@@ -29,6 +30,7 @@ pub fn run(command: Command) -> Answer {
         Remove { image, name } => change::change(&image, |store| store.remove(&name.0)),
         Rename { image, name, new } => change::change(&image, |store| store.rename(&name.0, &new.0)),
         Batch { image, file } => change::batch(&image, &file),
+        Load { image, file, line } => load::load(&image, &file, line),
         Dump { image, dir } => folder::dump(&image, &dir),
         Restore { dir, image } => folder::restore(&dir, &image),
         Salvage { image, dir } => salvage::salvage(&image, &dir),

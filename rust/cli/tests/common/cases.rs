@@ -211,6 +211,12 @@ pub fn short_cases() -> Vec<Case> {
         .file("part", &pattern(25, 300))
         .file("lines", format!("# a sale\n\nrename {B} {D}\nremove {E}\ncreate {B}\nwrite {B} 5 part\nresize {A} 700\n").as_bytes()),
         Case::new("recover", logged_box(), &["recover", "box.img"], |_| ()),
+        Case::new("load a line", small_box(), &["load", "box.img", "monday"], set(CARDS[0].1, cents(CARDS[0].2)))
+            .file("monday", CARDS[0].0.as_bytes()),
+        Case::new("load from standard input", small_box(), &["load", "box.img", "-"], set(CARDS[1].1, cents(CARDS[1].2)))
+            .input(CARDS[1].0.as_bytes()),
+        Case::new("load from a line on", small_box(), &["load", "box.img", "monday", "4"], set(CARDS[3].1, cents(CARDS[3].2)))
+            .file("monday", &monday()),
     ];
     list.extend(logged_cases());
     list
@@ -244,7 +250,36 @@ fn logged_cases() -> Vec<Case> {
             m.get_mut(&name(D)).unwrap().truncate(1);
         })
         .file("lines", format!("remove {A}\nresize {D} 1\n").as_bytes()),
+        Case::new("load with a log pending", logged_box(), &["load", "box.img", "monday"], set(CARDS[2].1, cents(CARDS[2].2)))
+            .file("monday", CARDS[2].0.as_bytes()),
     ]
+}
+
+/// Lines of a Monday file: line, name, cents.
+pub const CARDS: [(&str, &str, u64); 4] = [
+    ("04A1B2C3;H;1250\n", "0404A1B2C3000000", 1250),
+    ("69495546249912580;D;5\n", "0704A1B2C3D4E5F6", 5),
+    ("80E91F04;H;99999999\n", "0480E91F04000000", 99_999_999),
+    ("0000000000;D;0\n", "0400000000000000", 0),
+];
+
+/// The bytes of an amount.
+pub fn cents(n: u64) -> Vec<u8> {
+    n.to_le_bytes().to_vec()
+}
+
+/// All four lines.
+pub fn monday() -> Vec<u8> {
+    CARDS.iter().flat_map(|card| card.0.bytes()).collect()
+}
+
+/// A load of several lines: each is a transaction of its own.
+pub fn load_case() -> Case {
+    let mut case = Case::new("load", small_box(), &["load", "box.img", "monday"], |m| {
+        m.extend(CARDS.iter().map(|card| (name(card.1), cents(card.2))))
+    });
+    case.each = CARDS.iter().map(|card| name(card.1)).collect();
+    case.file("monday", &monday())
 }
 
 /// The most of one transaction: 30 blocks of data.

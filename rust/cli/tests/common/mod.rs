@@ -1,12 +1,14 @@
 //! What the tests share: a scratch folder, the tool with a time limit, the shim with its trace, boxes.
 
-#![allow(dead_code)]
+#![allow(dead_code, unused_imports)]
 
 pub mod cases;
 pub mod image;
+pub mod place;
 
 pub use cases::*;
 pub use image::*;
+pub use place::*;
 use std::ffi::OsString;
 use std::fs::{self, File};
 use std::io::Write;

@@ -1,4 +1,4 @@
--- What stands at a place of a text, for the contracts of this crate.
+-- What stands at a place of a text, and what the code answers of it.
 use Prim.Native.Nat.{ℕ, suc, _+_, _*_, _%_}
 use mathlib.Core.Bool.{cond}
 use mathlib.Core.List.{List}
@@ -29,6 +29,26 @@ lineOf text = before feed text
 unfoldable pub lineNumber : List ℕ → ℕ → ℕ
 lineNumber text at = suc (occurs feed (take at text))
 
+-- what stands at a place of a text: a card with the place behind its feed, a line to be refused with 20 or with 21, or no line
+pub data Standing : Type 0 where
+  card : Entry → ℕ → Standing
+  tooLong : Standing
+  malformed : Standing
+  nothing : Standing
+
+abbrev pub formed : Option Entry → ℕ → Standing
+formed none next = malformed
+formed (some e) next = card e next
+
+-- of the text from that place on. 20: "line longer than 64 bytes"; 21: "line not of this form or without its feed"
+unfoldable pub standingIn : List ℕ → ℕ → Standing
+standingIn rest at =
+    cond (ltb 64 (length (lineOf rest))) tooLong
+    (cond (ltb (length (lineOf rest)) (length rest)) (formed (entryOf (lineOf rest)) (at + length (lineOf rest) + 1)) malformed)
+
+unfoldable pub standing : List ℕ → ℕ → Standing
+standing text at = cond (leb (length text) at) nothing (standingIn (drop at text) at)
+
 -- ---- the code's answers for what is read
 
 abbrev pub numberTold : Option ℕ → Number
@@ -57,28 +77,6 @@ cardFor e =
 abbrev pub formTold : Option Entry → Form
 formTold none = Bad
 formTold (some e) = Good (cardFor e)
-
--- what stands at a place of a text: a card with the place behind its feed, a line to be refused with 20 or with 21, or no line
-pub data Standing : Type 0 where
-  card : Entry → ℕ → Standing
-  tooLong : Standing
-  malformed : Standing
-  nothing : Standing
-
-abbrev pub formed : Option Entry → ℕ → Standing
-formed none next = malformed
-formed (some e) next = card e next
-
--- of the text from that place on. 20: "line longer than 64 bytes"; 21: "line not of this form or without its feed"
-unfoldable pub standingIn : List ℕ → ℕ → Standing
-standingIn rest at =
-    cond (ltb 64 (length (lineOf rest))) tooLong
-    (cond (ltb (length (lineOf rest)) (length rest)) (formed (entryOf (lineOf rest)) (at + length (lineOf rest) + 1)) malformed)
-
-unfoldable pub standing : List ℕ → ℕ → Standing
-standing text at = cond (leb (length text) at) nothing (standingIn (drop at text) at)
-
--- ---- the code's answer
 
 abbrev pub lineTold : Standing → Line
 lineTold (card e next) = Found (cardFor e) next

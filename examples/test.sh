@@ -1,15 +1,16 @@
 #!/bin/sh
-# Builds the library and the programs of this folder, runs them, pulls the plug behind each store of a sale and of a load, and fails each store of
+# Builds the libraries and the programs of this folder, runs them, pulls the plug behind each store of a sale and of a load, and fails each store of
 # them and of their recovery. The last line is 'ok'.
 set -eu
 cd "$(dirname "$0")/.."
 rt staticlib capi >/dev/null
+rt staticlib loadapi >/dev/null
 rt check purselist >/dev/null
 tmp=$(mktemp -d)
 boxes=$(mktemp -d -p /dev/shm 2>/dev/null || mktemp -d) # in memory where there is such a place: each store is flushed
 trap 'rm -rf "$tmp" "$boxes"' EXIT
 c="gcc -std=c11 -Wall -Wextra -pedantic -Werror -O2 -Iinclude"
-library=target/staticlib/libcapi.a
+library="target/staticlib/libcapi.a target/staticlib/libloadapi.a"
 for p in calls box sale load; do
     $c "examples/$p.c" $library -o "$tmp/$p"
 done

@@ -23,8 +23,9 @@
  * call that is refused leaves such a session as it is. One that is accepted, and may change the session, leaves it with regular numbers:
  * phase 0 where the number given was no phase, place 0 where the phase has no place.
  *
- * Link with target/staticlib/libcapi.a (rt staticlib capi). Every function of it is proved to do exactly what is specified of its call, for
- * all arguments: crates/capi/src/lib.rt has the promises. The functions of this header are not proved: those over a session only hand on to
+ * Link with target/staticlib/libcapi.a (rt staticlib capi), and for the calls of a load with libloadapi.a besides (rt staticlib loadapi). Every
+ * function of them is proved to do exactly what is specified of its call, for all arguments: crates/capi/src/lib.rt and
+ * crates/loadapi/src/lib.rt have the promises. The functions of this header are not proved: those over a session only hand on to
  * the library, those over a box call these. examples/calls.c tests them, docs/FIRMWARE.md has what a till box needs to know.
  */
 #ifndef PURSE_H

@@ -1,4 +1,4 @@
-//! Links `libcapi.a`, the proved store. Its folder is taken from PURSE_LIB, else it is
+//! Links `libcapi.a`, the proved store, and `libloadapi.a`, its loads. Their folder is taken from PURSE_LIB, else it is
 //! `target/staticlib` of the repository.
 
 use std::env;
@@ -10,12 +10,14 @@ fn main() {
         Some(folder) => PathBuf::from(folder),
         None => here.join("../../target/staticlib"),
     };
-    let library = folder.join("libcapi.a");
     println!("cargo:rerun-if-env-changed=PURSE_LIB");
-    println!("cargo:rerun-if-changed={}", library.display());
-    if !library.is_file() {
-        println!("cargo:warning={} is missing: build the static library first (rust/README.md)", library.display());
-    }
     println!("cargo:rustc-link-search=native={}", folder.display());
-    println!("cargo:rustc-link-lib=static=capi");
+    for name in ["capi", "loadapi"] {
+        let library = folder.join(format!("lib{name}.a"));
+        println!("cargo:rerun-if-changed={}", library.display());
+        if !library.is_file() {
+            println!("cargo:warning={} is missing: build the static libraries first (rust/README.md)", library.display());
+        }
+        println!("cargo:rustc-link-lib=static={name}");
+    }
 }

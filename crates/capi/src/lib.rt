@@ -16,9 +16,6 @@ use journal::begun_phase;
 use journal::commit_in;
 use journal::last_phase;
 use journal::phase_at;
-use loadmirror::CLoaded;
-use loadmirror::load_begin;
-use loadmirror::load_step;
 use lookup::Looked;
 use lookup::look_up;
 use mirror::CAdvanced;
@@ -80,8 +77,6 @@ ghost use Rattle.journal.specs.Entries.{behind, begunPhase};
 ghost use Rattle.checks.specs.Checks.{Seen};
 ghost use Rattle.transaction.specs.Places.{viewIn};
 ghost use Rattle.extents.specs.Stretches.{runsIn};
-ghost use Rattle.loader.specs.Load.{begin};
-ghost use Rattle.loadmirror.specs.Loads.{Loads};
 ghost use Rattle.capi.specs.Cells.{Put, Last, Listed};
 ghost use Rattle.mirror.specs.Mirror.{phaseOf, headIn, numbersOf, headOf, decode, encode, finishedOf, committedOf, advancedOf, countedOf, runOf, unlessRefused, lent, Ends, Reads, Names, Lists, extentsOf};
 
@@ -658,33 +653,4 @@ pub extern "C" fn purse_run_list_v<'a>(
         list,
     );
     counted(answer)
-}
-
-// Whether a load may begin.
-#[no_mangle]
-pub extern "C" fn purse_load_begin_v(
-    device: &[u8],
-    work: &[u8],
-    numbers: &[u64; 4],
-    staged: &[u32; Limits::LOG_LENGTH],
-) -> CFinished
-    ensures { λ r. ⌜ r ≡ finishedOf (begin (stateOf (decode (headIn (now (numbers .entry))) (now (staged .entry))) (now (device .entry)) (now (work .entry))) .answer) ⌝ }
-{
-    load_begin(device, work, numbers, staged)
-}
-
-// One step of a load: the next line of the text at this place, or one advance.
-#[no_mangle]
-pub extern "C" fn purse_load_step_v(
-    device: &mut [u8],
-    work: &mut [u8],
-    numbers: &mut [u64; 4],
-    staged: &mut [u32; Limits::LOG_LENGTH],
-    text: &[u8],
-    at: u64,
-) -> CLoaded
-    ensures { λ r. ⌜ Loads r (lent (now (numbers .entry)) (now (staged .entry)) (now (device .entry)) (now (work .entry)))
-        (lent (now (numbers .exit)) (now (staged .exit)) (now (device .exit)) (now (work .exit))) (now (text .entry)) at ⌝ }
-{
-    load_step(device, work, numbers, staged, text, at)
 }

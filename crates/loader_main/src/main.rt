@@ -247,10 +247,24 @@ impl Till {
         }
     }
 
-    fn go_on(self, s: Session, text: &[u8]) {
+    // A line that is refused, twice, and the place behind it.
+    fn third(self, text: &[u8], at: usize) {
+        say(b"the third:");
+        self.step(self.session, text, at);
+        say(b"and again:");
+        self.step(self.session, text, at);
+        say(b"behind the last:");
+        self.step(self.session, text, text.len());
+    }
+
+    // A load while a commit is under way.
+    fn under_way(self, text: &[u8]) {
         let mut device = self.device;
         let mut work = self.work;
-        go_on(&mut device, &mut work, s, text);
+        let c = store::commit(&device, &work, self.session);
+        say(b"its commit under way:");
+        self.begin(c.session);
+        go_on(&mut device, &mut work, c.session, text);
     }
 
     fn begin(self, s: Session) {
@@ -260,38 +274,41 @@ impl Till {
 
 // ---- examples
 
-fn three_lines(t: Till) {
-    say(b"three lines:");
-    let text = b"04A1B2C3;H;1250\n69495546249912580;D;5\n3283263748;D;9\n";
+// Two lines with their stores.
+fn two_lines(device: &mut [u8], work: &mut [u8], s: Session, text: &[u8]) -> LoadStep {
+    let a = steps(device, work, s, text, 0, 9);
+    say(b"\nthe second:");
+    let b = steps(device, work, a.session, text, a.next, 9);
+    say(b"\n");
+    b
+}
+
+fn three_lines(t: Till, text: &[u8]) {
     let mut device = t.device;
     let mut work = t.work;
+    say(b"three lines:");
     t.begin(t.session);
-    let a = steps(&mut device, &mut work, t.session, text, 0, 9);
-    say(b"\nthe second:");
-    let b = steps(&mut device, &mut work, a.session, text, a.next, 9);
-    say(b"\nthe third:");
-    let s = b.session;
+    let r = two_lines(&mut device, &mut work, t.session, text);
+    let s = r.session;
     let u = Till {
         device: device,
         work: work,
         session: s,
     };
-    u.step(s, text, b.next);
-    say(b"and again:");
-    u.step(s, text, b.next);
-    say(b"behind the last:");
-    u.step(s, text, 53);
+    u.third(text, r.next);
 }
 
 // 12 comes before any line, also where none is left.
-fn not_ready(t: Till) {
+fn closed(t: Till, text: &[u8]) {
     say(b"never opened:");
-    let text = b"04A1B2C3;H;1250\n";
     t.begin(Session::never_opened());
     t.step(Session::never_opened(), text, 0);
     say(b"closed:");
     t.begin(Session::closed_on(64));
     t.step(Session::closed_on(64), text, 0);
+}
+
+fn recovering(t: Till, text: &[u8]) {
     say(b"closed, no line left:");
     t.step(Session::closed_on(64), text, 16);
     say(b"recovering:");
@@ -312,9 +329,7 @@ fn go_on(device: &mut [u8], work: &mut [u8], s: Session, text: &[u8]) {
 }
 
 // A file made by the caller: staged, then its commit under way.
-fn foreign(t: Till) {
-    say(b"staged:");
-    let text = b"04A1B2C3;H;1250\n";
+fn foreign(t: Till, text: &[u8]) {
     let device = t.device;
     let mut work = t.work;
     let s = make(&device, &mut work, t.session, b"ABCDEFGH", 0);
@@ -323,23 +338,27 @@ fn foreign(t: Till) {
         work: work,
         session: s,
     };
+    say(b"staged:");
     u.begin(s);
     u.step(s, text, 0);
-    say(b"its commit under way:");
-    let c = store::commit(&device, &work, s);
-    u.begin(c.session);
-    u.go_on(c.session, text);
+    u.under_way(text);
 }
 
-fn lines_refused(t: Till) {
+fn no_lines(t: Till) {
     say(b"empty file:");
     t.step(t.session, b"", 0);
     say(b"one feed:");
     t.step(t.session, b"\n", 0);
+}
+
+fn bad_lines(t: Till) {
     say(b"small letters:");
     t.step(t.session, b"04A1B2C3;H;1\n04a1b2c3;H;1\n", 13);
     say(b"no feed:");
     t.step(t.session, b"04A1B2C3;H;1\n04A1B2C4;H;1", 13);
+}
+
+fn long_line(t: Till) {
     say(b"65 bytes:");
     t.step(
         t.session,
@@ -387,10 +406,16 @@ fn all_records(t: Till) {
 
 fn main() {
     let t = Till::empty();
-    three_lines(t);
-    not_ready(t);
-    foreign(t);
-    lines_refused(t);
+    three_lines(
+        t,
+        b"04A1B2C3;H;1250\n69495546249912580;D;5\n3283263748;D;9\n",
+    );
+    closed(t, b"04A1B2C3;H;1250\n");
+    recovering(t, b"04A1B2C3;H;1250\n");
+    foreign(t, b"04A1B2C3;H;1250\n");
+    no_lines(t);
+    bad_lines(t);
+    long_line(t);
     no_room(t);
     all_records(t);
 }

@@ -1,7 +1,7 @@
-use Rattle.loadmirror.proofs.Laws.{left-refused, left-line}
+use Rattle.loadapi.proofs.Laws.{left-refused, left-line}
 use borrow.Author.Needs.{needs}
-use Rattle.loadmirror.proofs.leaves_all.Statement.{statement}
-use Rattle.loadmirror.proofs.leaves_all.Tie as tie
+use Rattle.loadapi.proofs.leaves_all.Statement.{statement}
+use Rattle.loadapi.proofs.leaves_all.Tie as tie
 
 enum-told : tie.Need-enum-told
 enum-told c = search needs

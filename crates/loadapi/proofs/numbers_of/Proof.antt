@@ -1,9 +1,9 @@
 use mathlib.Core.Path.{_∙_}
 use Rattle.loader.specs.Load.{loadedOf}
-use Rattle.loadmirror.proofs.Laws.{by-answer, plain-told, taken-told, none-told}
+use Rattle.loadapi.proofs.Laws.{by-answer, plain-told, taken-told, none-told}
 use borrow.Author.Needs.{needs}
-use Rattle.loadmirror.proofs.numbers_of.Statement.{statement}
-use Rattle.loadmirror.proofs.numbers_of.Tie as tie
+use Rattle.loadapi.proofs.numbers_of.Statement.{statement}
+use Rattle.loadapi.proofs.numbers_of.Tie as tie
 
 enum-known-answer : tie.Need-enum-known-answer
 enum-known-answer c = search needs

@@ -1,8 +1,8 @@
 use mathlib.Core.Path.{_∙_}
-use Rattle.loadmirror.proofs.Laws.{refused-told}
+use Rattle.loadapi.proofs.Laws.{refused-told}
 use borrow.Author.Needs.{needs}
-use Rattle.loadmirror.proofs.refused_as.Statement.{statement}
-use Rattle.loadmirror.proofs.refused_as.Tie as tie
+use Rattle.loadapi.proofs.refused_as.Statement.{statement}
+use Rattle.loadapi.proofs.refused_as.Tie as tie
 
 finished-requires : tie.Need-finished-requires
 finished-requires c κs = search needs

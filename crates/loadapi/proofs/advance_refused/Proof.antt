@@ -1,7 +1,7 @@
-use Rattle.loadmirror.proofs.Laws.{left-stored}
+use Rattle.loadapi.proofs.Laws.{left-stored}
 use borrow.Author.Needs.{needs}
-use Rattle.loadmirror.proofs.advance_refused.Statement.{statement}
-use Rattle.loadmirror.proofs.advance_refused.Tie as tie
+use Rattle.loadapi.proofs.advance_refused.Statement.{statement}
+use Rattle.loadapi.proofs.advance_refused.Tie as tie
 
 enum-told : tie.Need-enum-told
 enum-told c = search needs

@@ -2,10 +2,10 @@ use mathlib.Core.Path.{_∙_}
 use Rattle.spec.specs.declared.Stored.{Stored}
 use Rattle.spec.specs.Answers.{storedOf}
 use Rattle.loader.specs.Load.{answered}
-use Rattle.loadmirror.proofs.Laws.{by-answer, stored-told, idle-told}
+use Rattle.loadapi.proofs.Laws.{by-answer, stored-told, idle-told}
 use borrow.Author.Needs.{needs}
-use Rattle.loadmirror.proofs.stored.Statement.{statement}
-use Rattle.loadmirror.proofs.stored.Tie as tie
+use Rattle.loadapi.proofs.stored.Statement.{statement}
+use Rattle.loadapi.proofs.stored.Tie as tie
 
 enum-known-answer : tie.Need-enum-known-answer
 enum-known-answer c = search needs

@@ -7,7 +7,7 @@ use lib.ListN.{getD}
 use Rattle.spec.specs.Answers.{Answer, refused, done, started, stored, idle, counted, file, noFile, run, noRun}
 use Rattle.mirror.specs.Mirror.{numbersOf, encode, Lent, stateIn}
 use Rattle.loader.specs.Load.{LoadAnswer, answered, noneLeft, LoadOutcome, loadStep, leavesAll}
-use Rattle.loadmirror.specs.declared.CLoaded.{CLoaded}
+use Rattle.loadapi.specs.declared.CLoaded.{CLoaded}
 
 -- kind 0: the refusal's number, and the line that it names, counted from 1; 0 where it names none
 abbrev pub refusedNumbers : ℕ → ℕ → ℕ → CLoaded

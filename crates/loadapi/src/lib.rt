@@ -1,4 +1,5 @@
-// The calls of a load on a session in its numbers, for C: crate capi exports them. What the numbers of an answer mean is defined in specs/Loads.antt.
+// The calls of a load for C, on a session in its numbers, as those of crate capi are. They have a static library of their own, so that the code of the
+// other calls stays as it is. What the numbers of an answer mean is defined in specs/Loads.antt.
 use loader::Loaded;
 use loader::begin;
 use loader::step;
@@ -19,7 +20,7 @@ ghost use Rattle.spec.specs.Answers.{refusalOf, storedOf};
 ghost use Rattle.spec.specs.Transaction.{stateOf};
 ghost use Rattle.mirror.specs.Mirror.{headIn, numbersOf, decode, encode, finishedOf, faultIn, lent};
 ghost use Rattle.loader.specs.Load.{answered, naming, begin, loadedOf, leavesAll};
-ghost use Rattle.loadmirror.specs.Loads.{loadNumbers, refusedNumbers, unlessLeft, Loads};
+ghost use Rattle.loadapi.specs.Loads.{loadNumbers, refusedNumbers, unlessLeft, Loads};
 
 // A step. kind: 0 refused, 1 a line was taken up, 2 an advance was made, 3 no line is left. line: the line refused, else 0; stores: of a line; block,
 // last, number: of an advance, all 0 where nothing is under way; next: the load's place behind the step.
@@ -187,7 +188,8 @@ fn keep_step(
 }
 
 // Whether a load may begin.
-pub fn load_begin(
+#[no_mangle]
+pub extern "C" fn purse_load_begin_v(
     device: &[u8],
     work: &[u8],
     numbers: &[u64; 4],
@@ -201,7 +203,8 @@ pub fn load_begin(
 }
 
 // One step of a load.
-pub fn load_step(
+#[no_mangle]
+pub extern "C" fn purse_load_step_v(
     device: &mut [u8],
     work: &mut [u8],
     numbers: &mut [u64; 4],

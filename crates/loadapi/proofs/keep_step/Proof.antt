@@ -1,9 +1,9 @@
 use mathlib.Core.Path.{refl, sym, ap, _∙_}
 use Rattle.mirror.specs.Mirror.{numbersOf}
-use Rattle.loadmirror.proofs.Laws.{stays, moves}
+use Rattle.loadapi.proofs.Laws.{stays, moves}
 use borrow.Author.Needs.{needs}
-use Rattle.loadmirror.proofs.keep_step.Statement.{statement}
-use Rattle.loadmirror.proofs.keep_step.Tie as tie
+use Rattle.loadapi.proofs.keep_step.Statement.{statement}
+use Rattle.loadapi.proofs.keep_step.Tie as tie
 
 leaves-all-requires : tie.Need-leaves-all-requires
 leaves-all-requires c κs = search needs

@@ -4,10 +4,10 @@ use Rattle.spec.specs.Transaction.{stateOf}
 use Rattle.mirror.specs.declared.Head.{Head}
 use Rattle.mirror.specs.Mirror.{decode}
 use Rattle.loader.specs.Load.{loadStep}
-use Rattle.loadmirror.proofs.Laws.{step-leaves}
+use Rattle.loadapi.proofs.Laws.{step-leaves}
 use borrow.Author.Needs.{needs}
-use Rattle.loadmirror.proofs.load_step.Statement.{statement}
-use Rattle.loadmirror.proofs.load_step.Tie as tie
+use Rattle.loadapi.proofs.purse_load_step_v.Statement.{statement}
+use Rattle.loadapi.proofs.purse_load_step_v.Tie as tie
 
 head-in-requires : tie.Need-head-in-requires
 head-in-requires c κs = search needs
@@ -33,8 +33,8 @@ same-length-2 c = search needs
 returns : tie.Need-returns
 returns c = let a = c .before .before .before .before .before .before .before .before .before .before .before .before .before .before .before .before .before .before .before .args in let s = c .before .before .before .before .before .before .before .before .before .before .before .before .decode .ensures ∙ ap (λ (h : Head). decode h (a .staged .now)) (c .before .before .before .before .before .before .before .before .before .before .before .before .before .before .head-in .ensures) in step-leaves (a .numbers .now) (a .staged .now) (a .device .now) (a .work .now) (a .text .now) (a .at) _ _ _ _ _ (c .before .before .before .before .before .before .before .before .before .step .ensures ∙ ap (λ (x : Session). loadStep (stateOf x (a .device .now) (a .work .now)) (a .text .now) (a .at)) s) _ _ (c .before .keep-step .ensures .0) (c .before .keep-step .ensures .1) _ (c .numbers-of .ensures)
 
-pub load-step-spec : {M : Type 1} → statement M
-load-step-spec =
+pub purse-load-step-v-spec : {M : Type 1} → statement M
+purse-load-step-v-spec =
     tie.close
     (tie.spec
     head-in-requires

@@ -6,8 +6,8 @@ use Rattle.mirror.specs.declared.Head.{Head}
 use Rattle.mirror.specs.Mirror.{decode, finishedOf}
 use Rattle.loader.specs.Load.{begin}
 use borrow.Author.Needs.{needs}
-use Rattle.loadmirror.proofs.load_begin.Statement.{statement}
-use Rattle.loadmirror.proofs.load_begin.Tie as tie
+use Rattle.loadapi.proofs.purse_load_begin_v.Statement.{statement}
+use Rattle.loadapi.proofs.purse_load_begin_v.Tie as tie
 
 head-in-requires : tie.Need-head-in-requires
 head-in-requires c κs = search needs
@@ -24,6 +24,6 @@ finished-requires c κs = search needs
 returns : tie.Need-returns
 returns c = let a = c .before .before .before .before .before .before .before .args in let s = c .before .before .decode .ensures ∙ ap (λ (h : Head). decode h (a .staged .now)) (c .before .before .before .before .head-in .ensures) in c .finished .ensures ∙ ap (λ (o : Outcome). finishedOf (o .answer)) (c .before .begin .ensures ∙ ap (λ (x : Session). begin (stateOf x (a .device .now) (a .work .now))) s)
 
-pub load-begin-spec : {M : Type 1} → statement M
-load-begin-spec =
+pub purse-load-begin-v-spec : {M : Type 1} → statement M
+purse-load-begin-v-spec =
     tie.close (tie.spec head-in-requires decode-requires begin-requires finished-requires returns)

@@ -21,8 +21,8 @@ use Rattle.loader.specs.declared.Loaded.{Loaded}
 use Rattle.loader.specs.declared.Loaded.the-variants as loaded-cases
 use Rattle.loader.specs.Load.{LoadAnswer, answered, noneLeft, LoadOutcome, loaded, naming, loadStep, leftLoad, loadedOf, leavesAll}
 use Rattle.loader.proofs.Kept.{refused-leaves}
-use Rattle.loadmirror.specs.declared.CLoaded.{CLoaded}
-use Rattle.loadmirror.specs.Loads.{refusedNumbers, takenNumbers, storedNumbers, loadNumbers, unlessLeft, StepLeaves, Loads}
+use Rattle.loadapi.specs.declared.CLoaded.{CLoaded}
+use Rattle.loadapi.specs.Loads.{refusedNumbers, takenNumbers, storedNumbers, loadNumbers, unlessLeft, StepLeaves, Loads}
 
 -- ---- refusals
 

@@ -9,10 +9,9 @@ use native.Mathlib.Omega.{arith}
 use lib.ListN.{length, take, getD}
 use borrow.Author.Tests.{le-ltb}
 use Rattle.spec.specs.Bytes.{exactly}
-use Rattle.spec.specs.Listing.{digits}
 use Rattle.spec.specs.Inode.{isName}
 use Rattle.cardfile.proofs.Laws.{length-bytes}
-use Rattle.cardfile.specs.Cards.{IsSerial, Proper, letterH, letterD, numberOf, bytesOf, nameOf, amountBytes, padded, spell, lineText, digitValue, readDecimal, within, serialD, serialOf, Entry, entryOf}
+use Rattle.cardfile.specs.Cards.{IsSerial, Proper, letterH, letterD, numberOf, nameOf, amountBytes, padded, spell, lineText, digitValue, readDecimal, within, serialD, serialOf, Entry, entryOf}
 use Rattle.cardfile.specs.Lines.{nameTold}
 use Rattle.cardfile.proofs.Forms.{name-is}
 use Rattle.cardfile.proofs.Spelling.{serial-back, number-small, bytes-number, read-back}

@@ -1,17 +1,16 @@
 -- A text with a line of the form at a place has its card there: with `stands`, a card stands exactly where its line does. Assumes nothing.
-use Prim.Native.Nat.{ℕ, zero, suc, _+_, _*_, _/_, _%_, _<_, _≤_}
-use mathlib.Core.Path.{_≡_, refl, sym, ap, _∙_}
+use Prim.Native.Nat.{ℕ, zero, suc, _+_, _/_, _%_, _≤_}
+use mathlib.Core.Path.{_≡_, refl, ap, _∙_}
 use mathlib.Core.Bool.{Bool, true, false, cond}
 use mathlib.Core.List.{List, [], _∷_, _++_}
-use mathlib.Core.Option.{Option, none, some}
 use mathlib.Core.Logic.{_⊎_, inl, inr}
 use native.Mathlib.Omega.{arith}
 use lib.ListN.{length, drop, length-append, length-drop}
 use lib.Dec.{eqb, ltb}
-use borrow.Author.Tests.{eqb-true, ne-eqb, lt-ltb, le-ltb, lt-leb}
+use borrow.Author.Tests.{lt-ltb, le-ltb, lt-leb}
 use Rattle.spec.specs.Listing.{digits, decimal, hexDigit, hexadecimal}
-use Rattle.cardfile.specs.Cards.{IsSerial, Proper, Entry, letterH, letterD, numberOf, padded, digitsFor, spell, lineText, before, entryOf}
-use Rattle.cardfile.specs.Lines.{lineOf, Standing, card, tooLong, malformed, nothing, formed, standingIn, standing}
+use Rattle.cardfile.specs.Cards.{IsSerial, Proper, Entry, letterH, letterD, numberOf, padded, digitsFor, spell, lineText, before}
+use Rattle.cardfile.specs.Lines.{card, standingIn, standing}
 use Rattle.cardfile.proofs.Laws.{before-hit, before-miss}
 use Rattle.cardfile.proofs.Spelling.{length-hex, length-padded, digits-few, read-back}
 

@@ -3,7 +3,6 @@ use Prim.Native.Nat.{ℕ}
 use mathlib.Core.Path.{_≡_, refl, sym, ap, ap₂, _∙_, subst}
 use mathlib.Core.Bool.{Bool, true, false, cond}
 use mathlib.Core.List.{List, [], _∷_}
-use lib.ListN.{getD}
 use Rattle.spec.specs.declared.Refusal.{Refusal}
 use Rattle.spec.specs.declared.Session.{Session}
 use Rattle.spec.specs.declared.Stored.{Stored}
@@ -12,14 +11,13 @@ use Rattle.spec.specs.Answers.{Answer, refused, started, stored, idle, refusalO
 use Rattle.spec.specs.Transaction.{State, stateOf}
 use Rattle.block.proofs.Laws.{slice-bytes}
 use Rattle.promises.specs.Ready.{refusal-is}
-use Rattle.mirror.specs.declared.Head.{Head}
 use Rattle.mirror.specs.declared.CFinished.{CFinished}
 use Rattle.mirror.specs.declared.CAdvanced.{CAdvanced}
 use Rattle.mirror.specs.Mirror.{headIn, numbersOf, encode, decode, finishedOf, advancedOf, Lent, lent, stateIn}
 use Rattle.mirror.proofs.Laws.{decode-encode}
 use Rattle.loader.specs.declared.Loaded.{Loaded}
 use Rattle.loader.specs.declared.Loaded.the-variants as loaded-cases
-use Rattle.loader.specs.Load.{LoadAnswer, answered, noneLeft, LoadOutcome, loaded, naming, loadStep, leftLoad, loadedOf, leavesAll}
+use Rattle.loader.specs.Load.{LoadAnswer, answered, noneLeft, LoadOutcome, naming, loadStep, leftLoad, loadedOf, leavesAll}
 use Rattle.loader.proofs.Kept.{refused-leaves}
 use Rattle.loadapi.specs.declared.CLoaded.{CLoaded}
 use Rattle.loadapi.specs.Loads.{refusedNumbers, takenNumbers, storedNumbers, loadNumbers, unlessLeft, StepLeaves, Loads}

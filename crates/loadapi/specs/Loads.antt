@@ -4,7 +4,7 @@ use mathlib.Core.Path.{_≡_}
 use mathlib.Core.Bool.{true, false, cond}
 use mathlib.Core.List.{List}
 use lib.ListN.{getD}
-use Rattle.spec.specs.Answers.{Answer, refused, done, started, stored, idle, counted, file, noFile, run, noRun}
+use Rattle.spec.specs.Answers.{refused, done, started, stored, idle, counted, file, noFile, run, noRun}
 use Rattle.mirror.specs.Mirror.{numbersOf, encode, Lent, stateIn}
 use Rattle.loader.specs.Load.{LoadAnswer, answered, noneLeft, LoadOutcome, loadStep, leavesAll}
 use Rattle.loadapi.specs.declared.CLoaded.{CLoaded}

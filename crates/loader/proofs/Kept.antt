@@ -10,14 +10,14 @@ use Rattle.spec.specs.declared.Phase.{Phase}
 use Rattle.spec.specs.declared.Phase.the-variants.{Closed, Ready, Committing, Recovering}
 use Rattle.spec.specs.declared.Refusal.the-variants.{NotReady}
 use Rattle.spec.specs.Session.{stagedIn}
-use Rattle.spec.specs.Answers.{Answer, isRefused, Result, refuse, accept, require, _>>=_, _>>_}
+use Rattle.spec.specs.Answers.{Answer, isRefused, Result, refuse, accept, require, _>>_}
 use Rattle.spec.specs.Transaction.{State}
-use Rattle.spec.specs.Calls.{Outcome, outcome, readyOk, create, write, commit, advance}
+use Rattle.spec.specs.Calls.{Outcome, outcome, readyOk, create, write, commit}
 use Rattle.promises.specs.Ready.{create-ready, write-ready, commit-starts}
 use Rattle.promises.specs.Advance.{advance-keeps}
 use Rattle.cardfile.specs.Cards.{nameOf, amountBytes}
 use Rattle.cardfile.specs.Lines.{Standing, card, tooLong, malformed, nothing, standing, lineNumber}
-use Rattle.loader.specs.Load.{idleOk, storeLine, LoadAnswer, answered, noneLeft, LoadOutcome, loaded, naming, takenUp, takeLine, afterBegin, advancing, loadIn, loadStep, leavesAll}
+use Rattle.loader.specs.Load.{idleOk, storeLine, answered, loaded, naming, takenUp, takeLine, afterBegin, advancing, loadIn, loadStep, leavesAll}
 
 pub idle-ready : (s : State) (t : Bool) → idleOk s ≡ accept t → (u : Bool) × (readyOk s ≡ accept u)
 unfolding idleOk

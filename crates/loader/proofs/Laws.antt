@@ -1,14 +1,12 @@
 -- The cases of a load. Assumes nothing.
-use Prim.Native.Nat.{ℕ, zero, suc, _+_, _*_, _≤_}
-use mathlib.Core.Path.{_≡_, refl, sym, ap, ap₂, _∙_, fun-ext}
-use mathlib.Core.Bool.{Bool, true, false, cond, not}
+use Prim.Native.Nat.{ℕ, zero, suc, _+_, _*_}
+use mathlib.Core.Path.{_≡_, refl, sym, ap, ap₂, _∙_}
+use mathlib.Core.Bool.{Bool, true, false, cond}
 use mathlib.Core.List.{List, [], _∷_}
-use mathlib.Core.Option.{Option, none, some}
 use native.Mathlib.Omega.{arith}
-use mathlib.Core.Logic.{_⊎_}
-use borrow.Author.Tests.{eq-eqb, ne-eqb, eqb-true}
+use borrow.Author.Tests.{ne-eqb}
 use lib.ListN.{length}
-use lib.Dec.{eqb, leb}
+use lib.Dec.{eqb}
 use Rattle.spec.specs.declared.Phase.{Phase}
 use Rattle.spec.specs.declared.Phase.the-variants.{Closed, Ready, Committing, Recovering}
 use Rattle.spec.specs.declared.Session.{Session}
@@ -18,17 +16,15 @@ use Rattle.spec.specs.declared.Done.{Done}
 use Rattle.spec.specs.declared.Done.the-variants as done-cases
 use Rattle.spec.specs.declared.Started.{Started}
 use Rattle.spec.specs.declared.Started.the-variants as started-cases
-use Rattle.spec.specs.Layout.{logLength}
-use Rattle.spec.specs.Bytes.{found, same, patch}
-use Rattle.spec.specs.Disk.{Disk, Slice, sliceOf, blocksOf, withBlock}
-use Rattle.spec.specs.Inode.{findEmpty, bytesOfInode, inodeWith}
-use Rattle.spec.specs.Session.{stagedIn, inPhase}
-use Rattle.spec.specs.Answers.{Answer, refused, done, started, stored, idle, counted, file, noFile, run, noRun, refusalOf, doneOf, startedOf, isRefused, Result, refuse, accept, require, _>>=_, _>>_}
-use Rattle.spec.specs.Transaction.{State, stateOf, withSession, view, BlockStore, put, Staged, stagedOf, stage, ascending, stageAll, withStaging}
-use Rattle.spec.specs.Calls.{Outcome, outcome, left, settle, lentOk, readyOk, nameOk, isTaken, emptyInode, isReady, staging, startCommit, create, write, commit, advance, Create, Write, Do}
-use Rattle.promises.specs.Ready.{refusal-is, refused-is, create-ready, write-ready, commit-starts}
+use Rattle.spec.specs.Bytes.{same}
+use Rattle.spec.specs.Disk.{Slice, sliceOf, blocksOf}
+use Rattle.spec.specs.Session.{stagedIn}
+use Rattle.spec.specs.Answers.{Answer, refused, done, started, stored, idle, counted, file, noFile, run, noRun, refusalOf, doneOf, startedOf, isRefused, Result, refuse, accept, require, _>>_}
+use Rattle.spec.specs.Transaction.{State, stateOf}
+use Rattle.spec.specs.Calls.{Outcome, outcome, left, settle, lentOk, readyOk, isReady, startCommit, create, write, commit, advance}
+use Rattle.promises.specs.Ready.{refusal-is, refused-is}
 use Rattle.promises.specs.Restored.{storedIn, restored, create-keeps, write-keeps}
-use Rattle.cardfile.specs.Cards.{nameOf, amountBytes}
+use Rattle.cardfile.specs.Cards.{amountBytes}
 use Rattle.cardfile.specs.Lines.{Standing, card, tooLong, malformed, nothing, standing, lineAt, lineNumber, nameTold}
 use Rattle.cardfile.specs.declared.Card.{Card}
 use Rattle.cardfile.specs.declared.Line.{Line}
@@ -36,7 +32,7 @@ use Rattle.cardfile.specs.declared.Line.the-variants as line-cases
 use Rattle.cardfile.proofs.Places.{long-at, bad-at, none-at, found-at}
 use Rattle.loader.specs.declared.Loaded.{Loaded}
 use Rattle.loader.specs.declared.Loaded.the-variants as loaded-cases
-use Rattle.loader.specs.Load.{idleOk, begin, orBack, storeLine, LoadAnswer, answered, noneLeft, LoadOutcome, loaded, naming, takenUp, takeLine, afterBegin, advancing, loadIn, loadStep, loadedOf, leftLoad}
+use Rattle.loader.specs.Load.{idleOk, begin, orBack, storeLine, answered, noneLeft, LoadOutcome, loaded, naming, takenUp, takeLine, afterBegin, advancing, loadIn, loadStep, loadedOf, leftLoad}
 use Rattle.loader.specs.Parts.{finishLine, takeNamed}
 
 true≢false : true ≡ false → ⊥

@@ -1,6 +1,6 @@
 -- Where a load may begin: behind every open that gives a ready session, so on an empty store of every size, and again behind a cut. Assumes nothing.
 use Prim.Native.Nat.{ℕ, _*_, _≤_}
-use mathlib.Core.Path.{_≡_, refl, sym, ap, ap₂, _∙_, subst}
+use mathlib.Core.Path.{_≡_, refl, sym, ap, ap₂, _∙_}
 use mathlib.Core.Bool.{Bool, true, false, cond, _&&_}
 use mathlib.Core.List.{List, [], _∷_}
 use lib.Dec.{T, eqb}
@@ -10,11 +10,11 @@ use Rattle.spec.specs.declared.Refusal.the-variants.{DeviceSize, WorkSize}
 use Rattle.spec.specs.Layout.{blockSize, fewestBlocks, mostBlocks, workSize}
 use Rattle.spec.specs.Disk.{Slice, isAllowed}
 use Rattle.spec.specs.Session.{opened, stagedIn}
-use Rattle.spec.specs.Answers.{done, isRefused, Result, accept, require, _>>=_, _>>_}
+use Rattle.spec.specs.Answers.{done, isRefused, require, _>>_}
 use Rattle.spec.specs.Transaction.{State, withSession}
 use Rattle.spec.specs.Calls.{Outcome, outcome, lentOk, Open, step}
 use Rattle.spec.specs.Plain.{phaseIn, Mode}
-use Rattle.spec.specs.CutRule.{Event, call, cut, Both, next, after, Starts, startOf}
+use Rattle.spec.specs.CutRule.{call, cut, Both, next, after, Starts, startOf}
 use Rattle.laws.specs.Starts.{emptyStore, empty-starts}
 use Rattle.promises.specs.Reached.{Reached, reached-next, moment-of, rightly-of}
 use Rattle.loadlaws.specs.Lists.{LoadEvent, loadAfter, load-reached, load-cut}

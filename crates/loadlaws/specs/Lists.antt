@@ -1,41 +1,36 @@
 -- Lists in which the steps of loads stand beside calls and cuts: each is a list of calls and cuts, with the same states and answers. Assumes nothing.
-use Prim.Native.Nat.{ℕ, zero, suc, _+_, _*_, _≤_}
+use Prim.Native.Nat.{ℕ, _+_, _≤_}
 use mathlib.Core.Path.{_≡_, refl, sym, ap, ap₂, _∙_, subst, fun-ext}
-use mathlib.Core.Bool.{Bool, true, false, cond, not}
+use mathlib.Core.Bool.{Bool, true, false, cond}
 use mathlib.Core.List.{List, [], _∷_, _++_, map, append-nil}
 use lib.Seq.{drop-nil}
 use Rattle.block.proofs.Laws.{same-self}
-use mathlib.Core.Option.{Option, none, some, Option·map}
+use mathlib.Core.Option.{some, Option·map}
 use native.Mathlib.Omega.{arith}
-use lib.ListN.{length, drop, getElem?}
-use lib.Dec.{T, eqb, leb}
+use lib.ListN.{length}
+use lib.Dec.{T, eqb}
 use Rattle.spec.specs.declared.Phase.{Phase}
 use Rattle.spec.specs.declared.Phase.the-variants.{Closed, Ready, Committing, Recovering}
 use Rattle.spec.specs.declared.Refusal.{Refusal}
-use Rattle.spec.specs.declared.Refusal.the-variants.{NotReady}
 use Rattle.spec.specs.Layout.{workSize}
 use Rattle.spec.specs.Bytes.{same}
-use Rattle.spec.specs.Session.{opened, closedOn, neverOpened, inPhase, stagedIn, withStaged}
-use Rattle.spec.specs.declared.Session.{Session}
-use Rattle.spec.specs.Journal.{commitStores, recoveryStores}
-use Rattle.spec.specs.Answers.{Answer, refused, done, started, stored, idle, counted, file, noFile, run, noRun, refusalOf, isRefused, countOf, Result, refuse, accept, require, _>>=_, _>>_}
-use Rattle.spec.specs.Transaction.{State, withSession, view, BlockStore, Staged, stageAll, withStaging}
-use Rattle.spec.specs.Inode.{inodeAt}
-use Rattle.spec.specs.Plan.{treeFor}
+use Rattle.spec.specs.Session.{opened, neverOpened}
+use Rattle.spec.specs.Answers.{Answer, refused, done, started, stored, idle, counted, file, noFile, run, noRun, refusalOf, isRefused, Result, refuse, accept}
+use Rattle.spec.specs.Transaction.{State, withSession}
 use Rattle.spec.specs.Disk.{Slice}
 use Rattle.spec.specs.Sound.{sound}
 use Rattle.spec.specs.Map.{Files, filesOf}
-use Rattle.spec.specs.Calls.{Outcome, outcome, settle, lentOk, readyOk, nameOk, sizedOk, isTaken, emptyInode, staging, startCommit, perform, advanceIn, rewrite, create, write, commit, advance, Create, Write, Call, Open, Advance, Commit, Do, step}
+use Rattle.spec.specs.Calls.{outcome, create, write, commit, advance, Create, Write, Call, Open, Advance, Commit, Do, step}
 use Rattle.spec.specs.Plain.{Plain, Mode, phaseIn, plain, at, newFile, afterCommit, afterAdvance, follow}
-use Rattle.spec.specs.CutRule.{Event, call, cut, Both, Moment, Always, next, after, advances, Survives, Starts, startOf}
+use Rattle.spec.specs.CutRule.{Event, call, Both, Moment, next, after, advances, Survives, Starts, startOf}
 use Rattle.cardfile.specs.Cards.{nameOf, amountBytes}
 use Rattle.cardfile.specs.Lines.{Standing, card, tooLong, malformed, nothing, standing, lineNumber}
-use Rattle.loader.specs.Load.{idleOk, orBack, storeLine, LoadAnswer, answered, noneLeft, LoadOutcome, loaded, naming, takenUp, takeLine, afterBegin, advancing, loadIn, loadStep}
+use Rattle.loader.specs.Load.{idleOk, storeLine, LoadAnswer, answered, noneLeft, LoadOutcome, naming, takenUp, takeLine, afterBegin, loadIn, loadStep}
 use Rattle.laws.specs.Files.{crash-safe}
 use Rattle.promises.specs.Ready.{refusal-is}
 use Rattle.promises.specs.Advance.{isAdvanced, advance-advanced}
 use Rattle.loader.proofs.Kept.{line-commits}
-use Rattle.promises.specs.Reached.{Reached, after-append, reached-start, reached-after, survives-on, moment-of}
+use Rattle.promises.specs.Reached.{Reached, after-append, reached-start, reached-after, moment-of}
 
 -- ---- the calls of a step
 

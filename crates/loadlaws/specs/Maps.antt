@@ -1,44 +1,42 @@
 -- What a load makes of the committed map. Assumes nothing.
-use Prim.Native.Nat.{ℕ, zero, suc, _+_, _*_, _-_, _/_, _<_}
+use Prim.Native.Nat.{ℕ, zero, suc, _+_, _*_, _<_}
 use mathlib.Core.Path.{_≡_, refl, sym, ap, ap₂, _∙_, subst, fun-ext}
 use mathlib.Core.Bool.{Bool, true, false, cond, not, true≢false}
-use mathlib.Core.Logic.{_⊎_, inl, inr}
-use mathlib.Core.List.{List, [], _∷_, _++_, map}
-use mathlib.Core.Option.{Option, none, some}
+use mathlib.Core.Logic.{inl, inr}
+use mathlib.Core.List.{List, [], _∷_, map}
+use mathlib.Core.Option.{none, some}
 use native.Mathlib.Omega.{arith}
-use lib.ListN.{length, getElem?}
+use lib.ListN.{length}
 use lib.Dec.{eqb}
 use Rattle.spec.specs.declared.Phase.{Phase}
 use Rattle.spec.specs.declared.Phase.the-variants as phases
 use Rattle.spec.specs.declared.Session.{Session}
 use Rattle.spec.specs.declared.Refusal.{Refusal}
 use Rattle.spec.specs.declared.Refusal.the-variants.{NotReady}
-use Rattle.spec.specs.Disk.{withBlock}
 use Rattle.spec.specs.Layout.{inodeCount}
 use Rattle.spec.specs.Bytes.{all, upFrom}
-use Rattle.spec.specs.Inode.{isName, isEmpty}
+use Rattle.spec.specs.Inode.{isEmpty}
 use Rattle.spec.specs.Sound.{freeBlocks}
 use borrow.Author.Tests.{eq-eqb, ne-eqb}
 use Rattle.spec.specs.Map.{Files}
-use Rattle.spec.specs.Session.{opened, closedOn, inPhase, stagedIn, withStaged}
-use Rattle.spec.specs.Answers.{Answer, refused, done, started, stored, idle, counted, file, noFile, run, noRun, refusalOf, isRefused, Result, refuse, accept, require, _>>=_, _>>_}
-use Rattle.spec.specs.Transaction.{State, stateOf, view, BlockStore}
-use Rattle.spec.specs.Journal.{commitStores, recoveryStores}
-use Rattle.spec.specs.Calls.{Outcome, outcome, settle, isReady, lentOk, readyOk, startCommit, perform, advanceIn, create, write, commit, advance, Call, Advance, Commit, step}
-use Rattle.spec.specs.Plain.{Plain, Mode, Closed, Ready, Committing, Recovering, plain, phaseIn, phaseOf, placeOf, at, afterCommit, afterCommitStore, afterAdvance, follow}
-use Rattle.spec.specs.CutRule.{Event, call, Both, Moment, Commits, Stores, Advances, next, after, Rightly}
-use Rattle.cardfile.specs.Cards.{Entry, Proper, nameOf, amountBytes}
-use Rattle.cardfile.specs.Lines.{Standing, card, tooLong, malformed, nothing, standing, lineNumber}
+use Rattle.spec.specs.Session.{stagedIn, withStaged}
+use Rattle.spec.specs.Answers.{Answer, refused, done, started, idle, isRefused, Result, refuse, accept, require, _>>_}
+use Rattle.spec.specs.Transaction.{State, stateOf, view}
+use Rattle.spec.specs.Journal.{commitStores}
+use Rattle.spec.specs.Calls.{Outcome, outcome, settle, isReady, lentOk, readyOk, startCommit, create, write, commit, advance, Advance, Commit}
+use Rattle.spec.specs.Plain.{Plain, Closed, Ready, Committing, Recovering, plain, phaseOf, at, afterCommitStore, afterAdvance}
+use Rattle.spec.specs.CutRule.{call, Both, Commits, Advances, next, after}
+use Rattle.cardfile.specs.Cards.{Entry, nameOf, amountBytes}
+use Rattle.cardfile.specs.Lines.{Standing, card, standing, lineNumber}
 use Rattle.cardfile.proofs.Names.{name-is-name, amount-length}
 use Rattle.cardfile.proofs.Places.{stands}
-use Rattle.loader.specs.Load.{idleOk, begin, leftLoad, orBack, storeLine, LoadAnswer, answered, noneLeft, LoadOutcome, loaded, naming, takenUp, takeLine, afterBegin, advancing, loadIn, loadStep}
+use Rattle.loader.specs.Load.{idleOk, begin, leftLoad, storeLine, LoadAnswer, answered, LoadOutcome, loaded, naming, takenUp, takeLine, afterBegin, advancing, loadIn, loadStep}
 use Rattle.promises.specs.Reached.{Reached, reached-after, moment-of, rightly-of}
 use Rattle.promises.specs.Ready.{refused-is, create-ready, write-ready, ready-of, commit-starts}
 use Rattle.promises.specs.Advance.{advance-goes, advance-advanced}
 use Rattle.promises.specs.Promises.{LineGoes, line-promise}
 use Rattle.promises.specs.Promises as promises
-use Rattle.loadlaws.specs.Lists as Lists
-use Rattle.loadlaws.specs.Lists.{stepCalls, callsIn, followLoad, LoadEvent, load, loadNext, loadAfter, step-is, advance-follows}
+use Rattle.loadlaws.specs.Lists.{stepCalls, followLoad, load, loadNext, step-is, advance-follows}
 
 -- ---- lent memory keeps its length
 

@@ -12,11 +12,11 @@ use Rattle.spec.specs.declared.Session.{Session}
 use Rattle.spec.specs.declared.Refusal.{Refusal}
 use Rattle.spec.specs.Disk.{withBlock}
 use Rattle.spec.specs.Session.{opened, closedOn, inPhase}
-use Rattle.spec.specs.Answers.{Answer, refused, done, started, stored, idle, counted, file, noFile, run, noRun, refusalOf, isRefused, Result, refuse, accept, _>>=_, _>>_}
+use Rattle.spec.specs.Answers.{Answer, refused, done, started, stored, idle, counted, file, noFile, run, noRun, refusalOf, isRefused, Result, refuse, accept, _>>_}
 use Rattle.spec.specs.Transaction.{State, BlockStore}
 use Rattle.spec.specs.Journal.{commitStores, recoveryStores}
 use Rattle.spec.specs.Calls.{Outcome, outcome, settle, lentOk, perform, advanceIn, advance}
-use Rattle.promises.specs.Ready.{refusal-is, refused-is}
+use Rattle.promises.specs.Ready.{refusal-is}
 
 -- a refusal, a store or that nothing is under way
 abbrev pub isAdvanced : Answer → Bool

@@ -1,4 +1,4 @@
-use mathlib.Core.Path.{refl, sym, ap, _∙_}
+use mathlib.Core.Path.{sym, ap, _∙_}
 use Rattle.mirror.specs.Mirror.{numbersOf}
 use Rattle.loadapi.proofs.Laws.{stays, moves}
 use borrow.Author.Needs.{needs}

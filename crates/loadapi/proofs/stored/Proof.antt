@@ -1,4 +1,3 @@
-use mathlib.Core.Path.{_∙_}
 use Rattle.spec.specs.declared.Stored.{Stored}
 use Rattle.spec.specs.Answers.{storedOf}
 use Rattle.loader.specs.Load.{answered}

@@ -1,7 +1,7 @@
 -- The cases of a load. Assumes nothing.
 use Prim.Native.Nat.{ℕ, zero, suc, _+_, _*_}
 use mathlib.Core.Path.{_≡_, refl, sym, ap, ap₂, _∙_}
-use mathlib.Core.Bool.{Bool, true, false, cond}
+use mathlib.Core.Bool.{Bool, true, false, cond, true≢false}
 use mathlib.Core.List.{List, [], _∷_}
 use native.Mathlib.Omega.{arith}
 use borrow.Author.Tests.{ne-eqb}
@@ -34,9 +34,6 @@ use Rattle.loader.specs.declared.Loaded.{Loaded}
 use Rattle.loader.specs.declared.Loaded.the-variants as loaded-cases
 use Rattle.loader.specs.Load.{idleOk, begin, orBack, storeLine, answered, noneLeft, LoadOutcome, loaded, naming, takenUp, takeLine, afterBegin, advancing, loadIn, loadStep, loadedOf, leftLoad}
 use Rattle.loader.specs.Parts.{finishLine, takeNamed}
-
-true≢false : true ≡ false → ⊥
-true≢false e = let z : _≡_ {A = ℕ} 0 1 = cc in omega arith
 
 -- ---- begin: what commit answers tells whether a load may begin
 
@@ -95,7 +92,7 @@ idle-is s a e h = go (idleOk s) e
     go (refuse r) q = absurd (true≢false (sym (refused-is r) ∙ ap (λ (o : Outcome). isRefused (o .answer)) (sym q) ∙ h))
     go (accept t) q = (t, refl)
 
-nil-of : (xs : List ℕ) → length xs ≡ 0 → xs ≡ []
+pub nil-of : (xs : List ℕ) → length xs ≡ 0 → xs ≡ []
 nil-of [] h = refl
 nil-of (x ∷ xs) h = absurd (omega arith)
 

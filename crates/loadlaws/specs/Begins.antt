@@ -1,9 +1,10 @@
 -- Where a load may begin: behind every open that gives a ready session, so on an empty store of every size, and again behind a cut. Assumes nothing.
-use Prim.Native.Nat.{ℕ, _*_, _≤_}
-use mathlib.Core.Path.{_≡_, refl, sym, ap, ap₂, _∙_}
+use Prim.Native.Nat.{ℕ, zero, suc, _+_, _*_, _≤_}
+use mathlib.Core.Path.{_≡_, refl, sym, ap, ap₂, _∙_, subst}
 use mathlib.Core.Bool.{Bool, true, false, cond, _&&_}
 use mathlib.Core.List.{List, [], _∷_}
 use lib.Dec.{T, eqb}
+use lib.ListN.{replicate}
 use borrow.Author.Tests.{eq-eqb}
 use Rattle.spec.specs.declared.Phase.the-variants.{Ready}
 use Rattle.spec.specs.declared.Refusal.the-variants.{DeviceSize, WorkSize}
@@ -12,11 +13,12 @@ use Rattle.spec.specs.Disk.{Slice, isAllowed}
 use Rattle.spec.specs.Session.{opened, stagedIn}
 use Rattle.spec.specs.Answers.{done, isRefused, require, _>>_}
 use Rattle.spec.specs.Transaction.{State, withSession}
-use Rattle.spec.specs.Calls.{Outcome, outcome, lentOk, Open, step}
+use Rattle.spec.specs.Calls.{Outcome, outcome, lentOk, Open, Advance, step}
 use Rattle.spec.specs.Plain.{phaseIn, Mode}
-use Rattle.spec.specs.CutRule.{call, cut, Both, next, after, Starts, startOf}
+use Rattle.spec.specs.CutRule.{Event, call, cut, Both, next, after, advances, Starts, startOf}
 use Rattle.laws.specs.Starts.{emptyStore, empty-starts}
-use Rattle.promises.specs.Reached.{Reached, reached-next, moment-of, rightly-of}
+use Rattle.promises.specs.Reached.{Reached, reached-next, reached-after, moment-of, rightly-of}
+use Rattle.promises.specs.Advance.{advance-work}
 use Rattle.loadlaws.specs.Lists.{LoadEvent, loadAfter, load-reached, load-cut}
 use Rattle.loadlaws.specs.Maps.{Idle}
 
@@ -28,13 +30,11 @@ true-of false h = absurd h
 allowed : (N : ℕ) (b : Both) → Reached N b → isAllowed (blockSize * N) ≡ true
 allowed N b r = ap isAllowed (sym (r .starts .blocks)) ∙ true-of (isAllowed (r .start .device .size)) (r .starts .fits)
 
--- behind an open with no log pending, lent a work space of 16,384 bytes
-pub open-idle : (N : ℕ) (b : Both) → Reached N b → b .store .work .size ≡ workSize → b .plain .pending ≡ false → isRefused (step (b .store) Open .answer) ≡ false
+-- behind an open that gives a ready session, lent a work space of 16,384 bytes
+pub ready-idle : (N : ℕ) (b : Both) → Reached N b → b .store .work .size ≡ workSize → step (b .store) Open ≡ outcome (withSession (b .store) (opened N Ready)) done
     → Idle N (next step N b (call Open))
 unfolding lentOk stagedIn
-open-idle N b r w p h =
-    let o : step (b .store) Open ≡ outcome (withSession (b .store) (opened N Ready)) done =
-    rightly-of N b r Open .accepted h ∙ ap (λ (t : Bool). outcome (withSession (b .store) (opened N (phaseIn (cond t Mode.Recovering Mode.Ready) 0))) done) p in
+ready-idle N b r w o =
     let size = moment-of N b r .size in
     let fits : (isAllowed (b .store .device .size) && eqb (blockSize * N) (b .store .device .size)) ≡ true =
     ap (λ (n : ℕ). isAllowed n && eqb (blockSize * N) n) size ∙ ap₂ _&&_ (allowed N b r) (eq-eqb (blockSize * N) (blockSize * N) refl) in
@@ -45,6 +45,40 @@ open-idle N b r w p h =
       ready = ap (λ (x : Outcome). x .after .session .phase) o;
       bare = ap (λ (x : Outcome). stagedIn (x .after .session)) o;
     }
+
+-- behind an open with no log pending
+pub open-idle : (N : ℕ) (b : Both) → Reached N b → b .store .work .size ≡ workSize → b .plain .pending ≡ false → isRefused (step (b .store) Open .answer) ≡ false
+    → Idle N (next step N b (call Open))
+open-idle N b r w p h =
+    ready-idle N b r w
+    (rightly-of N b r Open .accepted h ∙ ap (λ (t : Bool). outcome (withSession (b .store) (opened N (phaseIn (cond t Mode.Recovering Mode.Ready) 0))) done) p)
+
+-- advances of a list
+advanced-store : (n N : ℕ) (b : Both) → after step N b (replicate n (call Advance)) .store ≡ advances step n (b .store)
+advanced-store zero N b = refl
+advanced-store (suc n) N b = advanced-store n N (next step N b (call Advance))
+
+advances-work : (n : ℕ) (s : State) → advances step n s .work ≡ s .work
+advances-work zero s = refl
+advances-work (suc n) s = advances-work n (step s Advance .after) ∙ advance-work s
+
+-- the list of a cut, its open, and the advances of the recovery where a log is pending
+abbrev pub recovery : Both → Slice → List Event
+recovery b w = cut w ∷ call Open ∷ replicate (cond (b .plain .pending) (b .plain .k + 1) 0) (call Advance)
+
+-- behind any list with steps of loads, a cut and its recovery, the second open lets a load begin, or go on
+pub recovered-idle : (N : ℕ) (s : State) → Starts N s → (es : List LoadEvent) (w : Slice) → w .size ≡ workSize
+    → let b = loadAfter N (startOf s) es in Idle N (next step N (after step N b (recovery b w)) (call Open))
+recovered-idle N s h es w room =
+    let b = loadAfter N (startOf s) es in
+    let n = cond (b .plain .pending) (b .plain .k + 1) 0 in
+    let o = next step N (next step N b (cut w)) (call Open) in
+    let c = load-cut N s h es in
+    let e : after step N b (recovery b w) .store ≡ advances step n (o .store) = advanced-store n N o in
+    let size : advances step n (o .store) .work .size ≡ workSize =
+    ap (λ (x : Slice). x .size) (advances-work n (o .store)) ∙ ap (λ (x : Outcome). x .after .work .size) (c .opens w) ∙ room in
+    ready-idle N (after step N b (recovery b w)) (reached-after N b (recovery b w) (load-reached N s h es)) (ap (λ (x : State). x .work .size) e ∙ size)
+    (subst (λ (x : State). step x Open ≡ outcome (withSession x (opened N Ready)) done) (sym e) (c .opens-again w room))
 
 -- behind any list with steps of loads, and a cut that leaves no log, an open lets a load begin, or go on
 pub cut-idle : (N : ℕ) (s : State) → Starts N s → (es : List LoadEvent) (w : Slice) → w .size ≡ workSize → loadAfter N (startOf s) es .plain .pending ≡ false

@@ -1,7 +1,8 @@
--- Lists in which the steps of loads stand beside calls and cuts: each is a list of calls and cuts, with the same states and answers. Assumes nothing.
+-- Lists in which the steps of loads stand beside calls and cuts: each is a list of calls and cuts, with the same states, and the same answers where a step makes calls.
+-- A step that makes none is refused or finds no line, and leaves all as it was. Assumes nothing.
 use Prim.Native.Nat.{ℕ, _+_, _≤_}
 use mathlib.Core.Path.{_≡_, refl, sym, ap, ap₂, _∙_, subst, fun-ext}
-use mathlib.Core.Bool.{Bool, true, false, cond}
+use mathlib.Core.Bool.{Bool, true, false, cond, true≢false}
 use mathlib.Core.List.{List, [], _∷_, _++_, map, append-nil}
 use lib.Seq.{drop-nil}
 use Rattle.block.proofs.Laws.{same-self}
@@ -25,9 +26,9 @@ use Rattle.spec.specs.Plain.{Plain, Mode, phaseIn, plain, at, newFile, afterCom
 use Rattle.spec.specs.CutRule.{Event, call, Both, Moment, next, after, advances, Survives, Starts, startOf}
 use Rattle.cardfile.specs.Cards.{nameOf, amountBytes}
 use Rattle.cardfile.specs.Lines.{Standing, card, tooLong, malformed, nothing, standing, lineNumber}
-use Rattle.loader.specs.Load.{idleOk, storeLine, LoadAnswer, answered, noneLeft, LoadOutcome, naming, takenUp, takeLine, afterBegin, loadIn, loadStep}
+use Rattle.loader.specs.Load.{idleOk, storeLine, LoadAnswer, answered, noneLeft, LoadOutcome, naming, takenUp, takeLine, afterBegin, loadIn, loadStep, leavesAll}
 use Rattle.laws.specs.Files.{crash-safe}
-use Rattle.promises.specs.Ready.{refusal-is}
+use Rattle.promises.specs.Ready.{refusal-is, refused-is}
 use Rattle.promises.specs.Advance.{isAdvanced, advance-advanced}
 use Rattle.loader.proofs.Kept.{line-commits}
 use Rattle.promises.specs.Reached.{Reached, after-append, reached-start, reached-after, moment-of}
@@ -72,12 +73,11 @@ Tells s [] a = Unit {0}
 Tells s (c ∷ []) a = a ≡ answered (step s c .answer)
 Tells s (c ∷ d ∷ cs) a = Tells (step s c .after) (d ∷ cs) a
 
+-- a step without calls is one that leaves all as it was
 pub record Does (s : State) (cs : List Call) (o : LoadOutcome) : Type 0 where
   pub after : ran s cs ≡ o .after
   pub answer : Tells s cs (o .answer)
-
-true≢false : true ≡ false → ⊥
-true≢false e = let z : _≡_ {A = ℕ} 0 1 = cc in omega arith
+  pub idle : cs ≡ [] → leavesAll (o .answer) ≡ true
 
 -- ---- a line
 
@@ -110,23 +110,39 @@ line-goes s t h name amount = go (isRefused (create s name .answer)) refl (isRef
 naming-told : (line : ℕ) (a : Answer) (n : ℕ) → a ≡ started n → naming line a ≡ a
 naming-told line a n e = ap (naming line) e ∙ sym e
 
+naming-refused : (line : ℕ) (a : Answer) → isRefused a ≡ true → isRefused (naming line a) ≡ true
+naming-refused line (refused n vs) h = refl
+naming-refused line done h = h
+naming-refused line (started n) h = h
+naming-refused line (stored b l n) h = h
+naming-refused line idle h = h
+naming-refused line (counted n) h = h
+naming-refused line (file x n) h = h
+naming-refused line noFile h = h
+naming-refused line (run e) h = h
+naming-refused line noRun h = h
+
+some-calls : {c : Call} {cs : List Call} {A : Type 0} → c ∷ cs ≡ [] → A
+some-calls q = let z : _≡_ {A = ℕ} 0 1 = cc in absurd (omega arith)
+
 take-does : (s : State) (t : Bool) → idleOk s ≡ accept t → (p line : ℕ) (l : Standing) → Does s (takeCalls s l) (takeLine s p line l)
 take-does s t h p line (card e next) = go (nameOf (e .serial)) (amountBytes (e .amount)) (line-goes s t h (nameOf (e .serial)) (amountBytes (e .amount)))
   where
     go : (name amount : List ℕ) → LineTaken s name amount → Does s (lineCalls s name amount) (takenUp s p next line (storeLine s name amount))
-    go name amount (stopped a r e c) = rw (e, c) (record { after = refl; answer = tt })
+    go name amount (stopped a r e c) = rw (e, c) (record { after = refl; answer = tt; idle = λ q. naming-refused line a r })
     go name amount (kept z e c) =
         rw (e, c)
         (record {
           after = refl;
           answer = ap answered (naming-told line (commit (write (create s name .after) name 0 amount .after) .answer) (z .stores) (z .commits));
+          idle = λ q. some-calls q;
         })
-take-does s t h p line tooLong = record { after = refl; answer = tt }
-take-does s t h p line malformed = record { after = refl; answer = tt }
-take-does s t h p line nothing = record { after = refl; answer = tt }
+take-does s t h p line tooLong = record { after = refl; answer = tt; idle = λ q. refl }
+take-does s t h p line malformed = record { after = refl; answer = tt; idle = λ q. refl }
+take-does s t h p line nothing = record { after = refl; answer = tt; idle = λ q. refl }
 
 begin-does : (s : State) (text : List ℕ) (p : ℕ) (r : Result Bool) → idleOk s ≡ r → Does s (beginCalls s text p r) (afterBegin s text p r)
-begin-does s text p (refuse r) h = record { after = refl; answer = tt }
+begin-does s text p (refuse r) h = record { after = refl; answer = tt; idle = λ q. refused-is r }
 begin-does s text p (accept t) h = take-does s t h p (lineNumber text p) (standing text p)
 
 -- each step is a list of store calls with the same answer and the same state
@@ -137,7 +153,7 @@ step-does s text p = go (s .session .phase)
     go : (f : Phase) → Does s (callsIn s text p f) (loadIn s text p f)
     go Closed = begin-does s text p (idleOk s) refl
     go Ready = begin-does s text p (idleOk s) refl
-    go (Committing d) = record { after = refl; answer = refl }
+    go (Committing d) = record { after = refl; answer = refl; idle = λ q. some-calls q }
     go (Recovering d) = begin-does s text p (idleOk s) refl
 
 -- ---- the plain store beside a load

@@ -34,6 +34,7 @@ use Rattle.loader.specs.Load.{idleOk, begin, leftLoad, storeLine, LoadAnswer, a
 use Rattle.promises.specs.Reached.{Reached, reached-after, moment-of, rightly-of}
 use Rattle.promises.specs.Ready.{refused-is, create-ready, write-ready, ready-of, commit-starts}
 use Rattle.promises.specs.Advance.{advance-goes, advance-advanced}
+use Rattle.loader.proofs.Laws.{nil-of}
 use Rattle.promises.specs.Promises.{LineGoes, line-promise}
 use Rattle.promises.specs.Promises as promises
 use Rattle.loadlaws.specs.Lists.{stepCalls, followLoad, load, loadNext, step-is, advance-follows}
@@ -364,10 +365,6 @@ load-map N text x i (e ∷ es) a =
     (r .0, r .1 ∙ ap (λ (f : Files). loadedFiles f es) (k .committed))
 
 -- ---- begin tells whether a load may begin
-
-nil-of : (xs : List ℕ) → length xs ≡ 0 → xs ≡ []
-nil-of [] h = refl
-nil-of (x ∷ xs) h = absurd (omega arith)
 
 pub idle-of : (N : ℕ) (b : Both) → Reached N b → (t : Bool) → idleOk (b .store) ≡ accept t → Idle N b
 unfolding idleOk readyOk

@@ -37,12 +37,13 @@ module _ (s : State) where
     advanced : isAdvanced (o .answer) ≡ true
     accepted : isRefused (o .answer) ≡ false
     lent : lentOk (o .after) ≡ lentOk s
+    work : o .after .work ≡ s .work
 
   performs : (ws : List BlockStore) (d : ℕ) (m n : Session) (o : Option BlockStore) → m .blocks ≡ s .session .blocks → n .blocks ≡ s .session .blocks → getElem? ws d ≡ o
       → Told (perform s ws d m n)
   unfolding lentOk
-  performs ws d m n none p q e = rw e (record { advanced = refl; accepted = refl; lent = refl })
-  performs ws d m n (some w) p q e = rw e (record { advanced = refl; accepted = refl; lent = go (eqb (suc d) (length ws)) })
+  performs ws d m n none p q e = rw e (record { advanced = refl; accepted = refl; lent = refl; work = refl })
+  performs ws d m n (some w) p q e = rw e (record { advanced = refl; accepted = refl; lent = go (eqb (suc d) (length ws)); work = refl })
     where
       go : (t : Bool) → lentOk (record { session = cond t n m; device = record { size = s .device .size; block = withBlock (w .block) (w .content) (s .device .block) }; work = s .work }) ≡ lentOk s
       go true = rw q
@@ -50,8 +51,8 @@ module _ (s : State) where
 
   advance-in : (f : Phase) → Told (advanceIn s f)
   unfolding advanceIn
-  advance-in Closed = record { advanced = refl; accepted = refl; lent = refl }
-  advance-in Ready = record { advanced = refl; accepted = refl; lent = refl }
+  advance-in Closed = record { advanced = refl; accepted = refl; lent = refl; work = refl }
+  advance-in Ready = record { advanced = refl; accepted = refl; lent = refl; work = refl }
   advance-in (Committing d) = performs (commitStores s) d (inPhase (s .session) (Committing (suc d))) (opened (s .session .blocks) Ready) (getElem? (commitStores s) d) refl refl refl
   advance-in (Recovering d) =
       performs (recoveryStores (s .session .blocks) (s .device .block)) d (inPhase (s .session) (Recovering (suc d))) (closedOn (s .session .blocks))
@@ -80,3 +81,11 @@ module _ (s : State) where
       go : (r : Result Bool) → isAdvanced (settle (outcome s) (r >> accept (advanceIn s (s .session .phase))) .answer) ≡ true
       go (refuse r) = ap isAdvanced (refusal-is r .1 .1)
       go (accept t) = advance-in (s .session .phase) .advanced
+
+  pub advance-work : advance s .after .work ≡ s .work
+  unfolding advance
+  advance-work = go (lentOk s)
+    where
+      go : (r : Result Bool) → settle (outcome s) (r >> accept (advanceIn s (s .session .phase))) .after .work ≡ s .work
+      go (refuse r) = refl
+      go (accept t) = advance-in (s .session .phase) .work

@@ -6,7 +6,7 @@
  *     ./load box.img samples/monday.txt 1 12   the same from line 1 on, but the plug is pulled after twelve blocks: the next run recovers
  *
  * Exit status: 0 loaded; 1 refused or failed, and it says at which line, whether that is in force, and where to go on; 2 wrong words; 3 the
- * box is in use. The lines before the one that is named are in force.
+ * box is in use. The lines that it loaded before the one that is named are in force.
  */
 #include "till.h"
 
@@ -67,12 +67,14 @@ static void load(purse_box *b, till *t, const char *path, uint64_t first, size_t
     printf("loaded %" PRIu64 " line%s\n", o.lines, o.lines == 1 ? "" : "s");
 }
 
-/* A number of a word, from `least` on; -1: it is none. */
+/* A number of a word of at most nine digits, from `least` on; -1: it is none. */
 static long number(const char *word, long least)
 {
-    char *end;
-    long n = strtol(word, &end, 10);
-    return *word != 0 && *end == 0 && n >= least ? n : -1;
+    long n = 0;
+    size_t k = 0;
+    for (; k < 9 && word[k] >= '0' && word[k] <= '9'; k++)
+        n = 10 * n + (word[k] - '0');
+    return k != 0 && word[k] == 0 && n >= least ? n : -1;
 }
 
 int main(int argc, char **argv)

@@ -60,7 +60,7 @@ enum purse_refusal {
     PURSE_TOO_LARGE = 4,         /* the file would be longer than 1,048,576 bytes */
     PURSE_BAD_HEADER = 10,       /* open: the list of a commit in block 0 is damaged */
     PURSE_UNSOUND = 11,          /* open: the device holds no sound store */
-    PURSE_NOT_READY = 12,        /* the session is closed, committing or recovering */
+    PURSE_NOT_READY = 12,        /* the session is closed, committing or recovering; load: or something is staged */
     PURSE_UNKNOWN = 13,          /* no file has that name */
     PURSE_TAKEN = 14,            /* a file has that name already */
     PURSE_NO_RECORD = 15,        /* there are 128 files already */
@@ -629,7 +629,7 @@ static inline int purse_box_load_line(purse_box *b, const uint8_t *text, size_t 
 /* Loads a text from *place on, line by line, each a transaction whose blocks are stored by write_block, until no line is left (PURSE_OK). It stops
  * at the first line that is refused, which leaves nothing, and at the first store that fails, which breaks the box; the lines before stay. It
  * begins on an open box with nothing staged. *place is then where to go on: at the line named, or behind it where outcome.force is
- * PURSE_IN_FORCE. Where that is PURSE_FORCE_UNKNOWN, the next open tells: go on at `behind` if its force is PURSE_IN_FORCE, else at *place. Of a
+ * PURSE_IN_FORCE. Where that is PURSE_FORCE_UNKNOWN, go on at *place: the line counts if it is refused with PURSE_TAKEN then, and `behind` is next. Of a
  * long text PURSE_LOAD_ENOUGH bytes from *place on are enough. */
 static inline purse_load_outcome purse_box_load(purse_box *b, const uint8_t *text, size_t text_len, uint64_t *place, purse_write_block *write_block,
     void *context)

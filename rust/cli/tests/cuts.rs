@@ -189,7 +189,7 @@ fn load_goes_on(stage: &Stage, left: &[u8], at: usize, what: &str) {
         let out = stage.command().run();
         let next = match at == lines {
             true => "the cards of all lines from there on are in the box".to_string(),
-            false => format!("the next line whose card is not in the box is {}", at + 1),
+            false => format!("the next line that is not refused so is {}", at + 1),
         };
         let wanted = format!("refused 14: a file has this name, line 1; no line was loaded before it; {next}\n");
         assert_eq!((out.status, out.err.ends_with(&wanted)), (1, true), "{what}: again: {}", out.err);

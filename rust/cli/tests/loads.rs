@@ -129,7 +129,7 @@ fn lines_not_of_the_form() {
 fn one_card_twice() {
     let place = Place::new(&empty(64));
     place.file("monday", b"04A1B2C3;H;1250\n69495546249912580;D;5\n3283263748;D;9\n80E91F04;H;3\n");
-    let rest = "2 lines were loaded before it and stay; the next line whose card is not in the box is 4";
+    let rest = "2 lines were loaded before it and stay; the next line that is not refused so is 4";
     stops(&place, &["load", "box.img", "monday"], 14, 3, rest);
     let mut wanted = Map::from([(name("0404A1B2C3000000"), cents(1250)), (name("0704A1B2C3D4E5F6"), cents(5))]);
     assert_eq!(place.map(), wanted);
@@ -140,7 +140,7 @@ fn one_card_twice() {
         &["load", "box.img", "monday", "3"],
         14,
         3,
-        "no line was loaded before it; the next line whose card is not in the box is 4",
+        "no line was loaded before it; the next line that is not refused so is 4",
     );
     assert!(place.image() == before);
     place.run(0, &["remove", "box.img", "0404A1B2C3000000"]);

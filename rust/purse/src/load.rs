@@ -53,7 +53,7 @@ impl Error for LoadRefusal {
 
 // The calls themselves; for their safety see those in `store`.
 impl Store<'_> {
-    /// Whether a load may begin: the session is ready and nothing is staged. It changes nothing.
+    /// Whether a load may begin: the session is ready and nothing is staged, else it gives [`Refusal::NotReady`]. It changes nothing.
     #[inline]
     pub fn load_begin(&self) -> Result<(), Refusal> {
         let ((d, n), (w, m)) = (lend(self.image), lend(self.work));
@@ -169,7 +169,7 @@ pub struct LoadedLine {
     pub stores: u64,
 }
 
-/// Where and why a load stopped. The lines before are in force, and those behind are not.
+/// Where and why a load stopped. The lines that it loaded before are in force.
 #[non_exhaustive]
 #[derive(Clone, Copy, Debug, PartialEq, Eq)]
 pub struct LoadFailure<E> {

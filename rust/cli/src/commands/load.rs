@@ -62,7 +62,7 @@ fn trouble(path: &Path, store: &Store, load: &Load, done: usize, stopped: LoadFa
     }
 }
 
-/// Where a load goes on that was cut off: the first line from here on whose card is not in the box. The library is asked, on a copy in
+/// Where a load goes on that was cut off: the first line from here on that is not refused with 14. The library is asked, on a copy in
 /// memory.
 fn hint(store: &Store, load: &Load) -> String {
     let (mut image, mut work, mut load) = (store.image().to_vec(), vec![0; WORK_SIZE], load.clone());
@@ -80,7 +80,7 @@ fn hint(store: &Store, load: &Load) -> String {
     }
     match load.place() == text.len() {
         true => "; the cards of all lines from there on are in the box".into(),
-        false => format!("; the next line whose card is not in the box is {}", load.line()),
+        false => format!("; the next line that is not refused so is {}", load.line()),
     }
 }
 

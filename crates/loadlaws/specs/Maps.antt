@@ -4,7 +4,7 @@ use mathlib.Core.Path.{_≡_, refl, sym, ap, ap₂, _∙_, subst, fun-ext}
 use mathlib.Core.Bool.{Bool, true, false, cond, not, true≢false}
 use mathlib.Core.Logic.{inl, inr}
 use mathlib.Core.List.{List, [], _∷_, map}
-use mathlib.Core.Option.{none, some}
+use mathlib.Core.Option.{none, some, Option·some-ne-none}
 use native.Mathlib.Omega.{arith}
 use lib.ListN.{length}
 use lib.Dec.{eqb}
@@ -194,6 +194,17 @@ module _ (N : ℕ) (b : Both) (i : Idle N b) (text : List ℕ) (p : ℕ) (e : En
       go (promises.full e q h) = full e q (up (outcome s (refused 15 [])) (stops-first (refused 15 []) refl h))
       go (promises.no-room e q f c h) = no-room e q f (up (outcome s (refused 16 [])) (stops-second (refused 16 []) refl c h))
       go (promises.fits e q f c w k) = stores e q f c w k (step-takes c w k)
+
+  -- a card that is not in the map is taken up where a record is empty and a block is free
+  pub line-accepted : b .plain .working (cardName e) ≡ none → all (λ k. not (isEmpty (view s) k)) (upFrom 0 inodeCount) ≡ false → 0 < freeBlocks N (view s)
+      → loadStep s text p .answer ≡ answered (started 8)
+  line-accepted new record-left block-left = go line-step
+    where
+      go : LineStep → loadStep s text p .answer ≡ answered (started 8)
+      go (taken x q h) = absurd (Option·some-ne-none x (sym q ∙ new))
+      go (full q f h) = absurd (true≢false (sym f ∙ record-left))
+      go (no-room q f z h) = absurd (omega (arith, z, block-left))
+      go (stores q f z c w k h) = ap (λ (o : LoadOutcome). o .answer) h
 
 -- ---- a load as its caller runs it: each step at the place that the one before has handed back
 

@@ -1,4 +1,6 @@
 // The plan of a change: the blocks wanted, refusals 16 and 17, the new tree and bitmap.
+#![tactic(auto)]
+
 ghost use Rattle.std.specs.Prelude.{◌≡◌, true, ◌+◌, ◌*◌, ◌-◌, ◌%◌, ◌<◌, ◌≤◌, length, take, drop, set};
 ghost use Rattle.spec.specs.Bytes.{exactly, up_from};
 ghost use Rattle.spec.specs.Disk.{Disk};
@@ -19,7 +21,7 @@ use spec::{DiskBlock, FileBlock, Limits, Refusal};
 use transaction::view_in;
 
 // 16, 17, or the tree after the change: its extents and the bitmap stand in what was lent.
-#[derive(Drop)]
+#[derive(Clone, Copy)]
 pub struct Draft {
     pub verdict: Checked,
     pub end: End,
@@ -30,14 +32,14 @@ pub struct Draft {
 }
 
 // Data blocks that a file keeps: where their extents end, and how many blocks they are.
-#[derive(Drop)]
+#[derive(Clone, Copy)]
 pub struct Kept {
     pub end: End,
     pub count: usize,
 }
 
 // The nodes that a file holds.
-#[derive(Drop)]
+#[derive(Clone, Copy)]
 pub struct Nodes {
     pub node: [u32; 4],
     pub len: usize,

@@ -1,4 +1,6 @@
 // The bitmap (document 01: bit table): 512 bytes, one bit to a block, read by whole words.
+#![tactic(auto)]
+
 ghost use Rattle.std.specs.Prelude.{◌≡◌, ◌*◌, ◌<◌, ◌≤◌, length, take, set};
 ghost use Rattle.spec.specs.Bytes.{place};
 ghost use Rattle.spec.specs.Bitmap.{bits_of, free_bits};
@@ -6,7 +8,7 @@ ghost use Rattle.bitmap.specs.Words.{Table, Bytes, word_of, found_of};
 
 use spec::{DiskBlock, Limits};
 
-#[derive(Drop)]
+#[derive(Clone, Copy)]
 pub enum Found {
     At(DiskBlock),
     Nothing,

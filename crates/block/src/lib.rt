@@ -1,4 +1,6 @@
 // One block of a lent byte slice: its area, the numbers in it, reading and storing it.
+#![tactic(auto)]
+
 ghost use Rattle.std.specs.Prelude.{◌≡◌, ◌+◌, ◌*◌, ◌%◌, ◌<◌, ◌≤◌, min, length, take, drop, get_or};
 ghost use Rattle.spec.specs.Bytes.{zeros, exactly, patch, number2, number4, bytes2, bytes4, same};
 ghost use Rattle.spec.specs.Disk.{area_of, in_data, is_target, slice_of};

@@ -3,6 +3,8 @@
 // session that the numbers and the cells given stand for.
 // A refusal leaves all that is lent as it was, numbers that the store did not make too. A call that is accepted leaves the session's own numbers:
 // phase 0 where the number given was none, place 0 where the phase has none.
+#![tactic(auto)]
+
 ghost use Rattle.std.specs.Prelude.{◌≡◌, List, ℕ, ◌<◌, ◌≤◌, length};
 ghost use Rattle.spec.specs.Answers.{done_of, started_of, stored_of, counted_of as answer_of};
 ghost use Rattle.spec.specs.Transaction.{state_of};

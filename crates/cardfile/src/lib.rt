@@ -1,25 +1,27 @@
 // The printer's file: what stands at a place of it, line by line. What a line says is defined in specs/Cards.antt, what stands at a place in specs/Lines.antt.
+#![tactic(auto)]
+
 ghost use Rattle.std.specs.Prelude.{◌≡◌, suc, ◌+◌, ◌*◌, ◌<◌, ◌≤◌, ◌^◌, min, length};
 ghost use Rattle.spec.specs.Bytes.{occurs};
 ghost use Rattle.cardfile.specs.Cards.{before, digit_value, hex_value, hex_byte, read_hex, read_decimal, within, serial_h, serial_d, serial_of, amount_of, entry_of, bytes_of, amount_bytes};
 ghost use Rattle.cardfile.specs.Lines.{line_of, line_number, number_told, bytes_told, serial_told, form_told, line_in, line_at, name_told};
 
 // A number that was read, or none.
-#[derive(Drop)]
+#[derive(Clone, Copy)]
 pub enum Number {
     Value(u64),
     NoNumber,
 }
 
 // A serial: how many bytes, and the number they make, the first the lowest.
-#[derive(Drop)]
+#[derive(Clone, Copy)]
 pub enum Serial {
     Bytes(usize, u64),
     NoSerial,
 }
 
 // What a line says. The amount's digits are its last bytes.
-#[derive(Drop)]
+#[derive(Clone, Copy)]
 pub struct Card {
     pub bytes: usize,
     pub number: u64,
@@ -57,14 +59,14 @@ impl Card {
     pub const AMOUNT_DIGITS: usize = 8;
 }
 
-#[derive(Drop)]
+#[derive(Clone, Copy)]
 pub enum Form {
     Good(Card),
     Bad,
 }
 
 // What stands at a place of a text; with a card the place behind its feed.
-#[derive(Drop)]
+#[derive(Clone, Copy)]
 pub enum Line {
     Found(Card, usize),
     TooLong,

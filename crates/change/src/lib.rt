@@ -1,4 +1,6 @@
 // A change staged: which blocks, with which content, in ascending order.
+#![tactic(auto)]
+
 ghost use Rattle.std.specs.Prelude.{◌≡◌, true, List, [], ℕ, ◌+◌, ◌*◌, ◌-◌, ◌/◌, ◌<◌, ◌≤◌, length, take, get_or};
 ghost use Rattle.spec.specs.Answers.{done_of};
 ghost use Rattle.spec.specs.Bytes.{exactly, same};
@@ -28,7 +30,7 @@ use spec::{ByteOffset, DiskBlock, FileBlock, Limits, Refusal};
 use transaction::{spot, staged_in, view_in, with_block};
 
 // All of a change but the bitmap and the columns of its extents: where these end, its nodes, the bytes of its record, its numbers.
-#[derive(Drop)]
+#[derive(Clone, Copy)]
 pub struct Outline {
     pub end: End,
     pub node: [u32; 4],
@@ -214,7 +216,7 @@ fn data_end(end: ByteOffset) -> FileBlock
 }
 
 // Of the places of a file's blocks below `low`, and of those from `high` on that were held before, none is staged.
-#[derive(Drop)]
+#[derive(Clone, Copy)]
 pub struct Window {
     pub low: FileBlock,
     pub high: FileBlock,

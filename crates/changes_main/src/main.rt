@@ -1,28 +1,30 @@
 // Runs the calls on concrete values: the examples of document 01 on changes, then full devices, blocks used again, and the limits on records and extents.
 // File k has the name k 02 03 04 05 06 07 08, so file 1 is A and file 2 is B.
+#![tactic(auto)]
+
 ghost use Rattle.std.specs.Prelude.{◌≤◌};
 
 use block::{load, load2, load4};
-use libc::STDOUT_FILENO;
 use spec::{
     ByteOffset, Counted, Done, FileBlock, Finished, Limits, Recorded, Refusal, Run, Session,
     Started, Stored,
 };
+use std::io;
 use transaction::staged_count;
 
 // ---- text
 
-fn say(text: &[u8]) {
-    io::write_all(STDOUT_FILENO, text);
+fn say(rt: &impl Print, text: &[u8]) -> io::Result<()> {
+    rt.write_all(text)
 }
 
-fn number(n: usize) {
-    say(b" ");
-    io::print_decimal(STDOUT_FILENO, n as u64);
+fn number(rt: &impl Print, n: usize) -> io::Result<()> {
+    say(rt, b" ")?;
+    rt.print(n)
 }
 
-fn end_line() {
-    say(b"\n");
+fn end_line(rt: &impl Print) -> io::Result<()> {
+    say(rt, b"\n")
 }
 
 // The numbers of document 01.
@@ -45,33 +47,29 @@ fn refusal_number(why: Refusal) -> usize {
     }
 }
 
-fn refused(why: Refusal) {
-    say(b" refused");
-    number(refusal_number(why));
+fn refused(rt: &impl Print, why: Refusal) -> io::Result<()> {
+    say(rt, b" refused")?;
+    number(rt, refusal_number(why))
 }
 
 // The answer told, the session kept.
-fn told(r: Finished) -> Session {
+fn told(rt: &impl Print, r: Finished) -> io::Result<Session> {
     let a = r.answer;
     match a {
         Done::Refused(why) => {
-            refused(why);
+            refused(rt, why)?;
         }
         Done::Done => {
-            say(b" done");
+            say(rt, b" done")?;
         }
     }
-    r.session
+    Ok(r.session)
 }
 
-fn counted(a: Counted) {
+fn counted(rt: &impl Print, a: Counted) -> io::Result<()> {
     match a {
-        Counted::Refused(why) => {
-            refused(why);
-        }
-        Counted::Count(n) => {
-            number(n);
-        }
+        Counted::Refused(why) => refused(rt, why),
+        Counted::Count(n) => number(rt, n),
     }
 }
 
@@ -82,43 +80,63 @@ fn name(k: u8) -> [u8; 8] {
 }
 
 // An empty store, opened.
-fn begin(title: &[u8], device: &mut [u8]) -> Session {
-    say(title);
-    say(b": empty store");
+fn begin(rt: &impl Print, title: &[u8], device: &mut [u8]) -> io::Result<Session> {
+    say(rt, title)?;
+    say(rt, b": empty store")?;
     store::format(device, Session::never_opened());
     let r = store::open_store(device, Session::never_opened());
-    r.session
+    Ok(r.session)
 }
 
 // The device as a cut leaves it, opened anew.
-fn reopen(device: &[u8]) -> Session {
-    say(b", open");
-    told(store::open_store(device, Session::never_opened()))
+fn reopen(rt: &impl Print, device: &[u8]) -> io::Result<Session> {
+    say(rt, b", open")?;
+    told(rt, store::open_store(device, Session::never_opened()))
 }
 
-fn create(device: &[u8], work: &mut [u8], s: Session, k: u8) -> Session {
+fn create(
+    rt: &impl Print,
+    device: &[u8],
+    work: &mut [u8],
+    s: Session,
+    k: u8,
+) -> io::Result<Session> {
     let file = name(k);
-    say(b", create");
-    number(k as usize);
-    told(store::create(device, work, s, &file))
+    say(rt, b", create")?;
+    number(rt, k as usize)?;
+    told(rt, store::create(device, work, s, &file))
 }
 
-fn set_size(device: &[u8], work: &mut [u8], s: Session, k: u8, n: usize) -> Session {
+fn set_size(
+    rt: &impl Print,
+    device: &[u8],
+    work: &mut [u8],
+    s: Session,
+    k: u8,
+    n: usize,
+) -> io::Result<Session> {
     let file = name(k);
-    say(b", set");
-    number(k as usize);
-    say(b" to");
-    number(n);
-    told(store::set_size(device, work, s, &file, n))
+    say(rt, b", set")?;
+    number(rt, k as usize)?;
+    say(rt, b" to")?;
+    number(rt, n)?;
+    told(rt, store::set_size(device, work, s, &file, n))
 }
 
-fn free<'a>(device: &'a [u8], work: &'a [u8], s: Session) {
-    say(b", free");
-    counted(store::free_count(device, work, s));
+fn free<'a>(rt: &impl Print, device: &'a [u8], work: &'a [u8], s: Session) -> io::Result<()> {
+    say(rt, b", free")?;
+    counted(rt, store::free_count(device, work, s))
 }
 
 // Extent i of a whole file.
-fn extent<'a>(device: &'a [u8], work: &'a [u8], s: Session, k: u8, i: usize) {
+fn extent<'a>(
+    rt: &impl Print,
+    device: &'a [u8],
+    work: &'a [u8],
+    s: Session,
+    k: u8,
+    i: usize,
+) -> io::Result<()> {
     let file = name(k);
     match store::nth_extent(
         device,
@@ -129,28 +147,25 @@ fn extent<'a>(device: &'a [u8], work: &'a [u8], s: Session, k: u8, i: usize) {
         Limits::MAX_FILE_BLOCKS,
         i,
     ) {
-        Run::Refused(why) => {
-            refused(why);
-        }
+        Run::Refused(why) => refused(rt, why),
         Run::Extent(e) => {
-            number(e.first as usize);
-            say(b"+");
-            io::print_decimal(STDOUT_FILENO, e.count as u64);
+            number(rt, e.first as usize)?;
+            say(rt, b"+")?;
+            rt.print(e.count)
         }
-        Run::Nothing => {
-            say(b" -");
-        }
+        Run::Nothing => say(rt, b" -"),
     }
 }
 
 // ---- what stands on the device and in the session
 
-fn bytes(x: &[u8], from: usize, end: usize) {
+fn bytes(rt: &impl Print, x: &[u8], from: usize, end: usize) -> io::Result<()> {
     let mut k = from;
     while k < end {
-        number(load(x, k) as usize);
+        number(rt, load(x, k) as usize)?;
         k += 1;
     }
+    Ok(())
 }
 
 // 1 where a byte stands at a place.
@@ -174,54 +189,49 @@ fn count(x: &[u8], from: usize, end: usize, byte: u32) -> usize {
     n
 }
 
-fn staged(s: Session) {
+fn staged(rt: &impl Print, s: Session) -> io::Result<()> {
     let l = s.staged;
     let n = staged_count(s);
-    say(b", staged");
+    say(rt, b", staged")?;
     if n == 0 {
-        say(b" none");
+        say(rt, b" none")?;
     }
     let mut i: usize = 0;
     while i < n {
-        number(l[i] as usize);
+        number(rt, l[i] as usize)?;
         i += 1;
     }
+    Ok(())
 }
 
-fn many_staged(s: Session) {
-    say(b", blocks staged");
-    number(staged_count(s));
+fn many_staged(rt: &impl Print, s: Session) -> io::Result<()> {
+    say(rt, b", blocks staged")?;
+    number(rt, staged_count(s))
 }
 
 // Size, depth and slot 0 of record 0.
-fn record_bytes(device: &[u8]) {
-    say(b", record 0: size");
-    number(load4(device, 17416) as usize);
-    say(b", depth");
-    number(load(device, 17420) as usize);
-    say(b", slot");
-    number(load2(device, 17424) as usize);
-    number(load2(device, 17426) as usize);
+fn record_bytes(rt: &impl Print, device: &[u8]) -> io::Result<()> {
+    say(rt, b", record 0: size")?;
+    number(rt, load4(device, 17416) as usize)?;
+    say(rt, b", depth")?;
+    number(rt, load(device, 17420) as usize)?;
+    say(rt, b", slot")?;
+    number(rt, load2(device, 17424) as usize)?;
+    number(rt, load2(device, 17426) as usize)
 }
 
 // ---- stores
 
 // The block stored.
-fn stored(a: Stored) {
+fn stored(rt: &impl Print, a: Stored) -> io::Result<()> {
     match a {
-        Stored::Refused(why) => {
-            refused(why);
-        }
+        Stored::Refused(why) => refused(rt, why),
         Stored::Stored {
             block,
             last: _,
             number: _,
-        } => {
-            number(block.0 as usize);
-        }
-        Stored::Idle => {
-            say(b" idle");
-        }
+        } => number(rt, block.0 as usize),
+        Stored::Idle => say(rt, b" idle"),
     }
 }
 
@@ -246,14 +256,14 @@ fn stores(a: Started) -> usize {
 }
 
 // A commit with all its stores.
-fn commit(device: &mut [u8], work: &[u8], s: Session) -> Session {
+fn commit(rt: &impl Print, device: &mut [u8], work: &[u8], s: Session) -> io::Result<Session> {
     let r = store::commit(device, work, s);
     let a = r.answer;
     let n = stores(a);
     let t = r.session;
-    say(b", commit");
-    number(n);
-    advance_quietly(device, work, t, n)
+    say(rt, b", commit")?;
+    number(rt, n)?;
+    Ok(advance_quietly(device, work, t, n))
 }
 
 fn commit_quietly(device: &mut [u8], work: &[u8], s: Session) -> Session {
@@ -275,107 +285,148 @@ fn grow(device: &[u8], work: &mut [u8], s: Session, k: u8, blocks: usize) -> Ses
 }
 
 // Up to 20 bytes from x on, in a buffer of 20 nines.
-fn read<'a>(device: &'a [u8], work: &'a [u8], s: Session, k: u8, x: usize) {
+fn read<'a>(
+    rt: &impl Print,
+    device: &'a [u8],
+    work: &'a [u8],
+    s: Session,
+    k: u8,
+    x: usize,
+) -> io::Result<()> {
     let file = name(k);
     let mut buffer = [9u8; 20];
-    say(b", read");
-    number(k as usize);
-    say(b" at");
-    number(x);
-    say(b":");
-    counted(store::read(device, work, s, &file, ByteOffset(x), &mut buffer));
-    say(b" with buffer");
-    bytes(&buffer, 0, 20);
+    say(rt, b", read")?;
+    number(rt, k as usize)?;
+    say(rt, b" at")?;
+    number(rt, x)?;
+    say(rt, b":")?;
+    counted(
+        rt,
+        store::read(device, work, s, &file, ByteOffset(x), &mut buffer),
+    )?;
+    say(rt, b" with buffer")?;
+    bytes(rt, &buffer, 0, 20)
 }
 
 // A file read whole into 1,200 nines: how many bytes, and how many zeros are in the buffer.
-fn read_zeros<'a>(device: &'a [u8], work: &'a [u8], s: Session, k: u8) {
+fn read_zeros<'a>(
+    rt: &impl Print,
+    device: &'a [u8],
+    work: &'a [u8],
+    s: Session,
+    k: u8,
+) -> io::Result<()> {
     let file = name(k);
     let mut buffer = [9u8; 1200];
-    say(b", read");
-    counted(store::read(device, work, s, &file, ByteOffset(0), &mut buffer));
-    say(b", zeros in the buffer");
-    number(count(&buffer, 0, 1200, 0));
+    say(rt, b", read")?;
+    counted(
+        rt,
+        store::read(device, work, s, &file, ByteOffset(0), &mut buffer),
+    )?;
+    say(rt, b", zeros in the buffer")?;
+    number(rt, count(&buffer, 0, 1200, 0))
 }
 
-fn record<'a>(device: &'a [u8], work: &'a [u8], s: Session, i: usize) {
-    say(b", record");
-    number(i);
+fn record<'a>(
+    rt: &impl Print,
+    device: &'a [u8],
+    work: &'a [u8],
+    s: Session,
+    i: usize,
+) -> io::Result<()> {
+    say(rt, b", record")?;
+    number(rt, i)?;
     let r = store::record_at(device, work, s, i);
     let a = r.answer;
     match a {
-        Recorded::Refused(why) => {
-            refused(why);
-        }
+        Recorded::Refused(why) => refused(rt, why),
         Recorded::File => {
-            say(b" of file");
-            bytes(&r.name, 0, 1);
-            say(b" with");
-            number(r.size as usize);
+            say(rt, b" of file")?;
+            bytes(rt, &r.name, 0, 1)?;
+            say(rt, b" with")?;
+            number(rt, r.size as usize)
         }
-        Recorded::Empty => {
-            say(b" empty");
-        }
+        Recorded::Empty => say(rt, b" empty"),
     }
 }
 
 // The first n extents.
-fn extents<'a>(device: &'a [u8], work: &'a [u8], s: Session, k: u8, n: usize) {
-    say(b", extents of");
-    number(k as usize);
-    say(b":");
+fn extents<'a>(
+    rt: &impl Print,
+    device: &'a [u8],
+    work: &'a [u8],
+    s: Session,
+    k: u8,
+    n: usize,
+) -> io::Result<()> {
+    say(rt, b", extents of")?;
+    number(rt, k as usize)?;
+    say(rt, b":")?;
     let mut i: usize = 0;
     while i < n {
-        extent(device, work, s, k, i);
+        extent(rt, device, work, s, k, i)?;
         i += 1;
     }
+    Ok(())
 }
 
 // The bit of a block.
-fn bit(device: &[u8], b: u32) {
+fn bit(rt: &impl Print, device: &[u8], b: u32) -> io::Result<()> {
     let mask = 1u32 << (b % 8);
-    say(b", block");
-    number(b as usize);
+    say(rt, b", block")?;
+    number(rt, b as usize)?;
     if load(device, 16896 + (b / 8) as usize) & mask == 0 {
-        say(b" free");
+        say(rt, b" free")
     } else {
-        say(b" in use");
+        say(rt, b" in use")
     }
 }
 
 // n advances, each with the block stored.
-fn advance(device: &mut [u8], work: &[u8], s: Session, n: usize) -> Session {
+fn advance(
+    rt: &impl Print,
+    device: &mut [u8],
+    work: &[u8],
+    s: Session,
+    n: usize,
+) -> io::Result<Session> {
     let mut t = s;
     let mut k: usize = 0;
-    say(b", stores to");
+    say(rt, b", stores to")?;
     while k < n {
         let r = store::advance(device, work, t);
         let a = r.answer;
-        stored(a);
+        stored(rt, a)?;
         t = r.session;
         k += 1;
     }
-    t
+    Ok(t)
 }
 
 // Files 1 and 2 grown by one block in turn, n times.
-fn in_turn(device: &[u8], work: &mut [u8], s: Session, n: usize) -> Session {
+fn in_turn(
+    rt: &impl Print,
+    device: &[u8],
+    work: &mut [u8],
+    s: Session,
+    n: usize,
+) -> io::Result<Session> {
     let mut t = s;
     let mut i: usize = 0;
-    say(b", 1 and 2 grown in turn to blocks");
-    number(n);
+    say(rt, b", 1 and 2 grown in turn to blocks")?;
+    number(rt, n)?;
     while i < n {
         i += 1;
         let u = grow(device, work, t, 1, i);
         t = grow(device, work, u, 2, i);
     }
-    t
+    Ok(t)
 }
 
 // ---- a box of 64 blocks
 
 // What is lent to the calls. Each call is told, and hands the box on.
-#[derive(Drop)]
+#[derive(Clone, Copy)]
 struct Till {
     device: [u8; 32768],
     work: [u8; Limits::WORK_SIZE],
@@ -383,14 +434,14 @@ struct Till {
 }
 
 impl Till {
-    fn empty(title: &[u8]) -> Till {
+    fn empty(rt: &impl Print, title: &[u8]) -> io::Result<Till> {
         let mut device = [0u8; 32768];
-        let s = begin(title, &mut device);
-        Till {
+        let s = begin(rt, title, &mut device)?;
+        Ok(Till {
             device: device,
             work: [9; Limits::WORK_SIZE],
             session: s,
-        }
+        })
     }
 
     // The same device with what a call leaves of the rest.
@@ -403,361 +454,439 @@ impl Till {
         }
     }
 
-    fn create(self, k: u8) -> Till {
+    fn create(self, rt: &impl Print, k: u8) -> io::Result<Till> {
         let device = self.device;
         let mut work = self.work;
-        let s = create(&device, &mut work, self.session, k);
-        self.with(work, s)
+        let s = create(rt, &device, &mut work, self.session, k)?;
+        Ok(self.with(work, s))
     }
 
-    fn remove(self, k: u8) -> Till {
+    fn remove(self, rt: &impl Print, k: u8) -> io::Result<Till> {
         let file = name(k);
         let device = self.device;
         let mut work = self.work;
-        say(b", remove");
-        number(k as usize);
-        let s = told(store::remove(&device, &mut work, self.session, &file));
-        self.with(work, s)
+        say(rt, b", remove")?;
+        number(rt, k as usize)?;
+        let s = told(rt, store::remove(&device, &mut work, self.session, &file))?;
+        Ok(self.with(work, s))
     }
 
-    fn rename(self, k: u8, l: u8) -> Till {
+    fn rename(self, rt: &impl Print, k: u8, l: u8) -> io::Result<Till> {
         let old = name(k);
         let new = name(l);
         let device = self.device;
         let mut work = self.work;
-        say(b", rename");
-        number(k as usize);
-        say(b" to");
-        number(l as usize);
-        let s = told(store::rename(&device, &mut work, self.session, &old, &new));
-        self.with(work, s)
+        say(rt, b", rename")?;
+        number(rt, k as usize)?;
+        say(rt, b" to")?;
+        number(rt, l as usize)?;
+        let s = told(
+            rt,
+            store::rename(&device, &mut work, self.session, &old, &new),
+        )?;
+        Ok(self.with(work, s))
     }
 
-    fn set_size(self, k: u8, n: usize) -> Till {
+    fn set_size(self, rt: &impl Print, k: u8, n: usize) -> io::Result<Till> {
         let device = self.device;
         let mut work = self.work;
-        let s = set_size(&device, &mut work, self.session, k, n);
-        self.with(work, s)
+        let s = set_size(rt, &device, &mut work, self.session, k, n)?;
+        Ok(self.with(work, s))
     }
 
-    fn write(self, k: u8, x: usize, bytes: &[u8]) -> Till {
+    fn write(self, rt: &impl Print, k: u8, x: usize, bytes: &[u8]) -> io::Result<Till> {
         let file = name(k);
         let device = self.device;
         let mut work = self.work;
-        say(b", write");
-        number(bytes.len());
-        say(b" to");
-        number(k as usize);
-        say(b" at");
-        number(x);
-        let s = told(store::write(
-            &device,
-            &mut work,
-            self.session,
-            &file,
-            ByteOffset(x),
-            bytes,
-        ));
-        self.with(work, s)
+        say(rt, b", write")?;
+        number(rt, bytes.len())?;
+        say(rt, b" to")?;
+        number(rt, k as usize)?;
+        say(rt, b" at")?;
+        number(rt, x)?;
+        let s = told(
+            rt,
+            store::write(
+                &device,
+                &mut work,
+                self.session,
+                &file,
+                ByteOffset(x),
+                bytes,
+            ),
+        )?;
+        Ok(self.with(work, s))
     }
 
     // Files 1 and 2 grown by one block in turn, n times.
-    fn in_turn(self, n: usize) -> Till {
+    fn in_turn(self, rt: &impl Print, n: usize) -> io::Result<Till> {
         let device = self.device;
         let mut work = self.work;
-        let s = in_turn(&device, &mut work, self.session, n);
-        self.with(work, s)
+        let s = in_turn(rt, &device, &mut work, self.session, n)?;
+        Ok(self.with(work, s))
     }
 
-    fn commit(self) -> Till {
+    fn commit(self, rt: &impl Print) -> io::Result<Till> {
         let mut device = self.device;
         let work = self.work;
-        let s = commit(&mut device, &work, self.session);
-        Till {
+        let s = commit(rt, &mut device, &work, self.session)?;
+        Ok(Till {
             device: device,
             work: work,
             session: s,
-        }
+        })
     }
 
     // A commit's number of stores.
-    fn start(self) -> Till {
+    fn start(self, rt: &impl Print) -> io::Result<Till> {
         let device = self.device;
         let work = self.work;
         let r = store::commit(&device, &work, self.session);
         let a = r.answer;
         let s = r.session;
-        say(b", commit");
-        number(stores(a));
-        self.with(work, s)
+        say(rt, b", commit")?;
+        number(rt, stores(a))?;
+        Ok(self.with(work, s))
     }
 
     // n advances, each with the block stored.
-    fn advance(self, n: usize) -> Till {
+    fn advance(self, rt: &impl Print, n: usize) -> io::Result<Till> {
         let mut device = self.device;
         let work = self.work;
-        let s = advance(&mut device, &work, self.session, n);
-        Till {
+        let s = advance(rt, &mut device, &work, self.session, n)?;
+        Ok(Till {
             device: device,
             work: work,
             session: s,
-        }
+        })
     }
 
     // All changes since the last commit undone.
-    fn abort(self) -> Till {
+    fn abort(self, rt: &impl Print) -> io::Result<Till> {
         let device = self.device;
         let work = self.work;
-        say(b", abort");
-        let s = told(store::abort(&device, &work, self.session));
-        self.with(work, s)
+        say(rt, b", abort")?;
+        let s = told(rt, store::abort(&device, &work, self.session))?;
+        Ok(self.with(work, s))
     }
 
     // The device as a cut leaves it, opened anew.
-    fn reopen(self) -> Till {
+    fn reopen(self, rt: &impl Print) -> io::Result<Till> {
         let device = self.device;
-        let s = reopen(&device);
-        self.with([8; Limits::WORK_SIZE], s)
+        let s = reopen(rt, &device)?;
+        Ok(self.with([8; Limits::WORK_SIZE], s))
     }
 
-    fn size(self, k: u8) -> Till {
+    fn size(self, rt: &impl Print, k: u8) -> io::Result<Till> {
         let file = name(k);
         let device = self.device;
         let work = self.work;
-        say(b", size of");
-        number(k as usize);
-        say(b":");
-        counted(store::size(&device, &work, self.session, &file));
-        self
+        say(rt, b", size of")?;
+        number(rt, k as usize)?;
+        say(rt, b":")?;
+        counted(rt, store::size(&device, &work, self.session, &file))?;
+        Ok(self)
     }
 
-    fn free(self) -> Till {
+    fn free(self, rt: &impl Print) -> io::Result<Till> {
         let device = self.device;
         let work = self.work;
-        free(&device, &work, self.session);
-        self
+        free(rt, &device, &work, self.session)?;
+        Ok(self)
     }
 
     // Up to 20 bytes from x on, in a buffer of 20 nines.
-    fn read(self, k: u8, x: usize) -> Till {
+    fn read(self, rt: &impl Print, k: u8, x: usize) -> io::Result<Till> {
         let device = self.device;
         let work = self.work;
-        read(&device, &work, self.session, k, x);
-        self
+        read(rt, &device, &work, self.session, k, x)?;
+        Ok(self)
     }
 
-    fn read_zeros(self, k: u8) -> Till {
+    fn read_zeros(self, rt: &impl Print, k: u8) -> io::Result<Till> {
         let device = self.device;
         let work = self.work;
-        read_zeros(&device, &work, self.session, k);
-        self
+        read_zeros(rt, &device, &work, self.session, k)?;
+        Ok(self)
     }
 
-    fn record(self, i: usize) -> Till {
+    fn record(self, rt: &impl Print, i: usize) -> io::Result<Till> {
         let device = self.device;
         let work = self.work;
-        record(&device, &work, self.session, i);
-        self
+        record(rt, &device, &work, self.session, i)?;
+        Ok(self)
     }
 
     // The first n extents of a file.
-    fn extents(self, k: u8, n: usize) -> Till {
+    fn extents(self, rt: &impl Print, k: u8, n: usize) -> io::Result<Till> {
         let device = self.device;
         let work = self.work;
-        extents(&device, &work, self.session, k, n);
-        self
+        extents(rt, &device, &work, self.session, k, n)?;
+        Ok(self)
     }
 
-    fn staged(self) -> Till {
-        staged(self.session);
-        self
+    fn staged(self, rt: &impl Print) -> io::Result<Till> {
+        staged(rt, self.session)?;
+        Ok(self)
     }
 
     // Size, depth and slot 0 of record 0.
-    fn record_bytes(self) -> Till {
+    fn record_bytes(self, rt: &impl Print) -> io::Result<Till> {
         let device = self.device;
-        record_bytes(&device);
-        self
+        record_bytes(rt, &device)?;
+        Ok(self)
     }
 
     // The bit of a block.
-    fn bit(self, b: u32) -> Till {
+    fn bit(self, rt: &impl Print, b: u32) -> io::Result<Till> {
         let device = self.device;
-        bit(&device, b);
-        self
+        bit(rt, &device, b)?;
+        Ok(self)
     }
 }
 
 // ---- the examples of document 01
 
-fn e1() {
-    let t = Till::empty(b"E1").free();
+fn e1(rt: &impl Print) -> io::Result<()> {
+    let t = Till::empty(rt, b"E1")?.free(rt)?;
     let device = t.device;
-    say(b", block 33:");
-    bytes(&device, 16896, 16904);
-    say(b", then 255 in");
-    number(count(&device, 16904, 17408, 255));
-    end_line();
+    say(rt, b", block 33:")?;
+    bytes(rt, &device, 16896, 16904)?;
+    say(rt, b", then 255 in")?;
+    number(rt, count(&device, 16904, 17408, 255))?;
+    end_line(rt)
 }
 
-fn e2() {
-    Till::empty(b"E2").create(1).start().advance(4);
-    end_line();
+fn e2(rt: &impl Print) -> io::Result<()> {
+    Till::empty(rt, b"E2")?
+        .create(rt, 1)?
+        .start(rt)?
+        .advance(rt, 4)?;
+    end_line(rt)
 }
 
 // A new file of 600 bytes, not committed.
-fn e3_written(title: &[u8]) -> Till {
+fn e3_written(rt: &impl Print, title: &[u8]) -> io::Result<Till> {
     let data = [7u8; 600];
-    Till::empty(title).create(1).write(1, 0, &data)
+    Till::empty(rt, title)?
+        .create(rt, 1)?
+        .write(rt, 1, 0, &data)
 }
 
-fn e3() {
-    let t = e3_written(b"E3").start().advance(10).record_bytes();
+fn e3(rt: &impl Print) -> io::Result<()> {
+    let t = e3_written(rt, b"E3")?
+        .start(rt)?
+        .advance(rt, 10)?
+        .record_bytes(rt)?;
     let device = t.device;
-    say(b", zeros in bytes 88 to 511 of block 43:");
-    number(count(&device, 22104, 22528, 0));
-    end_line();
+    say(rt, b", zeros in bytes 88 to 511 of block 43:")?;
+    number(rt, count(&device, 22104, 22528, 0))?;
+    end_line(rt)
 }
 
 // A cut behind n stores, then so many stores of the recovery.
-fn e4(n: usize, recovery: usize) {
-    let t = e3_written(b"E4").start().advance(n);
-    say(b", cut");
-    t.reopen().advance(recovery).reopen().size(1);
-    end_line();
+fn e4(rt: &impl Print, n: usize, recovery: usize) -> io::Result<()> {
+    let t = e3_written(rt, b"E4")?.start(rt)?.advance(rt, n)?;
+    say(rt, b", cut")?;
+    t.reopen(rt)?
+        .advance(rt, recovery)?
+        .reopen(rt)?
+        .size(rt, 1)?;
+    end_line(rt)
 }
 
-fn e3_committed(title: &[u8]) -> Till {
-    e3_written(title).commit()
+fn e3_committed(rt: &impl Print, title: &[u8]) -> io::Result<Till> {
+    e3_written(rt, title)?.commit(rt)
 }
 
-fn e5() {
-    e3_committed(b"E5").size(1).read(1, 590).read(1, 600);
-    end_line();
+fn e5(rt: &impl Print) -> io::Result<()> {
+    e3_committed(rt, b"E5")?
+        .size(rt, 1)?
+        .read(rt, 1, 590)?
+        .read(rt, 1, 600)?;
+    end_line(rt)
 }
 
-fn e6() {
+fn e6(rt: &impl Print) -> io::Result<()> {
     let none = [0u8; 0];
-    let t = Till::empty(b"E6").create(1).write(1, 1000, &none);
-    let u = t.size(1).read_zeros(1).commit();
-    u.write(1, 0, &none).staged().commit();
-    end_line();
+    let t = Till::empty(rt, b"E6")?
+        .create(rt, 1)?
+        .write(rt, 1, 1000, &none)?;
+    let u = t.size(rt, 1)?.read_zeros(rt, 1)?.commit(rt)?;
+    u.write(rt, 1, 0, &none)?.staged(rt)?.commit(rt)?;
+    end_line(rt)
 }
 
-fn e7() {
-    let t = Till::empty(b"E7").create(1);
-    t.set_size(1, 11265).free().set_size(1, 11264).free();
-    end_line();
+fn e7(rt: &impl Print) -> io::Result<()> {
+    let t = Till::empty(rt, b"E7")?.create(rt, 1)?;
+    t.set_size(rt, 1, 11265)?
+        .free(rt)?
+        .set_size(rt, 1, 11264)?
+        .free(rt)?;
+    end_line(rt)
 }
 
 // On 128 blocks.
-fn e8() {
+fn e8(rt: &impl Print) -> io::Result<()> {
     let mut device = [0u8; 65536];
     let mut work = [9u8; Limits::WORK_SIZE];
-    let s = begin(b"E8", &mut device);
-    let one = create(&device, &mut work, s, 1);
-    let two = set_size(&device, &mut work, one, 1, 15361);
-    many_staged(two);
-    let three = set_size(&device, &mut work, two, 1, 15360);
-    many_staged(three);
-    end_line();
+    let s = begin(rt, b"E8", &mut device)?;
+    let one = create(rt, &device, &mut work, s, 1)?;
+    let two = set_size(rt, &device, &mut work, one, 1, 15361)?;
+    many_staged(rt, two)?;
+    let three = set_size(rt, &device, &mut work, two, 1, 15360)?;
+    many_staged(rt, three)?;
+    end_line(rt)
 }
 
-fn e9() {
-    let t = e3_committed(b"E9").set_size(1, 100).staged().commit();
-    t.bit(42).bit(43);
-    end_line();
+fn e9(rt: &impl Print) -> io::Result<()> {
+    let t = e3_committed(rt, b"E9")?
+        .set_size(rt, 1, 100)?
+        .staged(rt)?
+        .commit(rt)?;
+    t.bit(rt, 42)?.bit(rt, 43)?;
+    end_line(rt)
 }
 
 // Files 1 and 2 with n blocks each, taken in turn.
-fn two_files(title: &[u8], n: usize) -> Till {
-    Till::empty(title).create(1).create(2).in_turn(n)
+fn two_files(rt: &impl Print, title: &[u8], n: usize) -> io::Result<Till> {
+    Till::empty(rt, title)?
+        .create(rt, 1)?
+        .create(rt, 2)?
+        .in_turn(rt, n)
 }
 
-fn e11() {
-    let t = two_files(b"E11", 4).set_size(1, 2560).extents(1, 6);
-    let u = t.commit().record_bytes();
-    end_line();
-    say(b"E11 committed");
-    let v = u.set_size(1, 2048).staged().extents(1, 5).commit();
-    v.record_bytes().bit(50).bit(51);
-    end_line();
+fn e11(rt: &impl Print) -> io::Result<()> {
+    let t = two_files(rt, b"E11", 4)?
+        .set_size(rt, 1, 2560)?
+        .extents(rt, 1, 6)?;
+    let u = t.commit(rt)?.record_bytes(rt)?;
+    end_line(rt)?;
+    say(rt, b"E11 committed")?;
+    let v = u
+        .set_size(rt, 1, 2048)?
+        .staged(rt)?
+        .extents(rt, 1, 5)?
+        .commit(rt)?;
+    v.record_bytes(rt)?.bit(rt, 50)?.bit(rt, 51)?;
+    end_line(rt)
 }
 
 // 64 blocks do not hold a file of 1,048,576 bytes, so past refusal 4 comes 16.
-fn e12() {
+fn e12(rt: &impl Print) -> io::Result<()> {
     let byte = [7u8; 1];
-    let t = Till::empty(b"E12").create(1).write(1, 1048575, &byte);
-    let u = t.write(1, 1048576, &byte);
-    let v = u.write(1, 18446744073709551615, &byte);
-    v.set_size(1, 1048576).set_size(1, 1048577);
-    end_line();
+    let t = Till::empty(rt, b"E12")?
+        .create(rt, 1)?
+        .write(rt, 1, 1048575, &byte)?;
+    let u = t.write(rt, 1, 1048576, &byte)?;
+    let v = u.write(rt, 1, 18446744073709551615, &byte)?;
+    v.set_size(rt, 1, 1048576)?.set_size(rt, 1, 1048577)?;
+    end_line(rt)
 }
 
-fn e13() {
-    Till::empty(b"E13").create(1).rename(1, 1);
-    end_line();
+fn e13(rt: &impl Print) -> io::Result<()> {
+    Till::empty(rt, b"E13")?.create(rt, 1)?.rename(rt, 1, 1)?;
+    end_line(rt)
 }
 
 // ---- more than the examples
 
 // The last block taken, given back and taken by another file.
-fn full() {
+fn full(rt: &impl Print) -> io::Result<()> {
     let byte = [7u8; 1];
-    let t = Till::empty(b"full").create(1).set_size(1, 11264).commit();
-    let u = t.create(2).write(2, 0, &byte).set_size(1, 10752).free();
-    let v = u.write(2, 0, &byte).free().extents(2, 2);
-    v.commit().reopen();
-    end_line();
+    let t = Till::empty(rt, b"full")?
+        .create(rt, 1)?
+        .set_size(rt, 1, 11264)?
+        .commit(rt)?;
+    let u = t
+        .create(rt, 2)?
+        .write(rt, 2, 0, &byte)?
+        .set_size(rt, 1, 10752)?
+        .free(rt)?;
+    let v = u.write(rt, 2, 0, &byte)?.free(rt)?.extents(rt, 2, 2)?;
+    v.commit(rt)?.reopen(rt)?;
+    end_line(rt)
 }
 
 // One block free and a fifth extent due: the data block fits, its extent block does not.
-fn node() {
-    let t = two_files(b"extent block", 4).create(3);
-    let u = t.set_size(3, 6656).free().set_size(1, 2560);
-    let v = u.set_size(3, 6144).free().set_size(1, 2560).free();
-    v.extents(1, 6).commit().record_bytes().reopen();
-    end_line();
+fn node(rt: &impl Print) -> io::Result<()> {
+    let t = two_files(rt, b"extent block", 4)?.create(rt, 3)?;
+    let u = t.set_size(rt, 3, 6656)?.free(rt)?.set_size(rt, 1, 2560)?;
+    let v = u
+        .set_size(rt, 3, 6144)?
+        .free(rt)?
+        .set_size(rt, 1, 2560)?
+        .free(rt)?;
+    v.extents(rt, 1, 6)?
+        .commit(rt)?
+        .record_bytes(rt)?
+        .reopen(rt)?;
+    end_line(rt)
 }
 
 // A block freed and taken again in one transaction shows nothing of what it held.
-fn again() {
-    let t = e3_committed(b"used again").set_size(1, 512).free();
-    let u = t.create(2).set_size(2, 10).extents(2, 2).read(2, 0);
-    let v = u.staged().commit().reopen();
-    v.read(1, 502).read(2, 0);
-    end_line();
+fn again(rt: &impl Print) -> io::Result<()> {
+    let t = e3_committed(rt, b"used again")?
+        .set_size(rt, 1, 512)?
+        .free(rt)?;
+    let u = t
+        .create(rt, 2)?
+        .set_size(rt, 2, 10)?
+        .extents(rt, 2, 2)?
+        .read(rt, 2, 0)?;
+    let v = u.staged(rt)?.commit(rt)?.reopen(rt)?;
+    v.read(rt, 1, 502)?.read(rt, 2, 0)?;
+    end_line(rt)
 }
 
 // A file of 1,500 sevens cut to a size and lengthened again.
-fn shorten(n: usize, place: usize) {
+fn shorten(rt: &impl Print, n: usize, place: usize) -> io::Result<()> {
     let data = [7u8; 1500];
-    let t = Till::empty(b"shortened").create(1).write(1, 0, &data);
-    let u = t.commit().set_size(1, n).staged().commit();
-    u.set_size(1, 1500).read(1, place).commit().reopen();
-    end_line();
+    let t = Till::empty(rt, b"shortened")?
+        .create(rt, 1)?
+        .write(rt, 1, 0, &data)?;
+    let u = t.commit(rt)?.set_size(rt, 1, n)?.staged(rt)?.commit(rt)?;
+    u.set_size(rt, 1, 1500)?
+        .read(rt, 1, place)?
+        .commit(rt)?
+        .reopen(rt)?;
+    end_line(rt)
 }
 
-fn removed() {
-    let t = two_files(b"removed", 6).commit().free();
-    let u = t.remove(1).free().remove(2).free().remove(2);
-    u.staged().commit().reopen().free();
-    end_line();
+fn removed(rt: &impl Print) -> io::Result<()> {
+    let t = two_files(rt, b"removed", 6)?.commit(rt)?.free(rt)?;
+    let u = t
+        .remove(rt, 1)?
+        .free(rt)?
+        .remove(rt, 2)?
+        .free(rt)?
+        .remove(rt, 2)?;
+    u.staged(rt)?.commit(rt)?.reopen(rt)?.free(rt)?;
+    end_line(rt)
 }
 
 // The record stays in its place, and create takes the lowest empty one.
-fn renamed() {
-    let t = e3_committed(b"renamed").create(2).rename(1, 3);
-    let u = t.record(0).record(1).rename(3, 2).rename(1, 4);
-    let v = u.remove(3).create(5);
-    v.record(0).record(1).record(128);
-    end_line();
+fn renamed(rt: &impl Print) -> io::Result<()> {
+    let t = e3_committed(rt, b"renamed")?
+        .create(rt, 2)?
+        .rename(rt, 1, 3)?;
+    let u = t
+        .record(rt, 0)?
+        .record(rt, 1)?
+        .rename(rt, 3, 2)?
+        .rename(rt, 1, 4)?;
+    let v = u.remove(rt, 3)?.create(rt, 5)?;
+    v.record(rt, 0)?.record(rt, 1)?.record(rt, 128)?;
+    end_line(rt)
 }
 
-fn aborted() {
-    let t = e3_committed(b"aborted").set_size(1, 100).create(2).free();
-    t.abort().staged().free().size(1).size(2);
-    end_line();
+fn aborted(rt: &impl Print) -> io::Result<()> {
+    let t = e3_committed(rt, b"aborted")?
+        .set_size(rt, 1, 100)?
+        .create(rt, 2)?
+        .free(rt)?;
+    t.abort(rt)?.staged(rt)?.free(rt)?.size(rt, 1)?.size(rt, 2)?;
+    end_line(rt)
 }
 
 // Files 0 to n - 1 made.
@@ -773,82 +902,88 @@ fn create_all(device: &[u8], work: &mut [u8], s: Session, n: u8) -> Session {
     t
 }
 
-fn records() {
-    let t = Till::empty(b"records, 0 to 127 created");
+fn records(rt: &impl Print) -> io::Result<()> {
+    let t = Till::empty(rt, b"records, 0 to 127 created")?;
     let device = t.device;
     let mut work = t.work;
     let s = create_all(&device, &mut work, t.session, 128);
-    let u = t.with(work, s).record(127).staged();
-    u.create(128).create(127);
-    end_line();
+    let u = t.with(work, s).record(rt, 127)?.staged(rt)?;
+    u.create(rt, 128)?.create(rt, 127)?;
+    end_line(rt)
 }
 
 // Files 1 and 2 grown by one block in turn, each time committed.
-fn in_turn_committed(device: &mut [u8], work: &mut [u8], s: Session, n: usize) -> Session {
+fn in_turn_committed(
+    rt: &impl Print,
+    device: &mut [u8],
+    work: &mut [u8],
+    s: Session,
+    n: usize,
+) -> io::Result<Session> {
     let mut t = s;
     let mut i: usize = 0;
-    say(b", 1 and 2 grown in turn to blocks");
-    number(n);
+    say(rt, b", 1 and 2 grown in turn to blocks")?;
+    number(rt, n)?;
     while i < n {
         i += 1;
         let u = grow(device, work, t, 1, i);
         let v = grow(device, work, u, 2, i);
         t = commit_quietly(device, work, v);
     }
-    t
+    Ok(t)
 }
 
 // 512 extents are the most. File 2 was grown last, so its next block follows on and makes no extent.
-fn many_extents() {
+fn many_extents(rt: &impl Print) -> io::Result<()> {
     let mut device = [0u8; 563200];
     let mut work = [9u8; Limits::WORK_SIZE];
-    let s = begin(b"extents", &mut device);
-    let one = create(&device, &mut work, s, 1);
-    let two = create(&device, &mut work, one, 2);
-    let three = in_turn_committed(&mut device, &mut work, two, 512);
-    last_extents(&mut device, &mut work, three);
+    let s = begin(rt, b"extents", &mut device)?;
+    let one = create(rt, &device, &mut work, s, 1)?;
+    let two = create(rt, &device, &mut work, one, 2)?;
+    let three = in_turn_committed(rt, &mut device, &mut work, two, 512)?;
+    last_extents(rt, &mut device, &mut work, three)
 }
 
-fn last_extents(device: &mut [u8], work: &mut [u8], s: Session) {
-    free(device, work, s);
-    record_bytes(device);
-    say(b", extents 511 and 512 of 1:");
-    extent(device, work, s, 1, 511);
-    extent(device, work, s, 1, 512);
-    let one = set_size(device, work, s, 1, 262656);
-    let two = set_size(device, work, one, 2, 262656);
-    staged(two);
-    commit(device, work, two);
-    reopen(device);
-    end_line();
+fn last_extents(rt: &impl Print, device: &mut [u8], work: &mut [u8], s: Session) -> io::Result<()> {
+    free(rt, device, work, s)?;
+    record_bytes(rt, device)?;
+    say(rt, b", extents 511 and 512 of 1:")?;
+    extent(rt, device, work, s, 1, 511)?;
+    extent(rt, device, work, s, 1, 512)?;
+    let one = set_size(rt, device, work, s, 1, 262656)?;
+    let two = set_size(rt, device, work, one, 2, 262656)?;
+    staged(rt, two)?;
+    commit(rt, device, work, two)?;
+    reopen(rt, device)?;
+    end_line(rt)
 }
 
-fn examples() {
-    e1();
-    e2();
-    e3();
-    e4(4, 0);
-    e4(5, 5);
-    e5();
-    e6();
-    e7();
-    e8();
-    e9();
-    e11();
-    e12();
-    e13();
+fn examples(rt: &impl Print) -> io::Result<()> {
+    e1(rt)?;
+    e2(rt)?;
+    e3(rt)?;
+    e4(rt, 4, 0)?;
+    e4(rt, 5, 5)?;
+    e5(rt)?;
+    e6(rt)?;
+    e7(rt)?;
+    e8(rt)?;
+    e9(rt)?;
+    e11(rt)?;
+    e12(rt)?;
+    e13(rt)
 }
 
-fn main() {
-    examples();
-    full();
-    node();
-    again();
-    shorten(1024, 1014);
-    shorten(1025, 1015);
-    removed();
-    renamed();
-    aborted();
-    records();
-    many_extents();
+fn main(rt: HostRuntime) -> io::Result<()> {
+    examples(&rt)?;
+    full(&rt)?;
+    node(&rt)?;
+    again(&rt)?;
+    shorten(&rt, 1024, 1014)?;
+    shorten(&rt, 1025, 1015)?;
+    removed(&rt)?;
+    renamed(&rt)?;
+    aborted(&rt)?;
+    records(&rt)?;
+    many_extents(&rt)
 }

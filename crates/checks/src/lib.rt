@@ -1,4 +1,6 @@
 // The tests at the head of a call, in the order of the refusals' numbers.
+#![tactic(auto)]
+
 ghost use Rattle.std.specs.Prelude.{◌≡◌, ◌+◌, ◌*◌, eqb, leb};
 ghost use Rattle.spec.specs.declared.Session.{Session};
 ghost use Rattle.spec.specs.Disk.{is_allowed};
@@ -12,7 +14,7 @@ use block::key_of;
 use spec::{ByteOffset, Done, Finished, Limits, Phase, Refusal, Session};
 
 // Passed, or the first test that failed.
-#[derive(Drop)]
+#[derive(Clone, Copy)]
 pub enum Checked {
     Fine,
     Bad(Refusal),
@@ -186,7 +188,7 @@ pub fn done(session: Session) -> Finished
 }
 
 // What a call that is lent a session's cells answers, and how many of them are in use behind it.
-#[derive(Drop)]
+#[derive(Clone, Copy)]
 pub struct Changed {
     pub count: usize,
     pub answer: Done,

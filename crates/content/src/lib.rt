@@ -1,4 +1,6 @@
 // The content of a block after a change: a file record's block, a node, a data block.
+#![tactic(auto)]
+
 ghost use Rattle.std.specs.Prelude.{◌≡◌, ◌&&◌, List, [], ◌∷◌, ◌++◌, ℕ, ◌+◌, ◌*◌, ◌-◌, ◌<◌, ◌≤◌, min, leb, length, get_or};
 ghost use Rattle.spec.specs.Bytes.{bytes2, bytes4};
 ghost use Rattle.spec.specs.Inode.{extent, bytes_of_inode, inode_with};

@@ -1,5 +1,7 @@
 // The conversion of the printer's file for C: a function for each wanted spelling, in a static library of their own, since they use nothing of the store.
 // What the numbers of an answer mean is defined in specs/Conversions.antt.
+#![tactic(auto)]
+
 ghost use Rattle.std.specs.Prelude.{◌≡◌};
 ghost use Rattle.converter.specs.declared.Spelling.TheVariants.{Hexadecimal, Decimal};
 ghost use Rattle.converter.specs.Convert.{convert, converted_of};
@@ -9,7 +11,7 @@ use converter::{Converted, Spelling, convert};
 
 // refusal: 0 where the file is converted. line: the line refused, counted from 1; 0 with 25. length: of the output, 0 where there is none.
 #[repr(C)]
-#[derive(Drop)]
+#[derive(Clone, Copy)]
 pub struct CConverted {
     pub refusal: u32,
     pub line: u64,

@@ -1,5 +1,7 @@
 // The printer's file in the other supplier's spelling, all lines or none. The first pass tests every line and counts the output, the second writes it, so
 // that a refusal touches nothing.
+#![tactic(auto)]
+
 ghost use Rattle.std.specs.Prelude.{◌≡◌, List, [], ℕ, ◌<◌, ◌≤◌, ◌^◌, length};
 ghost use Rattle.cardfile.specs.Cards.{bytes_of, padded, spell};
 ghost use Rattle.text.specs.Written.{Written};
@@ -9,7 +11,7 @@ ghost use Rattle.converter.specs.Passes.{answer_behind, answer_for, output_of, s
 use cardfile::{Card, Line, line_at, name_of};
 
 // The two spellings of a serial: H lines and D lines.
-#[derive(Drop)]
+#[derive(Clone, Copy)]
 pub enum Spelling {
     Hexadecimal,
     Decimal,
@@ -23,7 +25,7 @@ impl Spelling {
 }
 
 // The output's length, or why there is none: converted_of in specs/Convert.antt. A line is named by its number, counted from 1.
-#[derive(Drop)]
+#[derive(Clone, Copy)]
 pub enum Converted {
     Length(usize),
     TooLong(usize),
@@ -33,7 +35,7 @@ pub enum Converted {
 }
 
 // How many bytes are counted of an output, and whether they fit so far.
-#[derive(Drop)]
+#[derive(Clone, Copy)]
 pub struct Room {
     pub total: usize,
     pub fits: bool,

@@ -24,10 +24,10 @@ use Rattle.spec.specs.Sentences.{file_at, call_stages, staged_by}
 use Rattle.spec.specs.Refusals.{wrong_name, over_limit, of_record, overstaged, Test, test, first_failed}
 use Rattle.spec.specs.CutRule.{Both, Changes}
 use Rattle.transaction.proofs.Laws.{staged-with, view-shown, Listed}
-use Rattle.log.specs.Stores.{Long, applied, targets_of}
-use Rattle.log.specs.Targets.{Targets, targets_of_lem, truth}
-use Rattle.log.specs.View.{view-is}
-use Rattle.log.specs.Staging.{member-keep, keep-targets, each-blocks, each-images, each-shown, count-staged}
+use Rattle.logs.specs.Stores.{Long, applied, targets_of}
+use Rattle.logs.specs.Targets.{Targets, targets_of_lem, truth}
+use Rattle.logs.specs.View.{view-is}
+use Rattle.logs.specs.Staging.{member-keep, keep-targets, each-blocks, each-images, each-shown, count-staged}
 use Rattle.crash.specs.Interface.{rewritten, planned, plan_tests, Makes, Plans, hindered, stages, FilesOn}
 use Rattle.crash.specs.Tests.{Answered, turned_down, taken, one_name, two-names, size_fits_lem, late_tests, Passed, name-passed, file-passed, sized-passed}
 

@@ -25,7 +25,7 @@ use Rattle.spec.specs.Plain.{Plain, Mode, plain}
 use Rattle.spec.specs.Refusals.{is_ready_mode, name_unknown, name_taken, no_record, of_record, lacks_room, is_scattered, overstaged, list_short, of_query, wrong_name, test, first_failed, due}
 use Rattle.spec.specs.CutRule.{refusal_in}
 use Rattle.transaction.proofs.Laws.{Listed}
-use Rattle.log.specs.Stores.{Whole}
+use Rattle.logs.specs.Stores.{Whole}
 use Rattle.crash.specs.Interface.{FilesOn, known_on, rewritten, planned}
 use Rattle.crash.specs.Tests.{keeping, Answered, turned_down, taken, Tested, late_tests, Passed, Front, refused, passed, front-due, ready-passed, file-passed, asked-name}
 use Rattle.crash.specs.Queries.{query-answered, says-still, run-told, file-told}

@@ -17,7 +17,7 @@ use Rattle.spec.specs.Calls.{empty_disk, Change, Create, Remove, Rename, Write, 
 use Rattle.spec.specs.Plain.{Plain, changed_files}
 use Rattle.spec.specs.Sentences.{file_at, file_then, record_for, staged_by}
 use Rattle.spec.specs.Refusals.{wrong_name, over_limit, name_unknown, name_taken, no_record, of_record, lacks_room, is_scattered, Test, test, first_failed}
-use Rattle.log.specs.Stores.{Whole, Long, applied, targets_of}
+use Rattle.logs.specs.Stores.{Whole, Long, applied, targets_of}
 
 -- ---- changes
 

@@ -14,10 +14,10 @@ use Rattle.spec.specs.Transaction.{State, BlockStore, put}
 use Rattle.spec.specs.Journal.{header_of, targets_in, header_fault, are_targets, redo_from}
 use Rattle.spec.specs.Plain.{Plain, Mode, plain}
 use Rattle.transaction.proofs.Laws.{shown}
-use Rattle.log.specs.Stores.{upd, upd_same, upd_other, Whole, upd-whole, Long, long-entry, blank, applied, applied-whole, applied-agree, applied-off, applied-drop, Avoids, avoids-entry, Entry, Entries, entry_at, absorb, Ascending, ascending-avoids, ascending-targets, targets_of, redo-is}
-use Rattle.log.specs.Targets.{Targets, targets-listed, are-targets, holds, truth}
-use Rattle.log.specs.Header.{header-targets, header-right, length-header, length-clear, clear-targets, clear-right, clear_zero}
-use Rattle.log.specs.View.{Held, list_of, numbered}
+use Rattle.logs.specs.Stores.{upd, upd_same, upd_other, Whole, upd-whole, Long, long-entry, blank, applied, applied-whole, applied-agree, applied-off, applied-drop, Avoids, avoids-entry, Entry, Entries, entry_at, absorb, Ascending, ascending-avoids, ascending-targets, targets_of, redo-is}
+use Rattle.logs.specs.Targets.{Targets, targets-listed, are-targets, holds, truth}
+use Rattle.logs.specs.Header.{header-targets, header-right, length-header, length-clear, clear-targets, clear-right, clear_zero}
+use Rattle.logs.specs.View.{Held, list_of, numbered}
 use Rattle.crash.specs.Interface.{FilesOn}
 use Rattle.crash.specs.Machine.{ses, at}
 

@@ -28,10 +28,10 @@ use Rattle.spec.specs.Plain.{Plain}
 use Rattle.spec.specs.Refusals.{due}
 use Rattle.spec.specs.CutRule.{Both, Stores}
 use Rattle.transaction.proofs.Laws.{staged-with, phase-with, Valid}
-use Rattle.log.specs.Stores.{Whole, upd, targets_of, commit_list}
-use Rattle.log.specs.Targets.{targets-listed}
-use Rattle.log.specs.Header.{length-clear}
-use Rattle.log.specs.View.{Held, list_of, staged_stores_lem}
+use Rattle.logs.specs.Stores.{Whole, upd, targets_of, commit_list}
+use Rattle.logs.specs.Targets.{targets-listed}
+use Rattle.logs.specs.Header.{length-clear}
+use Rattle.logs.specs.View.{Held, list_of, staged_stores_lem}
 
 -- ---- states
 

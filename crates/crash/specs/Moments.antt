@@ -17,9 +17,9 @@ use Rattle.spec.specs.Calls.{Outcome, Call, step}
 use Rattle.spec.specs.Plain.{Plain, Mode, plain, phase_of, accepted, follow}
 use Rattle.spec.specs.CutRule.{Event, call, cut, Both, refusal_in, Moment, Always, Each, next, after, Rightly}
 use Rattle.transaction.proofs.Laws.{shown}
-use Rattle.log.specs.Stores.{Whole}
-use Rattle.log.specs.Targets.{targets-listed, truth}
-use Rattle.log.specs.View.{Held, held_none, numbered, list_of, list_length, view-is}
+use Rattle.logs.specs.Stores.{Whole}
+use Rattle.logs.specs.Targets.{targets-listed, truth}
+use Rattle.logs.specs.View.{Held, held_none, numbered, list_of, list_length, view-is}
 use Rattle.crash.specs.Interface.{FilesOn}
 use Rattle.crash.specs.Tests.{keeping, turned_down, taken}
 use Rattle.crash.specs.Machine.{ses, at, ses-none, ses-staged}

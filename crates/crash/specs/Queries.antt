@@ -22,7 +22,7 @@ use Rattle.spec.specs.Calls.{Outcome, outcome, known, file_ok, read, size_of, fr
 use Rattle.spec.specs.Sentences.{file_at, breaks, extent_count}
 use Rattle.spec.specs.Refusals.{wrong_name}
 use Rattle.spec.specs.CutRule.{Both, Says}
-use Rattle.log.specs.Stores.{Whole}
+use Rattle.logs.specs.Stores.{Whole}
 use Rattle.crash.specs.Interface.{FilesOn}
 use Rattle.crash.specs.Tests.{Answered, turned_down, taken, asked-name, Passed, ready-passed, file-passed}
 

@@ -19,7 +19,7 @@ use Rattle.spec.specs.Journal.{clearing}
 use Rattle.spec.specs.Calls.{Outcome, outcome, lent_ok, Open, Advance, step}
 use Rattle.spec.specs.Plain.{Mode, phase_in}
 use Rattle.spec.specs.CutRule.{after, advances}
-use Rattle.log.specs.Stores.{upd, blank}
+use Rattle.logs.specs.Stores.{upd, blank}
 use Rattle.crash.specs.Interface.{FilesOn}
 use Rattle.crash.specs.Tests.{lent_is}
 use Rattle.crash.specs.Machine.{ses, at, ses-none, ses-blocks, allowed-ok}

@@ -23,9 +23,9 @@ use Rattle.spec.specs.Plain.{Plain, Mode, plain, after_commit, after_advance, af
 use Rattle.spec.specs.Refusals.{is_ready_mode, due}
 use Rattle.spec.specs.CutRule.{Both, Stores, Says, Accepted}
 use Rattle.transaction.proofs.Laws.{staged-with, phase-with, staged-opened, shown, view-shown, Valid}
-use Rattle.log.specs.Stores.{upd, upd_same, upd_other, Whole, upd-whole, blank, applied, applied-whole, applied-agree, element-at, long-entry, entry_at, targets_of, length-redo, commit_list, commit-image, commit-header, commit-target, commit-clear, commit-length}
-use Rattle.log.specs.Targets.{Targets, targets_of_lem, targets-listed, are-targets}
-use Rattle.log.specs.View.{Held, Imaged, held_none, numbered, list_of, list-ascending, list-long, list_length, list-view, view-is, staging-valid, staging-images}
+use Rattle.logs.specs.Stores.{upd, upd_same, upd_other, Whole, upd-whole, blank, applied, applied-whole, applied-agree, element-at, long-entry, entry_at, targets_of, length-redo, commit_list, commit-image, commit-header, commit-target, commit-clear, commit-length}
+use Rattle.logs.specs.Targets.{Targets, targets_of_lem, targets-listed, are-targets}
+use Rattle.logs.specs.View.{Held, Imaged, held_none, numbered, list_of, list-ascending, list-long, list_length, list-view, view-is, staging-valid, staging-images}
 use Rattle.crash.specs.Interface.{FilesOn}
 use Rattle.crash.specs.Tests.{Answered, turned_down, taken, Tested, Passed, Front, refused, passed, front-due}
 use Rattle.crash.specs.Queries.{query-answered, says-still}

@@ -15,8 +15,8 @@ use Rattle.spec.specs.Calls.{outcome, Open, step}
 use Rattle.spec.specs.Plain.{plain, plain_start}
 use Rattle.spec.specs.CutRule.{Event, Both, after, Survives, Starts, start_of, CutRule}
 use Rattle.lists.specs.Tests.{both_true}
-use Rattle.log.specs.Targets.{holds, truth}
-use Rattle.log.specs.Header.{clear-block}
+use Rattle.logs.specs.Targets.{holds, truth}
+use Rattle.logs.specs.Header.{clear-block}
 use Rattle.crash.specs.Interface.{FilesOn, FileLayer}
 use Rattle.crash.specs.Tests.{refuses}
 use Rattle.crash.specs.Machine.{ses-none}

@@ -1,10 +1,12 @@
 // Runs a commit of three blocks on a 64-block device with a cut behind each number of stores, a second cut behind each number of stores of the recovery,
 // and a third in the recovery of that, then recovers to the end and looks whether all three blocks are new, or none.
+#![tactic(auto)]
+
 ghost use Rattle.std.specs.Prelude.{◌≤◌};
 
 use block::{block_in, load, load2};
-use libc::STDOUT_FILENO;
 use spec::{DiskBlock, Limits, Phase, Session};
+use std::io;
 use trial::{number, stage};
 
 // At most n advances.
@@ -80,11 +82,12 @@ fn cut_thrice(device: &mut [u8], work: &mut [u8], i: usize, j: usize, m: usize) 
     new_blocks(device)
 }
 
-fn print_if(word: &[u8], n: u64) {
+fn print_if(rt: &impl Print, word: &[u8], n: u64) -> io::Result<()> {
     if n != 0 {
-        io::write_all(STDOUT_FILENO, word);
-        number(n);
+        rt.write_all(word)?;
+        number(rt, n)?;
     }
+    Ok(())
 }
 
 // 1 where the run leaves these blocks new.
@@ -121,19 +124,20 @@ fn second_cuts(i: usize, wanted: u32) -> u64 {
     n
 }
 
-fn line(i: usize) {
-    io::write_all(STDOUT_FILENO, b"cut behind store");
-    number(i as u64);
-    io::write_all(STDOUT_FILENO, b": of 25 runs");
-    print_if(b", none of the blocks new in", second_cuts(i, 0));
-    print_if(b", all of the blocks new in", second_cuts(i, 7));
-    io::write_all(STDOUT_FILENO, b"\n");
+fn line(rt: &impl Print, i: usize) -> io::Result<()> {
+    rt.write_all(b"cut behind store")?;
+    number(rt, i as u64)?;
+    rt.write_all(b": of 25 runs")?;
+    print_if(rt, b", none of the blocks new in", second_cuts(i, 0))?;
+    print_if(rt, b", all of the blocks new in", second_cuts(i, 7))?;
+    rt.write_all(b"\n")
 }
 
-fn main() {
+fn main(rt: HostRuntime) -> io::Result<()> {
     let mut i: usize = 0;
     while i < 9 {
-        line(i);
+        line(&rt, i)?;
         i += 1;
     }
+    Ok(())
 }

@@ -1,4 +1,6 @@
 // Stretches of a file's data blocks: the extent that holds a block of a file, and the maximal runs of a stretch.
+#![tactic(auto)]
+
 ghost use Rattle.std.specs.Prelude.{◌≡◌, [], ℕ, ◌-◌, ◌<◌, ◌≤◌, min, length};
 ghost use Rattle.std.proofs.Math.ListN.{get_elem?};
 ghost use Rattle.spec.specs.Bytes.{exactly};
@@ -14,14 +16,14 @@ use spec::{DiskBlock, Extent, FileBlock, Limits, Session};
 use transaction::{staged_count, view_in};
 
 // Where a block of a file stands: so far into an extent.
-#[derive(Drop)]
+#[derive(Clone, Copy)]
 pub enum Place {
     In { extent: Extent, skip: u32 },
     Nothing,
 }
 
 // The same, with the cursor behind that extent.
-#[derive(Drop)]
+#[derive(Clone, Copy)]
 enum Sought {
     In(Extent, u32, Cursor),
     Nothing,
@@ -85,7 +87,7 @@ pub fn extent_at<'a>(
 }
 
 // What is left of a stretch: `room` blocks, from `skip` blocks behind a cursor on.
-#[derive(Drop)]
+#[derive(Clone, Copy)]
 pub struct Scan {
     pub at: Cursor,
     pub skip: usize,
@@ -93,7 +95,7 @@ pub struct Scan {
 }
 
 // The next blocks of a stretch that follow each other within one extent.
-#[derive(Drop)]
+#[derive(Clone, Copy)]
 pub enum Piece {
     Blocks(Extent, Scan),
     End,
@@ -148,7 +150,7 @@ fn at_most(n: u32, room: usize) -> u32
 }
 
 // What the first slot that is left of a leaf does to a stretch.
-#[derive(Drop)]
+#[derive(Clone, Copy)]
 pub enum AtSlot {
     Piece(Extent, Scan),
     Passed(Scan),
@@ -239,7 +241,7 @@ pub fn pass_slots(block: &[u8], scan: Scan) -> Scan
 }
 
 // The node that follows a leaf with no slot left.
-#[derive(Drop)]
+#[derive(Clone, Copy)]
 pub enum AtNode {
     Node(DiskBlock, Scan),
     End,
@@ -311,13 +313,13 @@ pub fn next_piece_in<'a>(
 }
 
 // A run that may go on, of no blocks at first, and what is left of the stretch behind it.
-#[derive(Drop)]
+#[derive(Clone, Copy)]
 pub struct Growing {
     pub run: Extent,
     pub scan: Scan,
 }
 
-#[derive(Drop)]
+#[derive(Clone, Copy)]
 pub enum RunStep {
     Run(Extent, Growing),
     End,
@@ -386,7 +388,7 @@ pub fn next_run_in<'a>(
 }
 
 // A run that was asked for.
-#[derive(Drop)]
+#[derive(Clone, Copy)]
 pub enum RunOf {
     Run(Extent),
     Nothing,

@@ -1,4 +1,6 @@
 // S3 to S6 and S8 of one file.
+#![tactic(auto)]
+
 ghost use Rattle.std.specs.Prelude.{◌≡◌, ◌-◌, ◌≤◌, ◌<◌};
 ghost use Rattle.spec.specs.Bytes.{exactly, all_zero};
 ghost use Rattle.spec.specs.Disk.{blocks_of};

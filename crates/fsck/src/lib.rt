@@ -1,4 +1,6 @@
 // Decides S1 to S8 on any bytes: one pass over the records, in which each tree is walked once, tested and marked, then one over the bits.
+#![tactic(auto)]
+
 ghost use Rattle.std.specs.Prelude.{◌≡◌, [], ◌+◌, ◌%◌, ◌≤◌, ◌<◌, take, get_or};
 ghost use Rattle.std.proofs.Math.Option.{none};
 ghost use Rattle.spec.specs.Bytes.{exactly};
@@ -24,7 +26,7 @@ use zeros::is_zero;
 const REMAINDERS: u64 = 1021;
 
 // What is damaged: the lowest record that is not sound; if all are, the lowest block.
-#[derive(Drop)]
+#[derive(Clone, Copy)]
 pub enum Damage {
     Inode(usize),
     Block(DiskBlock),

@@ -1,7 +1,9 @@
 // Runs the soundness tests on a 64-block device: an empty store, one with three files built by hand, and that one with a byte changed, so that one of S1 to S8
 // is broken. Prints the lowest record that is not sound; if all are, the lowest block.
+#![tactic(auto)]
+
 use fsck::{Damage, find_damage, is_sound};
-use libc::STDOUT_FILENO;
+use std::io;
 
 // One byte, and a number of two bytes.
 fn set(device: &mut [u8; 32768], at: usize, byte: u8) {
@@ -71,72 +73,98 @@ fn four_extents(device: &mut [u8; 32768]) {
     set(device, 16902, 21);
 }
 
-fn show(name: &[u8], store: &[u8; 32768]) {
+fn show(rt: &impl Print, name: &[u8], store: &[u8; 32768]) -> io::Result<()> {
     let device: &[u8] = store;
-    io::write_all(STDOUT_FILENO, name);
+    rt.write_all(name)?;
     match find_damage(device, 64) {
         Damage::Inode(i) => {
-            io::write_all(STDOUT_FILENO, b": record ");
-            io::print_decimal(STDOUT_FILENO, i as u64);
+            rt.write_all(b": record ")?;
+            rt.print(i)?;
         }
         Damage::Block(b) => {
-            io::write_all(STDOUT_FILENO, b": block ");
-            io::print_decimal(STDOUT_FILENO, b.0 as u64);
+            rt.write_all(b": block ")?;
+            rt.print(b.0)?;
         }
         Damage::Nothing => {
-            io::write_all(STDOUT_FILENO, b": no damage");
+            rt.write_all(b": no damage")?;
         }
     }
     if is_sound(device, 64) {
-        io::write_all(STDOUT_FILENO, b", sound");
+        rt.write_all(b", sound")?;
     }
-    io::write_all(STDOUT_FILENO, b"\n");
+    rt.write_all(b"\n")
 }
 
 // The store with one byte changed.
-fn broken(device: &mut [u8; 32768], name: &[u8], at: usize, byte: u8) {
+fn broken(
+    rt: &impl Print,
+    device: &mut [u8; 32768],
+    name: &[u8],
+    at: usize,
+    byte: u8,
+) -> io::Result<()> {
     empty(device);
     files(device);
     set(device, at, byte);
-    show(name, device);
+    show(rt, name, device)
 }
 
-fn main() {
+fn main(rt: HostRuntime) -> io::Result<()> {
     let mut device = [0u8; 32768];
-    show(b"all zero", &device);
+    show(&rt, b"all zero", &device)?;
     empty(&mut device);
-    show(b"empty", &device);
+    show(&rt, b"empty", &device)?;
     files(&mut device);
-    show(b"three files", &device);
-    broken(&mut device, b"S1 bit 3 is 0", 16896, 247);
-    broken(&mut device, b"S1 bit 65 is 0", 16904, 253);
-    broken(&mut device, b"S1 bit 4095 is 0", 17407, 127);
-    broken(&mut device, b"S2 a name twice", 17472, 1);
-    broken(&mut device, b"S2 an empty record with a size", 21481, 1);
-    broken(&mut device, b"S3 size past the most", 17419, 1);
-    broken(&mut device, b"S3 depth 2", 17484, 2);
-    broken(&mut device, b"S3 byte 15 of a record", 17423, 1);
-    broken(&mut device, b"S4 a slot behind the used ones", 17436, 9);
+    show(&rt, b"three files", &device)?;
+    broken(&rt, &mut device, b"S1 bit 3 is 0", 16896, 247)?;
+    broken(&rt, &mut device, b"S1 bit 65 is 0", 16904, 253)?;
+    broken(&rt, &mut device, b"S1 bit 4095 is 0", 17407, 127)?;
+    broken(&rt, &mut device, b"S2 a name twice", 17472, 1)?;
     broken(
+        &rt,
+        &mut device,
+        b"S2 an empty record with a size",
+        21481,
+        1,
+    )?;
+    broken(&rt, &mut device, b"S3 size past the most", 17419, 1)?;
+    broken(&rt, &mut device, b"S3 depth 2", 17484, 2)?;
+    broken(&rt, &mut device, b"S3 byte 15 of a record", 17423, 1)?;
+    broken(
+        &rt,
+        &mut device,
+        b"S4 a slot behind the used ones",
+        17436,
+        9,
+    )?;
+    broken(
+        &rt,
         &mut device,
         b"S4 a slot behind the used ones of a node",
         23036,
         9,
-    );
-    broken(&mut device, b"S4 an extent past the end", 22544, 64);
-    broken(&mut device, b"S4 a node in the log", 17488, 20);
-    broken(&mut device, b"S5 a count above", 17490, 4);
-    broken(&mut device, b"S5 size against count", 17417, 0);
-    broken(&mut device, b"S6 extents that touch", 22536, 49);
+    )?;
+    broken(&rt, &mut device, b"S4 an extent past the end", 22544, 64)?;
+    broken(&rt, &mut device, b"S4 a node in the log", 17488, 20)?;
+    broken(&rt, &mut device, b"S5 a count above", 17490, 4)?;
+    broken(&rt, &mut device, b"S5 size against count", 17417, 0)?;
+    broken(&rt, &mut device, b"S6 extents that touch", 22536, 49)?;
     four_extents(&mut device);
-    show(b"S6 depth 1 for four extents", &device);
-    broken(&mut device, b"S7 a block reached, its bit 0", 16902, 21);
+    show(&rt, b"S6 depth 1 for four extents", &device)?;
     broken(
+        &rt,
+        &mut device,
+        b"S7 a block reached, its bit 0",
+        16902,
+        21,
+    )?;
+    broken(
+        &rt,
         &mut device,
         b"S7 a block not reached, its bit 1",
         16903,
         128,
-    );
-    broken(&mut device, b"S7 a block reached twice", 22540, 43);
-    broken(&mut device, b"S8 a byte after the size", 22204, 1);
+    )?;
+    broken(&rt, &mut device, b"S7 a block reached twice", 22540, 43)?;
+    broken(&rt, &mut device, b"S8 a byte after the size", 22204, 1)
 }

@@ -1,4 +1,6 @@
 // The header read and checked, and what a log may list.
+#![tactic(auto)]
+
 ghost use Rattle.std.specs.Prelude.{◌≡◌, true, ◌+◌, ◌*◌, ◌<◌, ◌≤◌, length};
 ghost use Rattle.spec.specs.Bytes.{all, all_zero, part, member, distinct};
 ghost use Rattle.spec.specs.Disk.{is_target};
@@ -10,14 +12,14 @@ use spec::{DiskBlock, Limits};
 use zeros::is_zero;
 
 // The lowest record of a header that is wrong.
-#[derive(Drop)]
+#[derive(Clone, Copy)]
 pub enum Fault {
     At(usize),
     Nothing,
 }
 
 // What a log lists: the first `count` cells of `list` are in use.
-#[derive(Drop)]
+#[derive(Clone, Copy)]
 pub struct Targets {
     pub list: [u32; Limits::LOG_LENGTH],
     pub count: usize,

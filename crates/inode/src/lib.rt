@@ -1,4 +1,6 @@
 // File records and the walk over a file's tree of extents, in the working copy.
+#![tactic(auto)]
+
 ghost use Rattle.std.specs.Prelude.{◌≡◌, true, List, ℕ, ◌+◌, ◌*◌, ◌%◌, ◌<◌, ◌≤◌, length, take, get_or};
 ghost use Rattle.spec.specs.Bytes.{exactly, all_zero};
 ghost use Rattle.spec.specs.Disk.{Disk, area_of, blocks_of};
@@ -19,7 +21,7 @@ const TABLE_START: usize = Limits::BLOCK_SIZE * (Limits::INODE_START as usize);
 const TABLE_END: usize = TABLE_START + Limits::INODE_SIZE * Limits::INODE_COUNT;
 
 // A record that was looked for.
-#[derive(Drop)]
+#[derive(Clone, Copy)]
 pub enum Found {
     At(usize),
     Nothing,
@@ -264,7 +266,7 @@ pub fn find_empty<'a>(device: &'a [u8], work: &'a [u8], staged: &[u32]) -> Found
 }
 
 // A place in a file's tree: `left` leaf slots from byte `at` of `block`, then the nodes named by `tops` slots from byte `top` of the record's block.
-#[derive(Drop)]
+#[derive(Clone, Copy)]
 pub struct Cursor {
     pub block: u32,
     pub at: usize,
@@ -274,7 +276,7 @@ pub struct Cursor {
 }
 
 // What a step of the walk finds.
-#[derive(Drop)]
+#[derive(Clone, Copy)]
 pub enum Step {
     Leaf(Extent, Cursor),
     Node(DiskBlock, Cursor),

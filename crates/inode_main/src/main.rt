@@ -1,21 +1,23 @@
 // Runs the functions of inode and extents on a small device written by hand: records found, trees walked, blocks and runs of files.
+#![tactic(auto)]
+
 use extents::{Place, RunOf};
 use inode::{Cursor, Found, Step};
-use libc::STDOUT_FILENO;
 use spec::{DiskBlock, Extent, FileBlock, Limits, Phase, Session};
+use std::io;
 
 // Where the table begins, and its second block.
 const TABLE: usize = Limits::BLOCK_SIZE * (Limits::INODE_START as usize);
 
 const NEXT_TABLE: usize = TABLE + Limits::BLOCK_SIZE;
 
-fn text(bytes: &[u8]) {
-    io::write_all(STDOUT_FILENO, bytes);
+fn text(rt: &impl Print, bytes: &[u8]) -> io::Result<()> {
+    rt.write_all(bytes)
 }
 
-fn number(n: u64) {
-    text(b" ");
-    io::print_decimal(STDOUT_FILENO, n);
+fn number(rt: &impl Print, n: u64) -> io::Result<()> {
+    text(rt, b" ")?;
+    rt.print(n)
 }
 
 // Bytes written from a place on, as far as there is room.
@@ -61,117 +63,150 @@ fn fill_deep(device: &mut [u8]) {
     );
 }
 
-fn show_found(f: Found) {
+fn show_found(rt: &impl Print, f: Found) -> io::Result<()> {
     match f {
         Found::At(i) => {
-            text(b" record");
-            number(i as u64);
+            text(rt, b" record")?;
+            number(rt, i as u64)?;
         }
         Found::Nothing => {
-            text(b" nothing");
+            text(rt, b" nothing")?;
         }
     }
-    text(b"\n");
+    text(rt, b"\n")
 }
 
-fn show_find<'a>(device: &'a [u8], work: &'a [u8], s: Session, name: &[u8]) {
-    text(b"find ");
-    text(name);
+fn show_find<'a>(
+    rt: &impl Print,
+    device: &'a [u8],
+    work: &'a [u8],
+    s: Session,
+    name: &[u8],
+) -> io::Result<()> {
+    text(rt, b"find ")?;
+    text(rt, name)?;
     let l = s.staged;
     let n = transaction::staged_count(s);
-    show_found(inode::find(device, work, &l[0..n], name));
+    show_found(rt, inode::find(device, work, &l[0..n], name))
 }
 
-fn show_empty<'a>(device: &'a [u8], work: &'a [u8], s: Session) {
-    text(b"empty:");
+fn show_empty<'a>(rt: &impl Print, device: &'a [u8], work: &'a [u8], s: Session) -> io::Result<()> {
+    text(rt, b"empty:")?;
     let l = s.staged;
     let n = transaction::staged_count(s);
-    show_found(inode::find_empty(device, work, &l[0..n]));
+    show_found(rt, inode::find_empty(device, work, &l[0..n]))
 }
 
-fn show_record<'a>(device: &'a [u8], work: &'a [u8], s: Session, i: usize) {
+fn show_record<'a>(
+    rt: &impl Print,
+    device: &'a [u8],
+    work: &'a [u8],
+    s: Session,
+    i: usize,
+) -> io::Result<()> {
     if 127 < i {
-        return;
+        return Ok(());
     }
-    text(b"record");
-    number(i as u64);
+    text(rt, b"record")?;
+    number(rt, i as u64)?;
     let table = inode::inode_block(device, work, s, i);
-    text(b": size");
-    number(inode::size_of(table, i) as u64);
-    text(b", depth");
-    number(inode::depth_of(table, i) as u64);
+    text(rt, b": size")?;
+    number(rt, inode::size_of(table, i) as u64)?;
+    text(rt, b", depth")?;
+    number(rt, inode::depth_of(table, i) as u64)?;
     if inode::is_empty(table, i) {
-        text(b", empty");
+        text(rt, b", empty")?;
     }
-    text(b"\n");
+    text(rt, b"\n")
 }
 
-fn show_extent(e: Extent) {
-    text(b" extent");
-    number(e.first as u64);
-    number(e.count as u64);
+fn show_extent(rt: &impl Print, e: Extent) -> io::Result<()> {
+    text(rt, b" extent")?;
+    number(rt, e.first as u64)?;
+    number(rt, e.count as u64)
 }
 
-fn show_node(b: DiskBlock) {
-    text(b" node");
-    number(b.0 as u64);
+fn show_node(rt: &impl Print, b: DiskBlock) -> io::Result<()> {
+    text(rt, b" node")?;
+    number(rt, b.0 as u64)
 }
 
 // The extents and nodes from a cursor on.
-fn walk_from<'a>(device: &'a [u8], work: &'a [u8], s: Session, tb: DiskBlock, cur: Cursor) {
+fn walk_from<'a>(
+    rt: &impl Print,
+    device: &'a [u8],
+    work: &'a [u8],
+    s: Session,
+    tb: DiskBlock,
+    cur: Cursor,
+) -> io::Result<()> {
     let mut at = cur;
     loop {
         match inode::next(device, work, s, tb, at) {
             Step::Leaf(e, then) => {
-                show_extent(e);
+                show_extent(rt, e)?;
                 at = then;
             }
             Step::Node(b, then) => {
-                show_node(b);
+                show_node(rt, b)?;
                 at = then;
             }
             Step::End => {
-                return;
+                return Ok(());
             }
         }
     }
 }
 
-fn walk<'a>(device: &'a [u8], work: &'a [u8], s: Session, i: usize) {
+fn walk<'a>(
+    rt: &impl Print,
+    device: &'a [u8],
+    work: &'a [u8],
+    s: Session,
+    i: usize,
+) -> io::Result<()> {
     if 127 < i {
-        return;
+        return Ok(());
     }
-    text(b"walk of");
-    number(i as u64);
-    text(b":");
+    text(rt, b"walk of")?;
+    number(rt, i as u64)?;
+    text(rt, b":")?;
     let cur = inode::start(device, work, s, i);
-    walk_from(device, work, s, inode::table_block(i), cur);
-    text(b" end\n");
+    walk_from(rt, device, work, s, inode::table_block(i), cur)?;
+    text(rt, b" end\n")
 }
 
-fn show_block<'a>(device: &'a [u8], work: &'a [u8], s: Session, i: usize, place: usize) {
+fn show_block<'a>(
+    rt: &impl Print,
+    device: &'a [u8],
+    work: &'a [u8],
+    s: Session,
+    i: usize,
+    place: usize,
+) -> io::Result<()> {
     if 127 < i {
-        return;
+        return Ok(());
     }
-    text(b"block");
-    number(place as u64);
-    text(b" of");
-    number(i as u64);
-    text(b":");
+    text(rt, b"block")?;
+    number(rt, place as u64)?;
+    text(rt, b" of")?;
+    number(rt, i as u64)?;
+    text(rt, b":")?;
     match extents::extent_at(device, work, s, i, FileBlock(place)) {
         Place::In { extent, skip } => {
-            show_extent(extent);
-            text(b" skip");
-            number(skip as u64);
+            show_extent(rt, extent)?;
+            text(rt, b" skip")?;
+            number(rt, skip as u64)?;
         }
         Place::Nothing => {
-            text(b" nothing");
+            text(rt, b" nothing")?;
         }
     }
-    text(b"\n");
+    text(rt, b"\n")
 }
 
 fn show_run<'a>(
+    rt: &impl Print,
     device: &'a [u8],
     work: &'a [u8],
     s: Session,
@@ -179,23 +214,20 @@ fn show_run<'a>(
     from: usize,
     n: usize,
     k: usize,
-) {
+) -> io::Result<()> {
     if 127 < i {
-        return;
+        return Ok(());
     }
     let l = s.staged;
     let many = transaction::staged_count(s);
     match extents::nth_extent(device, work, &l[0..many], i, FileBlock(from), n, k) {
-        RunOf::Run(e) => {
-            show_extent(e);
-        }
-        RunOf::Nothing => {
-            text(b" nothing");
-        }
+        RunOf::Run(e) => show_extent(rt, e),
+        RunOf::Nothing => text(rt, b" nothing"),
     }
 }
 
 fn each_run<'a>(
+    rt: &impl Print,
     device: &'a [u8],
     work: &'a [u8],
     s: Session,
@@ -203,82 +235,95 @@ fn each_run<'a>(
     from: usize,
     n: usize,
     many: usize,
-) {
+) -> io::Result<()> {
     for k in 0..many {
-        show_run(device, work, s, i, from, n, k);
+        show_run(rt, device, work, s, i, from, n, k)?;
     }
-    show_run(device, work, s, i, from, n, many);
+    show_run(rt, device, work, s, i, from, n, many)
 }
 
 // The runs of n blocks from block `from` on of record i, and one more.
-fn show_runs<'a>(device: &'a [u8], work: &'a [u8], s: Session, i: usize, from: usize, n: usize) {
+fn show_runs<'a>(
+    rt: &impl Print,
+    device: &'a [u8],
+    work: &'a [u8],
+    s: Session,
+    i: usize,
+    from: usize,
+    n: usize,
+) -> io::Result<()> {
     if 127 < i {
-        return;
+        return Ok(());
     }
-    text(b"stretch");
-    number(from as u64);
-    number(n as u64);
-    text(b" of");
-    number(i as u64);
+    text(rt, b"stretch")?;
+    number(rt, from as u64)?;
+    number(rt, n as u64)?;
+    text(rt, b" of")?;
+    number(rt, i as u64)?;
     let l = s.staged;
     let staged = transaction::staged_count(s);
     let many = extents::count_runs(device, work, &l[0..staged], i, FileBlock(from), n);
-    text(b":");
-    number(many as u64);
-    text(b" runs");
-    each_run(device, work, s, i, from, n, many);
-    text(b"\n");
+    text(rt, b":")?;
+    number(rt, many as u64)?;
+    text(rt, b" runs")?;
+    each_run(rt, device, work, s, i, from, n, many)?;
+    text(rt, b"\n")
 }
 
-fn show_all<'a>(device: &'a [u8], work: &'a [u8], s: Session) {
-    show_find(device, work, s, b"alphabet");
-    show_find(device, work, s, b"betatest");
-    show_find(device, work, s, b"voidfile");
-    show_find(device, work, s, b"gammaray");
-    show_find(device, work, s, b"alphabe");
-    show_empty(device, work, s);
-    show_record(device, work, s, 0);
-    show_record(device, work, s, 1);
-    show_record(device, work, s, 2);
-    show_record(device, work, s, 17);
-    walk(device, work, s, 0);
-    walk(device, work, s, 2);
-    walk(device, work, s, 17);
+fn show_all<'a>(rt: &impl Print, device: &'a [u8], work: &'a [u8], s: Session) -> io::Result<()> {
+    show_find(rt, device, work, s, b"alphabet")?;
+    show_find(rt, device, work, s, b"betatest")?;
+    show_find(rt, device, work, s, b"voidfile")?;
+    show_find(rt, device, work, s, b"gammaray")?;
+    show_find(rt, device, work, s, b"alphabe")?;
+    show_empty(rt, device, work, s)?;
+    show_record(rt, device, work, s, 0)?;
+    show_record(rt, device, work, s, 1)?;
+    show_record(rt, device, work, s, 2)?;
+    show_record(rt, device, work, s, 17)?;
+    walk(rt, device, work, s, 0)?;
+    walk(rt, device, work, s, 2)?;
+    walk(rt, device, work, s, 17)
 }
 
-fn show_places<'a>(device: &'a [u8], work: &'a [u8], s: Session) {
-    show_block(device, work, s, 0, 0);
-    show_block(device, work, s, 0, 1);
-    show_block(device, work, s, 0, 2);
-    show_block(device, work, s, 0, 3);
-    show_block(device, work, s, 2, 2);
-    show_block(device, work, s, 2, 5);
-    show_block(device, work, s, 2, Limits::MAX_FILE_BLOCKS - 1);
-    show_block(device, work, s, 2, Limits::MAX_FILE_BLOCKS);
-    show_block(device, work, s, 17, 0);
-    show_runs(device, work, s, 0, 0, 10);
-    show_runs(device, work, s, 0, 1, 1);
-    show_runs(device, work, s, 2, 0, 8);
-    show_runs(device, work, s, 2, 1, 5);
-    show_runs(device, work, s, 2, 0, 18446744073709551615);
-    show_runs(device, work, s, 2, 5000, 3);
-    show_runs(device, work, s, 17, 0, 10);
+fn show_places<'a>(
+    rt: &impl Print,
+    device: &'a [u8],
+    work: &'a [u8],
+    s: Session,
+) -> io::Result<()> {
+    show_block(rt, device, work, s, 0, 0)?;
+    show_block(rt, device, work, s, 0, 1)?;
+    show_block(rt, device, work, s, 0, 2)?;
+    show_block(rt, device, work, s, 0, 3)?;
+    show_block(rt, device, work, s, 2, 2)?;
+    show_block(rt, device, work, s, 2, 5)?;
+    show_block(rt, device, work, s, 2, Limits::MAX_FILE_BLOCKS - 1)?;
+    show_block(rt, device, work, s, 2, Limits::MAX_FILE_BLOCKS)?;
+    show_block(rt, device, work, s, 17, 0)?;
+    show_runs(rt, device, work, s, 0, 0, 10)?;
+    show_runs(rt, device, work, s, 0, 1, 1)?;
+    show_runs(rt, device, work, s, 2, 0, 8)?;
+    show_runs(rt, device, work, s, 2, 1, 5)?;
+    show_runs(rt, device, work, s, 2, 0, 18446744073709551615)?;
+    show_runs(rt, device, work, s, 2, 5000, 3)?;
+    show_runs(rt, device, work, s, 17, 0, 10)
 }
 
-fn main() {
+fn main(rt: HostRuntime) -> io::Result<()> {
     let mut device = [0u8; 32768];
     let work = [0u8; Limits::WORK_SIZE];
     let s = Session::opened(64, Phase::Ready);
     fill_flat(&mut device);
     fill_deep(&mut device);
-    show_all(&device, &work, s);
-    show_places(&device, &work, s);
-    text(b"table block 34 staged as zeros\n");
+    show_all(&rt, &device, &work, s)?;
+    show_places(&rt, &device, &work, s)?;
+    text(&rt, b"table block 34 staged as zeros\n")?;
     let t = Session::with_cells(
         64,
         Phase::Ready,
         [Limits::INODE_START; Limits::LOG_LENGTH],
         1,
     );
-    show_all(&device, &work, t);
+    show_all(&rt, &device, &work, t)
 }

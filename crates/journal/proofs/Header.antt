@@ -9,7 +9,7 @@ use lib.ListN.{length, take, drop, get_or, length-append}
 use lib.Seq.{take-suc, length-take-le}
 use Rattle.spec.specs.Bytes.{exactly, zeros, patch, bytes2}
 use Rattle.spec.specs.Journal.{header_of}
-use Rattle.log.specs.Header.{record_of, records, records-are, length-record}
+use Rattle.logs.specs.Header.{record_of, records, records-are, length-record}
 
 -- ---- bytes laid behind others
 

@@ -39,7 +39,7 @@ use Rattle.transaction.specs.Places.{found_at}
 use Rattle.transaction.specs.declared.Place.TheVariants as places
 use Rattle.journal.proofs.Order.{Ranked, ranked, sorted-length, sorted-at}
 use Rattle.journal.proofs.Listed.{targets-listed, targets-some, listed_at}
-use Rattle.log.specs.Header.{length-header, clear-header}
+use Rattle.logs.specs.Header.{length-header, clear-header}
 use Rattle.journal.proofs.Header.{header-more}
 use Rattle.journal.proofs.Laws.{at-end, commit-none, commit-length, commit-image, commit-list, commit-target, commit-clearing, recovery-none, recovery-stores, recovery-length, redo, redo-target, redo-clearing}
 

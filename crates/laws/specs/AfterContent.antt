@@ -9,7 +9,7 @@ use Rattle.spec.specs.Inode.{inode_of, data_of, blocks_for}
 use Rattle.spec.specs.Map.{content_of}
 use Rattle.spec.specs.Plain.{new_file}
 use Rattle.block.proofs.Laws.{lt-or-le, length-exactly, get_or-exactly}
-use Rattle.log.specs.Stores.{Whole}
+use Rattle.logs.specs.Stores.{Whole}
 use Rattle.laws.specs.Soundness.{FileSound}
 use Rattle.laws.specs.Tree.{data-length}
 use Rattle.laws.specs.Content.{length-joined, zero-byte}

@@ -11,8 +11,8 @@ use Rattle.spec.specs.Bitmap.{bits_of, byte_of, bytes_of}
 use Rattle.spec.specs.Inode.{inode_bytes, name_at, is_empty, block_of_inode, place_of_inode, reached_from}
 use Rattle.spec.specs.Transaction.{BlockStore, ascending}
 use Rattle.spec.specs.Plan.{Edit, if_changed, stores_of, bitmap_edit, inode_edit}
-use Rattle.log.specs.Targets.{Fresh, Targets}
-use Rattle.log.specs.Stores.{Whole, Long, applied, over, targets_of, sorted}
+use Rattle.logs.specs.Targets.{Fresh, Targets}
+use Rattle.logs.specs.Stores.{Whole, Long, applied, over, targets_of, sorted}
 use Rattle.block.proofs.Laws.{length-patch}
 use Rattle.bitmap.specs.Words.{Below}
 use Rattle.bitmap.proofs.Laws.{length-bits, bits-binary, bits-bytes}

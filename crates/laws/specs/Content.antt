@@ -8,7 +8,7 @@ use Rattle.spec.specs.Disk.{Disk}
 use Rattle.spec.specs.Inode.{Inode, inode_of, inode_bytes, inode_at, is_empty, find, data_of}
 use Rattle.spec.specs.Map.{content_of}
 use Rattle.lists.specs.Tests.{both_true}
-use Rattle.log.specs.Stores.{Whole}
+use Rattle.logs.specs.Stores.{Whole}
 use Rattle.laws.specs.Soundness.{FileSound}
 use Rattle.laws.specs.Volume.{VolumeSound, find-some}
 use Rattle.laws.specs.Tree.{data-length}

@@ -21,7 +21,7 @@ use Rattle.spec.specs.Plain.{Plain, at}
 use Rattle.spec.specs.Sentences.{File, file_at, file_then, is_new, node_changes, bit_changes, record_changes, shortens, call_stages}
 use Rattle.spec.specs.Refusals.{lacks_room, is_scattered, name_taken, no_record, of_record}
 use Rattle.lists.specs.Tests.{not-both, false_of, eqb-turn}
-use Rattle.log.specs.Stores.{Whole, targets_of}
+use Rattle.logs.specs.Stores.{Whole, targets_of}
 use Rattle.block.proofs.Laws.{same_true}
 use Rattle.crash.specs.Interface.{planned, Makes, Plans, hindered, stages}
 use Rattle.laws.specs.Soundness.{FileSound}

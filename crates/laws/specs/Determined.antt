@@ -19,7 +19,7 @@ use Rattle.spec.specs.Sentences.{file_at}
 use Rattle.spec.specs.Refusals.{is_ready_mode, Test, first_failed, tests, due}
 use Rattle.spec.specs.CutRule.{Event, call, cut, Both, buffer_of, list_of, refusal_in, Moment, Stores, Advances, Commits, Changes, Says, Accepted, next, after, Always, Each, Rightly, Starts, start_of, CutRule}
 use Rattle.lists.specs.Tests.{both_true, not-both}
-use Rattle.log.specs.Targets.{holds}
+use Rattle.logs.specs.Targets.{holds}
 use Rattle.crash.specs.Moments.{accepted-is}
 use Rattle.crash.specs.Theorem.{bounds}
 use Rattle.laws.specs.Volume.{find-some}

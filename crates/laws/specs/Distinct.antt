@@ -6,8 +6,8 @@ use Rattle.spec.specs.Bytes.{occurs}
 use Rattle.spec.specs.Disk.{Disk}
 use Rattle.spec.specs.Transaction.{BlockStore}
 use Rattle.lists.specs.Counts.{occurs-head, occurs-at}
-use Rattle.log.specs.Targets.{Fresh, Targets}
-use Rattle.log.specs.Stores.{upd_other, upd-agree, over, targets_of, Long}
+use Rattle.logs.specs.Targets.{Fresh, Targets}
+use Rattle.logs.specs.Stores.{upd_other, upd-agree, over, targets_of, Long}
 use Rattle.laws.specs.Soundness.{Inside}
 
 pub fresh-none : (b : ℕ) (xs : List ℕ) → occurs b xs ≡ 0 → Fresh b xs

@@ -9,8 +9,8 @@ use Rattle.spec.specs.Transaction.{BlockStore, put, insert, ascending}
 use Rattle.spec.specs.Plan.{Edit, if_changed, stores_of}
 use Rattle.lists.specs.Members.{member-cons}
 use Rattle.block.proofs.Laws.{same_true}
-use Rattle.log.specs.Targets.{Fresh, Targets}
-use Rattle.log.specs.Stores.{upd_same, upd_other, Long, over, targets_of, Ascending, sorted}
+use Rattle.logs.specs.Targets.{Fresh, Targets}
+use Rattle.logs.specs.Stores.{upd_same, upd_other, Long, over, targets_of, Ascending, sorted}
 
 -- ---- the targets in ascending order
 

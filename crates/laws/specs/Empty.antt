@@ -15,7 +15,7 @@ use Rattle.spec.specs.Inode.{is_name, inode_bytes, inode_at, is_empty, block_of_
 use Rattle.spec.specs.Map.{content_of, files_of}
 use Rattle.spec.specs.Calls.{empty_bits, empty_disk}
 use Rattle.lists.specs.Tests.{both_true, not-both}
-use Rattle.log.specs.Header.{clear_zero}
+use Rattle.logs.specs.Header.{clear_zero}
 use Rattle.block.proofs.Laws.{lt-or-le, with-same, with-other}
 use Rattle.bitmap.specs.Words.{Below}
 use Rattle.bitmap.proofs.Laws.{bits-bytes}

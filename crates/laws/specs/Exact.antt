@@ -14,7 +14,7 @@ use Rattle.spec.specs.Calls.{lent_ok, Call, Format, Open, Advance, Commit, Abort
 use Rattle.spec.specs.CutRule.{refusal_in}
 use Rattle.lists.specs.Tests.{both_true}
 use Rattle.transaction.proofs.Laws.{Listed}
-use Rattle.log.specs.Targets.{holds}
+use Rattle.logs.specs.Targets.{holds}
 use Rattle.crash.specs.Interface.{FilesOn}
 use Rattle.crash.specs.Theorem.{bounds}
 use Rattle.crash.specs.Exact.{due_on, passes, plain-exact, change-exact, query-exact}

@@ -11,7 +11,7 @@ use Rattle.spec.specs.Sentences.{File, file_at, free_list, more_blocks, blocks_t
 use Rattle.lists.specs.Tests.{or-first, or-second, false_of}
 use Rattle.lists.specs.Counts.{occurs-take, occurs-drop, occurs-at}
 use Rattle.lists.specs.Members.{member-append, member-at, member-occurs, absent-occurs, occurs-member}
-use Rattle.log.specs.Staging.{member-keep}
+use Rattle.logs.specs.Staging.{member-keep}
 use Rattle.block.proofs.Laws.{lt-or-le}
 use Rattle.laws.specs.Reached.{reached-used, reached-one}
 use Rattle.laws.specs.Staged.{Extends}

@@ -11,7 +11,7 @@ use Rattle.spec.specs.Plain.{Plain}
 use Rattle.spec.specs.Refusals.{wrong_name, over_limit}
 use Rattle.spec.specs.CutRule.{CutRule}
 use Rattle.lists.specs.Tests.{both_true}
-use Rattle.log.specs.Stores.{Whole}
+use Rattle.logs.specs.Stores.{Whole}
 use Rattle.crash.specs.Interface.{Plans, FileLayer}
 use Rattle.crash.specs.Tests.{one_name, two-names}
 use Rattle.crash.specs.Theorem.{cut-rule}

@@ -10,7 +10,7 @@ use Rattle.spec.specs.Bitmap.{bits_of, free_bits}
 use Rattle.spec.specs.Inode.{reached}
 use Rattle.spec.specs.Sound.{free_blocks}
 use Rattle.lists.specs.Counts.{occurs-head}
-use Rattle.log.specs.Stores.{Whole}
+use Rattle.logs.specs.Stores.{Whole}
 use Rattle.bitmap.specs.Words.{Below}
 use Rattle.bitmap.proofs.Laws.{bits-binary}
 use Rattle.laws.specs.Soundness.{Inside, inside_of, inside-test, outside_of, outside-test}

@@ -12,7 +12,7 @@ use Rattle.spec.specs.Bitmap.{bits_of, free_bits, mark, picks}
 use Rattle.spec.specs.Inode.{reached}
 use Rattle.spec.specs.Sentences.{free_list}
 use Rattle.lists.specs.Members.{member-occurs, absent-occurs}
-use Rattle.log.specs.Stores.{Whole}
+use Rattle.logs.specs.Stores.{Whole}
 use Rattle.laws.specs.Soundness.{Inside}
 use Rattle.laws.specs.Volume.{bit, bit_count, VolumeSound}
 use Rattle.laws.specs.Reached.{bit-count}

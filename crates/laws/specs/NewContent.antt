@@ -8,8 +8,8 @@ use Rattle.spec.specs.Bytes.{all_zero, concat, zeros, quotient_up}
 use Rattle.spec.specs.Disk.{Disk}
 use Rattle.spec.specs.Plan.{overlay, clear_tail, holds_data, is_last_kept, is_staged, new_content}
 use Rattle.block.proofs.Laws.{lt-or-le, length-exactly, get_or-exactly}
-use Rattle.log.specs.Stores.{Whole}
-use Rattle.log.specs.Header.{length-clear, clear_zero}
+use Rattle.logs.specs.Stores.{Whole}
+use Rattle.logs.specs.Header.{length-clear, clear_zero}
 use Rattle.laws.specs.Content.{zero-byte}
 
 -- ---- lists

@@ -13,8 +13,8 @@ use Rattle.spec.specs.Inode.{inode_bytes, name_at, is_empty, block_of_inode, pla
 use Rattle.spec.specs.Transaction.{BlockStore, ascending}
 use Rattle.spec.specs.Plan.{if_changed, stores_of, inode_edit}
 use Rattle.lists.specs.Tests.{not-both}
-use Rattle.log.specs.Targets.{Targets}
-use Rattle.log.specs.Stores.{Whole, Long, applied, over, targets_of, sorted}
+use Rattle.logs.specs.Targets.{Targets}
+use Rattle.logs.specs.Stores.{Whole, Long, applied, over, targets_of, sorted}
 use Rattle.block.proofs.Laws.{length-patch}
 use Rattle.laws.specs.Soundness.{Inside, FileSound}
 use Rattle.laws.specs.Volume.{bit, bit_count}

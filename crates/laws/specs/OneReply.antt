@@ -15,8 +15,8 @@ use Rattle.spec.specs.Calls.{Outcome, empty_disk, Call, Open, Commit}
 use Rattle.spec.specs.Refusals.{due}
 use Rattle.spec.specs.CutRule.{call, refusal_in, start_of, CutRule}
 use Rattle.lists.specs.Tests.{both_true}
-use Rattle.log.specs.Targets.{holds}
-use Rattle.log.specs.Header.{clear-right, clear-targets}
+use Rattle.logs.specs.Targets.{holds}
+use Rattle.logs.specs.Header.{clear-right, clear-targets}
 use Rattle.crash.specs.Machine.{empty-clear, allowed-ok, clear-due}
 use Rattle.laws.specs.Starts.{empty_store, empty-sound, empty-starts}
 

@@ -21,9 +21,9 @@ use Rattle.spec.specs.Transaction.{State, BlockStore, put, state_of}
 use Rattle.spec.specs.Journal.{header_of, targets_in, are_targets, staged_stores, images_from, redo_from, clearing, commit_stores, recovery_stores}
 use Rattle.spec.specs.Calls.{Outcome, outcome, settle, lent_ok, perform, advance_in, advance, Advance, step}
 use Rattle.block.proofs.Laws.{block-length, allowed-says}
-use Rattle.log.specs.Targets.{Targets, targets_of_lem}
-use Rattle.log.specs.Stores.{Ascending}
-use Rattle.log.specs.View.{Held, list_of, staged_stores_lem, list-ascending, list_length}
+use Rattle.logs.specs.Targets.{Targets, targets_of_lem}
+use Rattle.logs.specs.Stores.{Ascending}
+use Rattle.logs.specs.View.{Held, list_of, staged_stores_lem, list-ascending, list_length}
 use Rattle.lists.specs.Tests.{both_true}
 
 -- ---- stores to blocks of the device

@@ -13,7 +13,7 @@ use Rattle.lists.specs.Tests.{both_true, or_cases, or-first, or-second, not-both
 use Rattle.lists.specs.Counts.{occurs-take, occurs-drop}
 use Rattle.lists.specs.Members.{member-append, member-at, member-occurs, occurs-member}
 use Rattle.lists.specs.All.{any_some}
-use Rattle.log.specs.Staging.{member-keep}
+use Rattle.logs.specs.Staging.{member-keep}
 use Rattle.bitmap.proofs.Laws.{occurs-append}
 use Rattle.laws.specs.Soundness.{Inside}
 use Rattle.laws.specs.Volume.{bit_count, VolumeSound}

@@ -9,7 +9,7 @@ use Rattle.spec.specs.Layout.{inode_size, inodes_per_block}
 use Rattle.spec.specs.Bytes.{part, patch}
 use Rattle.spec.specs.Disk.{Disk}
 use Rattle.spec.specs.Inode.{block_of_inode, place_of_inode, inode_bytes}
-use Rattle.log.specs.Stores.{Whole}
+use Rattle.logs.specs.Stores.{Whole}
 use Rattle.block.proofs.Laws.{lt-or-le, length-patch, patch-before, patch-after}
 
 drop-take : (k n : ℕ) (l : List ℕ) → drop k (take n l) ≡ take (n - k) (drop k l)

@@ -9,7 +9,7 @@ use Rattle.spec.specs.Disk.{Disk}
 use Rattle.spec.specs.Inode.{Inode, is_name, inode_bytes, inode_of, inode_at, name_at, is_empty, find, data_of, nodes_of, reached_from, reached}
 use Rattle.spec.specs.Map.{content_of, files_of}
 use Rattle.lists.specs.Tests.{both_true}
-use Rattle.log.specs.Stores.{Whole}
+use Rattle.logs.specs.Stores.{Whole}
 use Rattle.bitmap.proofs.Laws.{occurs-append, length-bits, bits-binary}
 use Rattle.laws.specs.Joined.{occurs-one, occurs-two, joined_same, occurs-replace, joined-some}
 use Rattle.laws.specs.Soundness.{Inside, FileSound}

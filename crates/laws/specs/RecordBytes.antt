@@ -15,7 +15,7 @@ use Rattle.spec.specs.Inode.{extent, tree_depth, inode_of, inode_at, inode_bytes
 use Rattle.spec.specs.Sound.{slots_packed}
 use Rattle.lists.specs.Tests.{both_true}
 use Rattle.lists.specs.All.{All}
-use Rattle.log.specs.Stores.{Whole}
+use Rattle.logs.specs.Stores.{Whole}
 use Rattle.bitmap.specs.Words.{Below}
 use Rattle.laws.specs.Soundness.{Counted, CountsAgree, LevelPacked, FileSound}
 use Rattle.laws.specs.Tree.{depth-cases, extents-flat, extents-deep, levels-flat, levels-deep, levels-few}

@@ -21,7 +21,7 @@ use Rattle.spec.specs.Plain.{Plain, at}
 use Rattle.spec.specs.Sentences.{File, file_at, no_file, bit_changes, record_changes, shortens, call_stages}
 use Rattle.spec.specs.Refusals.{lacks_room, is_scattered, name_unknown, of_record}
 use Rattle.lists.specs.Tests.{not-both, false_of, eqb-turn}
-use Rattle.log.specs.Stores.{Whole, applied, targets_of}
+use Rattle.logs.specs.Stores.{Whole, applied, targets_of}
 use Rattle.block.proofs.Laws.{same_true}
 use Rattle.crash.specs.Interface.{planned, Makes, Plans, hindered, stages}
 use Rattle.laws.specs.Volume.{bit, bit_count, find-some}

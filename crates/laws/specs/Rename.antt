@@ -23,7 +23,7 @@ use Rattle.spec.specs.Sentences.{File, file_at, file_then, reaches, is_new, node
 use Rattle.spec.specs.Refusals.{lacks_room, is_scattered, name_unknown, name_taken, of_record}
 use Rattle.lists.specs.Tests.{false_of, eqb-turn}
 use Rattle.lists.specs.All.{none_any}
-use Rattle.log.specs.Stores.{Whole, applied, targets_of}
+use Rattle.logs.specs.Stores.{Whole, applied, targets_of}
 use Rattle.block.proofs.Laws.{same_true}
 use Rattle.crash.specs.Interface.{planned, Makes, Plans, hindered, stages}
 use Rattle.laws.specs.Bytes.{same_of}

@@ -11,8 +11,8 @@ use Rattle.spec.specs.Map.{content_of}
 use Rattle.spec.specs.Transaction.{ascending}
 use Rattle.spec.specs.Plan.{stores_of}
 use Rattle.lists.specs.Counts.{occurs-at}
-use Rattle.log.specs.Targets.{Targets}
-use Rattle.log.specs.Stores.{Whole, Long, applied-whole, long-ascending, over, targets_of}
+use Rattle.logs.specs.Targets.{Targets}
+use Rattle.logs.specs.Stores.{Whole, Long, applied-whole, long-ascending, over, targets_of}
 use Rattle.bitmap.proofs.Laws.{occurs-append}
 use Rattle.laws.specs.Soundness.{Inside, FileSound}
 use Rattle.laws.specs.Patch.{length-record, inode-new}

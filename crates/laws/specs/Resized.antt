@@ -17,7 +17,7 @@ use Rattle.spec.specs.declared.Refusal.TheVariants.{NoSpace, TooManyExtents}
 use Rattle.spec.specs.Answers.{Result, refuse, accept, require, ◌>>=◌, ◌>>◌}
 use Rattle.spec.specs.Plan.{Tree, lowest_level, dealt, lacking, surplus, resized, fits, tree_for}
 use Rattle.spec.specs.Sentences.{File, file_at, free_list, more_blocks, blocks_then, extent_count, nodes_wanted, more_nodes, nodes_then}
-use Rattle.log.specs.Stores.{Whole}
+use Rattle.logs.specs.Stores.{Whole}
 use Rattle.block.proofs.Laws.{lt-or-le}
 use Rattle.bitmap.proofs.Laws.{occurs-append, bits-binary}
 use Rattle.laws.specs.Soundness.{FileSound}

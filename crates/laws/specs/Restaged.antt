@@ -14,7 +14,7 @@ use Rattle.spec.specs.Inode.{inode_bytes, inode_of, inode_at, inode_with, bytes_
 use Rattle.spec.specs.Plan.{Tree, resized}
 use Rattle.spec.specs.Sentences.{File, file_at, more_blocks, blocks_then, more_nodes, nodes_then, sized_to, record_changes}
 use Rattle.lists.specs.Tests.{and_both, both_true, not-both, false_of}
-use Rattle.log.specs.Stores.{Whole}
+use Rattle.logs.specs.Stores.{Whole}
 use Rattle.block.proofs.Laws.{same_self, same_true}
 use Rattle.bitmap.specs.Words.{Below}
 use Rattle.laws.specs.Bytes.{same_of}

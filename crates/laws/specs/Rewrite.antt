@@ -11,7 +11,7 @@ use Rattle.spec.specs.Bitmap.{bits_of}
 use Rattle.spec.specs.Inode.{reached_from}
 use Rattle.spec.specs.Plan.{Edit, stores_of, lowest_level, node_edits, level_edits, is_staged, new_content, data_edits}
 use Rattle.lists.specs.Counts.{occurs-at}
-use Rattle.log.specs.Stores.{Long, over, targets_of}
+use Rattle.logs.specs.Stores.{Long, over, targets_of}
 use Rattle.bitmap.proofs.Laws.{occurs-append}
 use Rattle.laws.specs.Soundness.{Inside}
 use Rattle.laws.specs.Volume.{bit}

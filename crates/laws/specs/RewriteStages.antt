@@ -15,7 +15,7 @@ use Rattle.spec.specs.Plain.{changed_files}
 use Rattle.spec.specs.Sentences.{File, file_at, file_then, record_for, sized_to, is_new, node_changes, bit_changes, record_changes, shortens, call_stages}
 use Rattle.lists.specs.Tests.{eqb-turn}
 use Rattle.lists.specs.Members.{member-append}
-use Rattle.log.specs.Stores.{targets_of}
+use Rattle.logs.specs.Stores.{targets_of}
 use Rattle.crash.specs.Interface.{Makes}
 use Rattle.laws.specs.Good.{Good}
 use Rattle.laws.specs.Tree.{levels-few}

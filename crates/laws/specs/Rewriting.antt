@@ -13,7 +13,7 @@ use Rattle.spec.specs.Map.{content_of}
 use Rattle.spec.specs.Transaction.{BlockStore, ascending}
 use Rattle.spec.specs.Plan.{Tree, Edit, stores_of, resized, level_edits, is_staged, new_content, data_edits}
 use Rattle.spec.specs.Sentences.{file_at, more_blocks, blocks_then, extent_count, more_nodes}
-use Rattle.log.specs.Stores.{Whole, applied}
+use Rattle.logs.specs.Stores.{Whole, applied}
 use Rattle.bitmap.proofs.Laws.{occurs-append}
 use Rattle.laws.specs.Soundness.{Inside, FileSound, inside_of, outside_of}
 use Rattle.laws.specs.Volume.{bit, bit_count, find-some}

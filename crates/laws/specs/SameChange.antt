@@ -19,9 +19,9 @@ use Rattle.lists.specs.Tests.{both_true, or-second, not-both, false_of}
 use Rattle.lists.specs.Members.{member-cons, member-append, member-at, occurs-member}
 use Rattle.lists.specs.Places.{place-value, no_place}
 use Rattle.block.proofs.Laws.{lt-or-le}
-use Rattle.log.specs.Targets.{holds}
-use Rattle.log.specs.Stores.{Whole}
-use Rattle.log.specs.Staging.{member-keep}
+use Rattle.logs.specs.Targets.{holds}
+use Rattle.logs.specs.Stores.{Whole}
+use Rattle.logs.specs.Staging.{member-keep}
 use Rattle.laws.specs.Volume.{bit_count, VolumeSound, find-some}
 use Rattle.laws.specs.Frame.{Agree, data-frame, nodes-frame}
 use Rattle.laws.specs.Reached.{bit-count, kept-inode, kept-name}

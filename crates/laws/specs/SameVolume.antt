@@ -18,7 +18,7 @@ use Rattle.spec.specs.Sentences.{File, file_at, node_content}
 use Rattle.lists.specs.Tests.{and_both}
 use Rattle.lists.specs.Members.{member-place, occurs-member}
 use Rattle.block.proofs.Laws.{lt-or-le}
-use Rattle.log.specs.Stores.{Whole}
+use Rattle.logs.specs.Stores.{Whole}
 use Rattle.bitmap.specs.Words.{Below}
 use Rattle.bitmap.proofs.Laws.{bytes_bits, occurs-append}
 use Rattle.laws.specs.Bytes.{below-drop, record-small}

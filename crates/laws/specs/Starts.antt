@@ -24,8 +24,8 @@ use Rattle.spec.specs.CutRule.{Starts}
 use Rattle.lists.specs.Tests.{and_both}
 use Rattle.lists.specs.Lowest.{lowest-none}
 use Rattle.block.proofs.Laws.{block-length, allowed-says}
-use Rattle.log.specs.Targets.{truth}
-use Rattle.log.specs.Header.{clear_zero}
+use Rattle.logs.specs.Targets.{truth}
+use Rattle.logs.specs.Header.{clear_zero}
 use Rattle.crash.specs.Machine.{empty-clear, empty-whole, allowed-ok}
 use Rattle.crash.specs.Theorem.{bounds}
 use Rattle.laws.specs.Content.{zero-byte}

@@ -17,10 +17,10 @@ use Rattle.spec.specs.CutRule.{Event, Both, next, Always, Starts, start_of}
 use Rattle.lists.specs.Tests.{both_true}
 use Rattle.lists.specs.Places.{place-lt}
 use Rattle.transaction.proofs.Laws.{shown}
-use Rattle.log.specs.Stores.{Whole}
-use Rattle.log.specs.Targets.{holds, truth}
-use Rattle.log.specs.Header.{clear-block}
-use Rattle.log.specs.View.{Held, numbered, view-is}
+use Rattle.logs.specs.Stores.{Whole}
+use Rattle.logs.specs.Targets.{holds, truth}
+use Rattle.logs.specs.Header.{clear-block}
+use Rattle.logs.specs.View.{Held, numbered, view-is}
 use Rattle.crash.specs.Interface.{FilesOn}
 use Rattle.crash.specs.Machine.{ses, at, ses-none, ses-staged}
 use Rattle.crash.specs.Invariant.{Rest, settled, logged, Inv, closed}

@@ -11,9 +11,9 @@ use Rattle.spec.specs.Plan.{Edit, edit, if_changed, stores_of, lowest_level, nod
 use Rattle.lists.specs.Counts.{occurs-head}
 use Rattle.block.proofs.Laws.{length-exactly}
 use Rattle.bitmap.proofs.Laws.{occurs-append}
-use Rattle.log.specs.Targets.{Fresh}
-use Rattle.log.specs.Header.{map-up}
-use Rattle.log.specs.Stores.{upd_same, upd_other, Long, over}
+use Rattle.logs.specs.Targets.{Fresh}
+use Rattle.logs.specs.Header.{map-up}
+use Rattle.logs.specs.Stores.{upd_same, upd_other, Long, over}
 use Rattle.laws.specs.Edits.{blocks_of, changed-own, changed-other, changed-long, over-fresh}
 use Rattle.laws.specs.Readback.{Filled}
 use Rattle.laws.specs.Distinct.{fresh-none, head-once, long-append}

@@ -11,7 +11,7 @@ use Rattle.spec.specs.Inode.{inode_bytes, name_at, is_empty, find, reached}
 use Rattle.spec.specs.Sound.{first_of_name, file_sound, inode_sound, inode_fault, block_sound, bit_fault, block_fault, volume_sound}
 use Rattle.lists.specs.Tests.{and_both, both_true, not-both, false_of}
 use Rattle.lists.specs.Lowest.{lowest-some, lowest-none, lowest-only, lowest-no, lowest-agree}
-use Rattle.log.specs.Targets.{holds, truth}
+use Rattle.logs.specs.Targets.{holds, truth}
 use Rattle.block.proofs.Laws.{same_true}
 use Rattle.laws.specs.Bytes.{same_of}
 use Rattle.laws.specs.Soundness.{Inside, FileSound, inside_of, inside-test, outside_of, outside-test, file-of, file-test}

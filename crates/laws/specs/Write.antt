@@ -17,7 +17,7 @@ use Rattle.spec.specs.Calls.{Change, Write, SetSize, Do}
 use Rattle.spec.specs.Plain.{Plain}
 use Rattle.spec.specs.Sentences.{file_at, record_for, size_for, call_stages}
 use Rattle.spec.specs.Refusals.{lacks_room, is_scattered, name_unknown, name_taken, no_record, of_record}
-use Rattle.log.specs.Stores.{Whole}
+use Rattle.logs.specs.Stores.{Whole}
 use Rattle.crash.specs.Interface.{rewritten, planned, Makes, Plans, hindered, stages}
 use Rattle.laws.specs.Soundness.{FileSound}
 use Rattle.laws.specs.Volume.{find-some}

@@ -1,1 +1,2 @@
 // Laws of files on a disk: what soundness says, what a tree reads, what the cut rule asks of files, in specs/. No code.
+#![tactic(auto)]

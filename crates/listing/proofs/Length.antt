@@ -25,7 +25,7 @@ use Rattle.spec.specs.Journal.{targets_in, header_fault}
 use Rattle.spec.specs.Calls.{left}
 use Rattle.spec.specs.Listing.{files_word, free_word, refused_word, recover_word, digits, hexadecimal, opened_text, outcome_text, listing}
 use Rattle.block.proofs.Laws.{lt-or-le, block-length, allowed-says}
-use Rattle.log.specs.Targets.{truth}
+use Rattle.logs.specs.Targets.{truth}
 use Rattle.laws.specs.Volume.{volume-sound}
 use Rattle.laws.specs.Free.{reached-few}
 use Rattle.extents.proofs.Laws.{runs-few}

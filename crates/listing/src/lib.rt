@@ -1,4 +1,6 @@
 // The listing of a device image: what the program purselist prints.
+#![tactic(auto)]
+
 ghost use Rattle.std.specs.Prelude.{◌≡◌, cond, ◌<◌, length};
 ghost use Rattle.spec.specs.Disk.{blocks_of};
 ghost use Rattle.spec.specs.Inode.{is_empty};

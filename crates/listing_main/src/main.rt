@@ -1,7 +1,9 @@
 // Prints what purselist prints for images built by hand: E3 of document 01, files with extent blocks, a log to recover, and images that are refused.
-use libc::STDOUT_FILENO;
+#![tactic(auto)]
+
 use listing::{LISTING_SIZE, list_image};
 use spec::{Limits, Session};
+use std::io;
 
 // The blocks named below: the last of the log, the bitmap, the first of the data.
 const LAST_LOG: u16 = Limits::LOG_LENGTH as u16;
@@ -90,79 +92,79 @@ fn files() -> [u8; 32768] {
 }
 
 // The listing as far as some lent bytes take it.
-fn show_in(title: &[u8], image: &[u8], out: &mut [u8]) {
-    io::write_all(STDOUT_FILENO, title);
-    io::write_all(STDOUT_FILENO, b":\n");
+fn show_in(rt: &impl Print, title: &[u8], image: &[u8], out: &mut [u8]) -> io::Result<()> {
+    rt.write_all(title)?;
+    rt.write_all(b":\n")?;
     let n = list_image(image, out);
-    io::write_all(STDOUT_FILENO, &out[..n]);
+    rt.write_all(&out[..n])
 }
 
-fn show(title: &[u8], image: &[u8]) {
+fn show(rt: &impl Print, title: &[u8], image: &[u8]) -> io::Result<()> {
     let mut out = [0u8; LISTING_SIZE];
-    show_in(title, image, &mut out);
+    show_in(rt, title, image, &mut out)
 }
 
-fn show_cut(title: &[u8], image: &[u8]) {
+fn show_cut(rt: &impl Print, title: &[u8], image: &[u8]) -> io::Result<()> {
     let mut out = [0u8; 20];
-    show_in(title, image, &mut out);
-    io::write_all(STDOUT_FILENO, b"\n");
+    show_in(rt, title, image, &mut out)?;
+    rt.write_all(b"\n")
 }
 
-fn show_device(title: &[u8], store: &[u8; 32768]) {
+fn show_device(rt: &impl Print, title: &[u8], store: &[u8; 32768]) -> io::Result<()> {
     let device: &[u8] = store;
-    show(title, device);
+    show(rt, title, device)
 }
 
 // The files with one byte changed.
-fn broken(title: &[u8], at: usize, byte: u8) {
+fn broken(rt: &impl Print, title: &[u8], at: usize, byte: u8) -> io::Result<()> {
     let mut device = files();
     set(&mut device, at, byte);
-    show_device(title, &device);
+    show_device(rt, title, &device)
 }
 
 // The header lists two targets.
-fn logged(title: &[u8], first: u16, second: u16) {
+fn logged(rt: &impl Print, title: &[u8], first: u16, second: u16) -> io::Result<()> {
     let mut device = files();
     set2(&mut device, 0, first);
     set2(&mut device, 16, second);
-    show_device(title, &device);
+    show_device(rt, title, &device)
 }
 
 // Images that are no device of an allowed length, or too long a one.
-fn lengths() {
+fn lengths(rt: &impl Print) -> io::Result<()> {
     let device = empty();
     let odd = [0u8; 32767];
     let short = [0u8; 32256];
     let long = [0u8; 66048];
-    show(b"no byte", &device[..0]);
-    show(b"32,767 bytes", &odd);
-    show(b"63 blocks", &short);
-    show(b"129 blocks", &long);
+    show(rt, b"no byte", &device[..0])?;
+    show(rt, b"32,767 bytes", &odd)?;
+    show(rt, b"63 blocks", &short)?;
+    show(rt, b"129 blocks", &long)
 }
 
 // Each of S1 to S8 broken once.
-fn unsound() {
-    broken(b"S1 a bit of the log is 0", 16896, 247);
-    broken(b"S2 a name twice", 17472, 171);
-    broken(b"S3 depth 2", 17484, 2);
-    broken(b"S4 an extent past the end", 22544, 64);
-    broken(b"S5 size against count", 17417, 0);
-    broken(b"S6 extents that touch", 22536, 49);
-    broken(b"S7 a block not reached, its bit 1", 16903, 208);
-    broken(b"S8 a byte after the size", 22204, 1);
+fn unsound(rt: &impl Print) -> io::Result<()> {
+    broken(rt, b"S1 a bit of the log is 0", 16896, 247)?;
+    broken(rt, b"S2 a name twice", 17472, 171)?;
+    broken(rt, b"S3 depth 2", 17484, 2)?;
+    broken(rt, b"S4 an extent past the end", 22544, 64)?;
+    broken(rt, b"S5 size against count", 17417, 0)?;
+    broken(rt, b"S6 extents that touch", 22536, 49)?;
+    broken(rt, b"S7 a block not reached, its bit 1", 16903, 208)?;
+    broken(rt, b"S8 a byte after the size", 22204, 1)
 }
 
-fn main() {
+fn main(rt: HostRuntime) -> io::Result<()> {
     let none = empty();
-    show(b"empty", &none);
+    show(&rt, b"empty", &none)?;
     let one = e3();
-    show(b"E3 committed", &one);
+    show(&rt, b"E3 committed", &one)?;
     let some = files();
-    show(b"four files", &some);
-    show_cut(b"four files in 20 bytes", &some);
-    logged(b"a log of two blocks", BITMAP, DATA);
-    logged(b"a log of a block twice", BITMAP, BITMAP);
-    logged(b"a log of a log block", LAST_LOG, BITMAP);
-    lengths();
-    unsound();
+    show(&rt, b"four files", &some)?;
+    show_cut(&rt, b"four files in 20 bytes", &some)?;
+    logged(&rt, b"a log of two blocks", BITMAP, DATA)?;
+    logged(&rt, b"a log of a block twice", BITMAP, BITMAP)?;
+    logged(&rt, b"a log of a log block", LAST_LOG, BITMAP)?;
+    lengths(&rt)?;
+    unsound(&rt)
 }

@@ -1,1 +1,2 @@
 // Laws of the list helpers of crate spec, in specs/. No code.
+#![tactic(auto)]

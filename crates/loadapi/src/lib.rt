@@ -1,5 +1,7 @@
 // The calls of a load for C, on a session in its numbers, as those of crate capi are. They have a static library of their own, so that the code of the
 // other calls stays as it is. What the numbers of an answer mean is defined in specs/Loads.antt.
+#![tactic(auto)]
+
 ghost use Rattle.std.specs.Prelude.{◌≡◌};
 ghost use Rattle.spec.specs.Answers.{refusal_of, stored_of};
 ghost use Rattle.spec.specs.Transaction.{state_of};
@@ -14,7 +16,7 @@ use spec::{Done, Limits, Refusal, Session, Stored};
 // A step. kind: 0 refused, 1 a line was taken up, 2 an advance was made, 3 no line is left. line: the line refused, else 0; stores: of a line; block,
 // last, number: of an advance, all 0 where nothing is under way; next: the load's place behind the step.
 #[repr(C)]
-#[derive(Drop)]
+#[derive(Clone, Copy)]
 pub struct CLoaded {
     pub refusal: u32,
     pub kind: u32,

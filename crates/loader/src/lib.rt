@@ -1,5 +1,7 @@
 // Loads the lines of a text into a store, step by step. A load is a place in the text and nothing else. The store is known by the promises of its
 // calls alone: what a line does to it is create, write and commit.
+#![tactic(auto)]
+
 ghost use Rattle.std.specs.Prelude.{◌≡◌, [], length};
 ghost use Rattle.spec.specs.Disk.{slice_of, blocks_of};
 ghost use Rattle.spec.specs.Session.{staged_in};
@@ -17,7 +19,7 @@ use spec::{ByteOffset, Committed, Done, Limits, Phase, Refusal, Session, Started
 use store::{advance, commit, create, write};
 
 // What a step answers: loaded_of in specs/Load.antt. A line is named by its number, counted from 1.
-#[derive(Drop)]
+#[derive(Clone, Copy)]
 pub enum Loaded {
     Refused(Refusal),
     LineRefused(usize, Refusal),
@@ -29,7 +31,7 @@ pub enum Loaded {
 }
 
 // A step's answer, the session, and the load's place in the text.
-#[derive(Drop)]
+#[derive(Clone, Copy)]
 pub struct LoadStep {
     pub session: Session,
     pub answer: Loaded,

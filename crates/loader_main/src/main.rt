@@ -1,17 +1,19 @@
 // Runs loads on devices of 64 blocks: what each step answers, and whether a refused step leaves the device and the work space as they were.
-use libc::STDOUT_FILENO;
+#![tactic(auto)]
+
 use loader::{LoadStep, Loaded, begin, step};
 use spec::{Done, Limits, Phase, Refusal, Session, Started, Stored};
+use std::io;
 
 // ---- text
 
-fn say(text: &[u8]) {
-    io::write_all(STDOUT_FILENO, text);
+fn say(rt: &impl Print, text: &[u8]) -> io::Result<()> {
+    rt.write_all(text)
 }
 
-fn number(n: usize) {
-    say(b" ");
-    io::print_decimal(STDOUT_FILENO, n as u64);
+fn number(rt: &impl Print, n: usize) -> io::Result<()> {
+    say(rt, b" ")?;
+    rt.print(n)
 }
 
 // The numbers of document 01.
@@ -34,75 +36,57 @@ fn refusal_number(why: Refusal) -> usize {
     }
 }
 
-fn refused(n: usize) {
-    say(b" refused");
-    number(n);
+fn refused(rt: &impl Print, n: usize) -> io::Result<()> {
+    say(rt, b" refused")?;
+    number(rt, n)
 }
 
-fn line_refused(n: usize, line: usize) {
-    refused(n);
-    say(b", line");
-    number(line);
+fn line_refused(rt: &impl Print, n: usize, line: usize) -> io::Result<()> {
+    refused(rt, n)?;
+    say(rt, b", line")?;
+    number(rt, line)
 }
 
 // The block stored.
-fn stored(a: Stored) {
+fn stored(rt: &impl Print, a: Stored) -> io::Result<()> {
     match a {
-        Stored::Refused(why) => {
-            refused(refusal_number(why));
-        }
+        Stored::Refused(why) => refused(rt, refusal_number(why)),
         Stored::Stored {
             block,
             last: _,
             number: _,
-        } => {
-            number(block.0 as usize);
-        }
-        Stored::Idle => {
-            say(b" idle");
-        }
+        } => number(rt, block.0 as usize),
+        Stored::Idle => say(rt, b" idle"),
     }
 }
 
-fn told(a: Loaded) {
+fn told(rt: &impl Print, a: Loaded) -> io::Result<()> {
     match a {
-        Loaded::Refused(why) => {
-            refused(refusal_number(why));
-        }
-        Loaded::LineRefused(line, why) => {
-            line_refused(refusal_number(why), line);
-        }
-        Loaded::TooLong(line) => {
-            line_refused(20, line);
-        }
-        Loaded::Malformed(line) => {
-            line_refused(21, line);
-        }
+        Loaded::Refused(why) => refused(rt, refusal_number(why)),
+        Loaded::LineRefused(line, why) => line_refused(rt, refusal_number(why), line),
+        Loaded::TooLong(line) => line_refused(rt, 20, line),
+        Loaded::Malformed(line) => line_refused(rt, 21, line),
         Loaded::Started(n) => {
-            say(b" started");
-            number(n);
-            say(b":");
+            say(rt, b" started")?;
+            number(rt, n)?;
+            say(rt, b":")
         }
-        Loaded::Advanced(a) => {
-            stored(a);
-        }
-        Loaded::NoneLeft => {
-            say(b" none left");
-        }
+        Loaded::Advanced(a) => stored(rt, a),
+        Loaded::NoneLeft => say(rt, b" none left"),
     }
 }
 
-fn may_begin<'a>(device: &'a [u8], work: &'a [u8], s: Session) {
-    say(b" begin");
+fn may_begin<'a>(rt: &impl Print, device: &'a [u8], work: &'a [u8], s: Session) -> io::Result<()> {
+    say(rt, b" begin")?;
     match begin(device, work, s) {
         Done::Refused(why) => {
-            refused(refusal_number(why));
+            refused(rt, refusal_number(why))?;
         }
         Done::Done => {
-            say(b" done");
+            say(rt, b" done")?;
         }
     }
-    say(b",");
+    say(rt, b",")
 }
 
 // ---- steps
@@ -124,29 +108,30 @@ fn same(x: &[u8], y: &[u8]) -> bool {
 
 // n steps from a place, each told.
 fn steps(
+    rt: &impl Print,
     device: &mut [u8],
     work: &mut [u8],
     s: Session,
     text: &[u8],
     at: usize,
     n: usize,
-) -> LoadStep {
+) -> io::Result<LoadStep> {
     let mut t = s;
     let mut p = at;
     let mut k: usize = 0;
     while k < n {
         let r = step(device, work, t, text, p);
         let a = r.answer;
-        told(a);
+        told(rt, a)?;
         t = r.session;
         p = r.next;
         k += 1;
     }
-    LoadStep {
+    Ok(LoadStep {
         session: t,
         answer: Loaded::NoneLeft,
         next: p,
-    }
+    })
 }
 
 // n advances with no word.
@@ -181,7 +166,7 @@ fn make(device: &[u8], work: &mut [u8], s: Session, name: &[u8], size: usize) ->
 // ---- a box of 64 blocks
 
 // What is lent to the calls.
-#[derive(Drop)]
+#[derive(Clone, Copy)]
 struct Till {
     device: [u8; 32768],
     work: [u8; Limits::WORK_SIZE],
@@ -203,27 +188,32 @@ impl Till {
     }
 
     // One step that is told.
-    fn step(self, s: Session, text: &[u8], at: usize) -> [u8; Limits::WORK_SIZE] {
+    fn step(
+        self,
+        rt: &impl Print,
+        s: Session,
+        text: &[u8],
+        at: usize,
+    ) -> io::Result<[u8; Limits::WORK_SIZE]> {
         let mut device = self.device;
         let mut work = self.work;
         let r = step(&mut device, &mut work, s, text, at);
         let a = r.answer;
-        told(a);
-        say(b", next");
-        number(r.next);
-        say(b"\n");
-        work
+        told(rt, a)?;
+        say(rt, b", next")?;
+        number(rt, r.next)?;
+        say(rt, b"\n")?;
+        Ok(work)
     }
 
     // With the work space before and behind it compared.
-    fn step_kept(self, text: &[u8], at: usize) {
-        let work = self.step(self.session, text, at);
-        say(b"its work space:");
+    fn step_kept(self, rt: &impl Print, text: &[u8], at: usize) -> io::Result<()> {
+        let work = self.step(rt, self.session, text, at)?;
+        say(rt, b"its work space:")?;
         if same(&work, &self.work) {
-            say(b" kept\n");
-            return;
+            return say(rt, b" kept\n");
         }
-        say(b" changed\n");
+        say(rt, b" changed\n")
     }
 
     // With a file of this size, committed.
@@ -240,88 +230,103 @@ impl Till {
     }
 
     // A line that is refused, twice, and the place behind it.
-    fn third(self, text: &[u8], at: usize) {
-        say(b"the third:");
-        self.step(self.session, text, at);
-        say(b"and again:");
-        self.step(self.session, text, at);
-        say(b"behind the last:");
-        self.step(self.session, text, text.len());
+    fn third(self, rt: &impl Print, text: &[u8], at: usize) -> io::Result<()> {
+        say(rt, b"the third:")?;
+        self.step(rt, self.session, text, at)?;
+        say(rt, b"and again:")?;
+        self.step(rt, self.session, text, at)?;
+        say(rt, b"behind the last:")?;
+        self.step(rt, self.session, text, text.len())?;
+        Ok(())
     }
 
     // A load while a commit is under way.
-    fn under_way(self, text: &[u8]) {
+    fn under_way(self, rt: &impl Print, text: &[u8]) -> io::Result<()> {
         let mut device = self.device;
         let mut work = self.work;
         let c = store::commit(&device, &work, self.session);
-        say(b"its commit under way:");
-        self.begin(c.session);
-        go_on(&mut device, &mut work, c.session, text);
+        say(rt, b"its commit under way:")?;
+        self.begin(rt, c.session)?;
+        go_on(rt, &mut device, &mut work, c.session, text)
     }
 
-    fn begin(self, s: Session) {
-        may_begin(&self.device, &self.work, s);
+    fn begin(self, rt: &impl Print, s: Session) -> io::Result<()> {
+        may_begin(rt, &self.device, &self.work, s)
     }
 }
 
 // ---- examples
 
 // Two lines with their stores.
-fn two_lines(device: &mut [u8], work: &mut [u8], s: Session, text: &[u8]) -> LoadStep {
-    let a = steps(device, work, s, text, 0, 9);
-    say(b"\nthe second:");
-    let b = steps(device, work, a.session, text, a.next, 9);
-    say(b"\n");
-    b
+fn two_lines(
+    rt: &impl Print,
+    device: &mut [u8],
+    work: &mut [u8],
+    s: Session,
+    text: &[u8],
+) -> io::Result<LoadStep> {
+    let a = steps(rt, device, work, s, text, 0, 9)?;
+    say(rt, b"\nthe second:")?;
+    let b = steps(rt, device, work, a.session, text, a.next, 9)?;
+    say(rt, b"\n")?;
+    Ok(b)
 }
 
-fn three_lines(t: Till, text: &[u8]) {
+fn three_lines(rt: &impl Print, t: Till, text: &[u8]) -> io::Result<()> {
     let mut device = t.device;
     let mut work = t.work;
-    say(b"three lines:");
-    t.begin(t.session);
-    let r = two_lines(&mut device, &mut work, t.session, text);
+    say(rt, b"three lines:")?;
+    t.begin(rt, t.session)?;
+    let r = two_lines(rt, &mut device, &mut work, t.session, text)?;
     let s = r.session;
     let u = Till {
         device: device,
         work: work,
         session: s,
     };
-    u.third(text, r.next);
+    u.third(rt, text, r.next)
 }
 
 // 12 comes before any line, also where none is left.
-fn closed(t: Till, text: &[u8]) {
-    say(b"never opened:");
-    t.begin(Session::never_opened());
-    t.step(Session::never_opened(), text, 0);
-    say(b"closed:");
-    t.begin(Session::closed_on(64));
-    t.step(Session::closed_on(64), text, 0);
+fn closed(rt: &impl Print, t: Till, text: &[u8]) -> io::Result<()> {
+    say(rt, b"never opened:")?;
+    t.begin(rt, Session::never_opened())?;
+    t.step(rt, Session::never_opened(), text, 0)?;
+    say(rt, b"closed:")?;
+    t.begin(rt, Session::closed_on(64))?;
+    t.step(rt, Session::closed_on(64), text, 0)?;
+    Ok(())
 }
 
-fn recovering(t: Till, text: &[u8]) {
-    say(b"closed, no line left:");
-    t.step(Session::closed_on(64), text, 16);
-    say(b"recovering:");
-    t.begin(Session::opened(64, Phase::Recovering(0)));
-    t.step(Session::opened(64, Phase::Recovering(0)), text, 0);
+fn recovering(rt: &impl Print, t: Till, text: &[u8]) -> io::Result<()> {
+    say(rt, b"closed, no line left:")?;
+    t.step(rt, Session::closed_on(64), text, 16)?;
+    say(rt, b"recovering:")?;
+    t.begin(rt, Session::opened(64, Phase::Recovering(0)))?;
+    t.step(rt, Session::opened(64, Phase::Recovering(0)), text, 0)?;
+    Ok(())
 }
 
 // The four stores of a commit of one block, then a line with its stores.
-fn go_on(device: &mut [u8], work: &mut [u8], s: Session, text: &[u8]) {
-    let a = steps(device, work, s, text, 0, 4);
-    say(b", next");
-    number(a.next);
-    say(b", then");
-    let b = steps(device, work, a.session, text, a.next, 9);
-    say(b", next");
-    number(b.next);
-    say(b"\n");
+fn go_on(
+    rt: &impl Print,
+    device: &mut [u8],
+    work: &mut [u8],
+    s: Session,
+    text: &[u8],
+) -> io::Result<()> {
+    let a = steps(rt, device, work, s, text, 0, 4)?;
+    say(rt, b", next")?;
+    number(rt, a.next)?;
+    say(rt, b", then")?;
+    let b = steps(rt, device, work, a.session, text, a.next, 9)?;
+    say(rt, b", next")?;
+    number(rt, b.next)?;
+    say(rt, b"\n")
 }
 
 // A file made by the caller: staged, then its commit under way.
-fn foreign(t: Till, text: &[u8]) {
+fn foreign(rt: &impl Print, t: Till, text: &[u8]) -> io::Result<()> {
     let device = t.device;
     let mut work = t.work;
     let s = make(&device, &mut work, t.session, b"ABCDEFGH", 0);
@@ -330,43 +335,47 @@ fn foreign(t: Till, text: &[u8]) {
         work: work,
         session: s,
     };
-    say(b"staged:");
-    u.begin(s);
-    u.step(s, text, 0);
-    u.under_way(text);
+    say(rt, b"staged:")?;
+    u.begin(rt, s)?;
+    u.step(rt, s, text, 0)?;
+    u.under_way(rt, text)
 }
 
-fn no_lines(t: Till) {
-    say(b"empty file:");
-    t.step(t.session, b"", 0);
-    say(b"one feed:");
-    t.step(t.session, b"\n", 0);
+fn no_lines(rt: &impl Print, t: Till) -> io::Result<()> {
+    say(rt, b"empty file:")?;
+    t.step(rt, t.session, b"", 0)?;
+    say(rt, b"one feed:")?;
+    t.step(rt, t.session, b"\n", 0)?;
+    Ok(())
 }
 
-fn bad_lines(t: Till) {
-    say(b"small letters:");
-    t.step(t.session, b"04A1B2C3;H;1\n04a1b2c3;H;1\n", 13);
-    say(b"no feed:");
-    t.step(t.session, b"04A1B2C3;H;1\n04A1B2C4;H;1", 13);
+fn bad_lines(rt: &impl Print, t: Till) -> io::Result<()> {
+    say(rt, b"small letters:")?;
+    t.step(rt, t.session, b"04A1B2C3;H;1\n04a1b2c3;H;1\n", 13)?;
+    say(rt, b"no feed:")?;
+    t.step(rt, t.session, b"04A1B2C3;H;1\n04A1B2C4;H;1", 13)?;
+    Ok(())
 }
 
-fn long_line(t: Till) {
-    say(b"65 bytes:");
+fn long_line(rt: &impl Print, t: Till) -> io::Result<()> {
+    say(rt, b"65 bytes:")?;
     t.step(
+        rt,
         t.session,
         b"04A1B2C3;H;1\n\n01234567890123456789012345678901234567890123456789012345678901234\n",
         14,
-    );
+    )?;
+    Ok(())
 }
 
 // 22 data blocks, all in one file.
-fn no_room(t: Till) {
+fn no_room(rt: &impl Print, t: Till) -> io::Result<()> {
     let u = t.file(b"ABCDEFGH", 10752);
-    say(b"one block free:");
-    u.step(u.session, b"04A1B2C3;H;1250\n", 0);
+    say(rt, b"one block free:")?;
+    u.step(rt, u.session, b"04A1B2C3;H;1250\n", 0)?;
     let v = t.file(b"ABCDEFGH", 11264);
-    say(b"no block free:");
-    v.step_kept(b"\n04A1B2C3;H;1250\n", 1);
+    say(rt, b"no block free:")?;
+    v.step_kept(rt, b"\n04A1B2C3;H;1250\n", 1)
 }
 
 // Files with the names 0 to n - 1 and seven bytes more.
@@ -382,8 +391,8 @@ fn create_all(device: &[u8], work: &mut [u8], s: Session, n: u8) -> Session {
     t
 }
 
-fn all_records(t: Till) {
-    say(b"128 records:");
+fn all_records(rt: &impl Print, t: Till) -> io::Result<()> {
+    say(rt, b"128 records:")?;
     let mut device = t.device;
     let mut work = t.work;
     let r = create_all(&device, &mut work, t.session, 128);
@@ -393,21 +402,22 @@ fn all_records(t: Till) {
         work: work,
         session: s,
     };
-    u.step_kept(b"04A1B2C3;H;1250\n", 0);
+    u.step_kept(rt, b"04A1B2C3;H;1250\n", 0)
 }
 
-fn main() {
+fn main(rt: HostRuntime) -> io::Result<()> {
     let t = Till::empty();
     three_lines(
+        &rt,
         t,
         b"04A1B2C3;H;1250\n69495546249912580;D;5\n3283263748;D;9\n",
-    );
-    closed(t, b"04A1B2C3;H;1250\n");
-    recovering(t, b"04A1B2C3;H;1250\n");
-    foreign(t, b"04A1B2C3;H;1250\n");
-    no_lines(t);
-    bad_lines(t);
-    long_line(t);
-    no_room(t);
-    all_records(t);
+    )?;
+    closed(&rt, t, b"04A1B2C3;H;1250\n")?;
+    recovering(&rt, t, b"04A1B2C3;H;1250\n")?;
+    foreign(&rt, t, b"04A1B2C3;H;1250\n")?;
+    no_lines(&rt, t)?;
+    bad_lines(&rt, t)?;
+    long_line(&rt, t)?;
+    no_room(&rt, t)?;
+    all_records(&rt, t)
 }

@@ -1,4 +1,6 @@
 // A file looked up by its name, behind the tests at the head of a call.
+#![tactic(auto)]
+
 ghost use Rattle.std.specs.Prelude.{◌≡◌, ◌+◌, ◌*◌, ◌≤◌, length};
 ghost use Rattle.spec.specs.declared.Session.{Session};
 ghost use Rattle.spec.specs.Session.{staged_in};
@@ -13,7 +15,7 @@ use spec::{ByteOffset, Limits, Phase, Refusal};
 use transaction::staged_in;
 
 // The record of the file, or the first test that failed.
-#[derive(Drop)]
+#[derive(Clone, Copy)]
 pub enum Looked {
     At(usize),
     Bad(Refusal),

@@ -1,4 +1,6 @@
 // S1 and S7: the blocks that files reach are marked in two tables, one bit to a block, and compared with the bitmap.
+#![tactic(auto)]
+
 ghost use Rattle.std.specs.Prelude.{◌≡◌, [], ◌∷◌, ℕ, ◌+◌, ◌%◌, ◌≤◌, ◌<◌, min, max, eqb};
 ghost use Rattle.spec.specs.Bytes.{up_from};
 ghost use Rattle.mkfs.specs.Table.{Cleared};

@@ -1,4 +1,6 @@
 // Sessions and answers as structs of numbers, in which they cross to C. What the numbers mean is defined in specs/Mirror.antt.
+#![tactic(auto)]
+
 ghost use Rattle.std.specs.Prelude.{◌≡◌, cond, min};
 ghost use Rattle.spec.specs.Answers.{refusal_of, done_of, started_of, stored_of, counted_of as answer_of, recorded_of as file_of, run_of as extent_of};
 ghost use Rattle.mirror.specs.Mirror.{phase_of, phase_number, place_in, head_of, head_in, numbers_of, decode, encode, refusal_number, fault_in, finished_of, committed_of, advanced_of, counted_of, run_of, Names};
@@ -9,7 +11,7 @@ use spec::{
 
 // A session in numbers, but for the cells of its staged blocks: both are lent.
 // phase: 0 closed, 1 ready, 2 committing, 3 recovering; place: the stores made so far of a commit or a recovery, else 0.
-#[derive(Drop)]
+#[derive(Clone, Copy)]
 pub struct Head {
     pub blocks: u64,
     pub phase: u64,
@@ -19,7 +21,7 @@ pub struct Head {
 
 // format, open, abort, create, remove, rename, write, set-size: refusal 0 is accepted; fault is the wrong record of refusal 10, else 0.
 #[repr(C)]
-#[derive(Drop)]
+#[derive(Clone, Copy)]
 pub struct CFinished {
     pub refusal: u32,
     pub fault: u64,
@@ -27,7 +29,7 @@ pub struct CFinished {
 
 // commit
 #[repr(C)]
-#[derive(Drop)]
+#[derive(Clone, Copy)]
 pub struct CCommitted {
     pub refusal: u32,
     pub stores: u64,
@@ -35,7 +37,7 @@ pub struct CCommitted {
 
 // advance: all 0 but the session where nothing is under way.
 #[repr(C)]
-#[derive(Drop)]
+#[derive(Clone, Copy)]
 pub struct CAdvanced {
     pub refusal: u32,
     pub block: u64,
@@ -45,7 +47,7 @@ pub struct CAdvanced {
 
 // read, size, free count, run list
 #[repr(C)]
-#[derive(Drop)]
+#[derive(Clone, Copy)]
 pub struct CCounted {
     pub refusal: u32,
     pub count: u64,
@@ -53,7 +55,7 @@ pub struct CCounted {
 
 // record i: used is 1 where a file is answered, else size is zero, and the name lent becomes zero unless the call is refused.
 #[repr(C)]
-#[derive(Drop)]
+#[derive(Clone, Copy)]
 pub struct CRecord {
     pub refusal: u32,
     pub used: u32,
@@ -62,7 +64,7 @@ pub struct CRecord {
 
 // n-th extent: 0 and 0 where there is none.
 #[repr(C)]
-#[derive(Drop)]
+#[derive(Clone, Copy)]
 pub struct CRun {
     pub refusal: u32,
     pub first: u32,

@@ -1,4 +1,6 @@
 // An empty store: all zero but the bitmap.
+#![tactic(auto)]
+
 ghost use Rattle.std.specs.Prelude.{◌≡◌, true, ◌*◌, ◌/◌, ◌≤◌, length, replicate};
 ghost use Rattle.spec.specs.Disk.{is_allowed, slice_of};
 ghost use Rattle.spec.specs.Bitmap.{bytes_of};

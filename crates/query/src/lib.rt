@@ -1,4 +1,6 @@
 // The public calls that only read: session, device and work space stay as they were.
+#![tactic(auto)]
+
 ghost use Rattle.std.specs.Prelude.{◌≡◌, true, List, ℕ, ◌<◌, length, replicate};
 ghost use Rattle.spec.specs.declared.Session.{Session};
 ghost use Rattle.spec.specs.Answers.{counted_of, recorded_of, Blank, run_of, accept};

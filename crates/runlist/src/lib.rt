@@ -1,4 +1,6 @@
 // The public call that puts the run list of a stretch into a lent list of extents.
+#![tactic(auto)]
+
 ghost use Rattle.std.specs.Prelude.{◌≡◌, length, get_or};
 ghost use Rattle.spec.specs.Inode.{extent};
 ghost use Rattle.spec.specs.Answers.{counted_of};

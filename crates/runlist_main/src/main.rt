@@ -1,16 +1,18 @@
 // Runs the call `run_list` over a lent list of extents: no run, one, and as many as the list has places; one more than it has; a stretch cut at the end of the file; numbers near 2^64.
 // File k has the name k 02 03 04 05 06 07 08. The list lent has eight places, each of them 7+9 before the call.
+#![tactic(auto)]
+
 ghost use Rattle.std.specs.Prelude.{◌≡◌};
 ghost use Rattle.spec.specs.Answers.{counted_of};
 ghost use Rattle.spec.specs.Transaction.{state_of};
 ghost use Rattle.spec.specs.Calls.{left_list, run_list};
 
-use libc::STDOUT_FILENO;
 use spec::{Counted, Extent, FileBlock, Limits, Refusal, Session};
+use std::io;
 use store::run_list;
 
 // An answer, and the list as the call leaves it.
-#[derive(Drop)]
+#[derive(Clone, Copy)]
 struct Listed {
     answer: Counted,
     list: [Extent; 8],
@@ -39,52 +41,43 @@ fn list_runs<'a>(
 
 // ---- text
 
-fn say(text: &[u8]) {
-    io::write_all(STDOUT_FILENO, text);
+fn say(rt: &impl Print, text: &[u8]) -> io::Result<()> {
+    rt.write_all(text)
 }
 
-fn number(n: usize) {
-    say(b" ");
-    io::print_decimal(STDOUT_FILENO, n as u64);
+fn number(rt: &impl Print, n: usize) -> io::Result<()> {
+    say(rt, b" ")?;
+    rt.print(n)
 }
 
-fn answered(a: Counted) {
+fn answered(rt: &impl Print, a: Counted) -> io::Result<()> {
     match a {
         Counted::Refused(why) => match why {
-            Refusal::ListShort => {
-                say(b" refused 19");
-            }
-            Refusal::Unknown => {
-                say(b" refused 13");
-            }
-            Refusal::NotReady => {
-                say(b" refused 12");
-            }
-            _ => {
-                say(b" refused");
-            }
+            Refusal::ListShort => say(rt, b" refused 19"),
+            Refusal::Unknown => say(rt, b" refused 13"),
+            Refusal::NotReady => say(rt, b" refused 12"),
+            _ => say(rt, b" refused"),
         },
-        Counted::Count(n) => {
-            number(n);
-        }
+        Counted::Count(n) => number(rt, n),
     }
 }
 
-fn extent(e: Extent) {
-    say(b" ");
-    io::print_decimal(STDOUT_FILENO, e.first as u64);
-    say(b"+");
-    io::print_decimal(STDOUT_FILENO, e.count as u64);
+fn extent(rt: &impl Print, e: Extent) -> io::Result<()> {
+    say(rt, b" ")?;
+    rt.print(e.first)?;
+    say(rt, b"+")?;
+    rt.print(e.count)
 }
 
 // The eight places of a list.
-fn places(list: [Extent; 8]) {
+fn places(rt: &impl Print, list: [Extent; 8]) -> io::Result<()> {
     let mut i: usize = 0;
     while i < 8 {
         let e = list[i];
-        extent(e);
+        extent(rt, e)?;
         i += 1;
     }
+    Ok(())
 }
 
 // ---- the call
@@ -94,23 +87,31 @@ fn name(k: u8) -> [u8; 8] {
 }
 
 // The runs of n blocks of file k from a block on, and the whole list behind them.
-fn show<'a>(device: &'a [u8], work: &'a [u8], s: Session, k: u8, from: usize, n: usize) {
+fn show<'a>(
+    rt: &impl Print,
+    device: &'a [u8],
+    work: &'a [u8],
+    s: Session,
+    k: u8,
+    from: usize,
+    n: usize,
+) -> io::Result<()> {
     let file = name(k);
     let place = Extent { first: 7, count: 9 };
     let r = list_runs(device, work, s, &file, FileBlock(from), n, [place; 8]);
     let a = r.answer;
     let list = r.list;
-    say(b"file");
-    number(k as usize);
-    say(b" from");
-    number(from);
-    say(b" count");
-    number(n);
-    say(b":");
-    answered(a);
-    say(b" of");
-    places(list);
-    say(b"\n");
+    say(rt, b"file")?;
+    number(rt, k as usize)?;
+    say(rt, b" from")?;
+    number(rt, from)?;
+    say(rt, b" count")?;
+    number(rt, n)?;
+    say(rt, b":")?;
+    answered(rt, a)?;
+    say(rt, b" of")?;
+    places(rt, list)?;
+    say(rt, b"\n")
 }
 
 // ---- the files
@@ -155,53 +156,54 @@ fn files(device: &[u8], work: &mut [u8], s: Session) -> Session {
     grow(device, work, d, 3, 3)
 }
 
-fn show_some<'a>(device: &'a [u8], work: &'a [u8], s: Session) {
+fn show_some<'a>(rt: &impl Print, device: &'a [u8], work: &'a [u8], s: Session) -> io::Result<()> {
     // no file, an empty stretch, a stretch past the end
-    show(device, work, s, 4, 0, 1);
-    show(device, work, s, 3, 0, 0);
-    show(device, work, s, 3, 3, 100);
+    show(rt, device, work, s, 4, 0, 1)?;
+    show(rt, device, work, s, 3, 0, 0)?;
+    show(rt, device, work, s, 3, 3, 100)?;
     // one run, whole and cut at both ends
-    show(device, work, s, 3, 0, 3);
-    show(device, work, s, 3, 1, 1);
-    show(device, work, s, 3, 1, 100);
+    show(rt, device, work, s, 3, 0, 3)?;
+    show(rt, device, work, s, 3, 1, 1)?;
+    show(rt, device, work, s, 3, 1, 100)?;
     // many runs
-    show(device, work, s, 1, 0, 8);
-    show(device, work, s, 1, 2, 3);
-    show(device, work, s, 1, 6, 100);
+    show(rt, device, work, s, 1, 0, 8)?;
+    show(rt, device, work, s, 1, 2, 3)?;
+    show(rt, device, work, s, 1, 6, 100)
 }
 
 // Numbers near 2^64.
-fn show_large<'a>(device: &'a [u8], work: &'a [u8], s: Session) {
+fn show_large<'a>(rt: &impl Print, device: &'a [u8], work: &'a [u8], s: Session) -> io::Result<()> {
     show(
+        rt,
         device,
         work,
         s,
         1,
         18446744073709551615,
         18446744073709551615,
-    );
-    show(device, work, s, 1, 1, 18446744073709551615);
-    show(device, work, s, 3, 18446744073709551615, 1);
+    )?;
+    show(rt, device, work, s, 1, 1, 18446744073709551615)?;
+    show(rt, device, work, s, 3, 18446744073709551615, 1)
 }
 
 // With block 63 file 1 has one run more than the list has places: 19, and the list as it was.
-fn show_short<'a>(device: &'a [u8], work: &'a [u8], s: Session) {
-    show(device, work, s, 1, 0, 9);
-    show(device, work, s, 1, 0, 18446744073709551615);
-    show(device, work, s, 1, 0, 8);
-    show(device, work, s, 1, 1, 8);
+fn show_short<'a>(rt: &impl Print, device: &'a [u8], work: &'a [u8], s: Session) -> io::Result<()> {
+    show(rt, device, work, s, 1, 0, 9)?;
+    show(rt, device, work, s, 1, 0, 18446744073709551615)?;
+    show(rt, device, work, s, 1, 0, 8)?;
+    show(rt, device, work, s, 1, 1, 8)?;
     // a session that is closed: 12
-    show(device, work, Session::closed_on(64), 1, 0, 8);
+    show(rt, device, work, Session::closed_on(64), 1, 0, 8)
 }
 
-fn main() {
+fn main(rt: HostRuntime) -> io::Result<()> {
     let mut device = [0u8; 32768];
     let mut work = [9u8; Limits::WORK_SIZE];
     store::format(&mut device, Session::never_opened());
     let opened = store::open_store(&device, Session::never_opened());
     let s = files(&device, &mut work, opened.session);
-    show_some(&device, &work, s);
-    show_large(&device, &work, s);
+    show_some(&rt, &device, &work, s)?;
+    show_large(&rt, &device, &work, s)?;
     let t = grow(&device, &mut work, s, 1, 9);
-    show_short(&device, &work, t);
+    show_short(&rt, &device, &work, t)
 }

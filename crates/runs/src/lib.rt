@@ -1,11 +1,13 @@
 // A file's extents in two columns.
+#![tactic(auto)]
+
 ghost use Rattle.std.specs.Prelude.{◌≡◌, ◌+◌, ◌<◌, length};
 ghost use Rattle.runs.specs.Push.{columns, Pushed, last_count};
 
 use spec::{DiskBlock, Limits};
 
 // How many extents two columns have, and the block after the last one.
-#[derive(Drop)]
+#[derive(Clone, Copy)]
 pub struct End {
     pub len: usize,
     pub next: usize,

@@ -1,9 +1,11 @@
 // The public types of the purse store. What the calls mean is defined in specs/, in the order of document 01.
+#![tactic(auto)]
+
 ghost use Rattle.std.specs.Prelude.{◌≡◌, [], ◌∷◌, ◌++◌, ◌<◌, length};
 ghost use Rattle.spec.specs.Session.{opened, closed_on, never_opened, with_cells, in_phase, with_staged, staged_in};
 
 // "These limits belong to the store as a whole".
-#[derive(Drop)]
+#[derive(Clone, Copy)]
 pub struct Limits;
 
 impl Limits {
@@ -54,17 +56,17 @@ impl Limits {
 }
 
 // "Byte places in a file, block places in a file and block numbers on the device are three separate counts"
-#[derive(Drop)]
+#[derive(Clone, Copy)]
 pub struct ByteOffset(pub usize);
 
-#[derive(Drop)]
+#[derive(Clone, Copy)]
 pub struct FileBlock(pub usize);
 
-#[derive(Drop)]
+#[derive(Clone, Copy)]
 pub struct DiskBlock(pub u32);
 
 // "A block number's area decides its use: 0, 1 to 32, 33, 34 to 41, or 42 and up."
-#[derive(Drop)]
+#[derive(Clone, Copy)]
 pub enum Area {
     Header,
     Log,
@@ -74,14 +76,14 @@ pub enum Area {
 }
 
 // "A slot is a block number and a count"; at depth 0 it is an extent: a first block and how many blocks from there.
-#[derive(Drop)]
+#[derive(Clone, Copy)]
 pub struct Extent {
     pub first: u32,
     pub count: u32,
 }
 
 // "A session is closed, ready, committing with the place it has reached, or recovering with the place it has reached."
-#[derive(Drop)]
+#[derive(Clone, Copy)]
 pub enum Phase {
     Closed,
     Ready,
@@ -90,7 +92,7 @@ pub enum Phase {
 }
 
 // "It also holds N and the staged block numbers": the first `count` cells of `staged` are in use.
-#[derive(Drop)]
+#[derive(Clone, Copy)]
 pub struct Session {
     pub blocks: usize,
     pub phase: Phase,
@@ -150,7 +152,7 @@ impl Session {
 }
 
 // The refusals, in the order of their numbers: refusal_of in specs/Answers.antt.
-#[derive(Drop)]
+#[derive(Clone, Copy)]
 pub enum Refusal {
     DeviceSize,
     WorkSize,
@@ -169,21 +171,21 @@ pub enum Refusal {
 }
 
 // What a call answers that has no value to tell.
-#[derive(Drop)]
+#[derive(Clone, Copy)]
 pub enum Done {
     Refused(Refusal),
     Done,
 }
 
 // What commit answers: how many stores it has started.
-#[derive(Drop)]
+#[derive(Clone, Copy)]
 pub enum Started {
     Refused(Refusal),
     Stores(usize),
 }
 
 // What advance answers.
-#[derive(Drop)]
+#[derive(Clone, Copy)]
 pub enum Stored {
     Refused(Refusal),
     Stored {
@@ -195,14 +197,14 @@ pub enum Stored {
 }
 
 // What read, size, free count and run list answer.
-#[derive(Drop)]
+#[derive(Clone, Copy)]
 pub enum Counted {
     Refused(Refusal),
     Count(usize),
 }
 
 // What record i answers; name and size stand beside it.
-#[derive(Drop)]
+#[derive(Clone, Copy)]
 pub enum Recorded {
     Refused(Refusal),
     File,
@@ -210,7 +212,7 @@ pub enum Recorded {
 }
 
 // What n-th extent answers.
-#[derive(Drop)]
+#[derive(Clone, Copy)]
 pub enum Run {
     Refused(Refusal),
     Extent(Extent),
@@ -218,28 +220,28 @@ pub enum Run {
 }
 
 // format, open, abort, create, remove, rename, write, set-size
-#[derive(Drop)]
+#[derive(Clone, Copy)]
 pub struct Finished {
     pub session: Session,
     pub answer: Done,
 }
 
 // commit
-#[derive(Drop)]
+#[derive(Clone, Copy)]
 pub struct Committed {
     pub session: Session,
     pub answer: Started,
 }
 
 // advance
-#[derive(Drop)]
+#[derive(Clone, Copy)]
 pub struct Advanced {
     pub session: Session,
     pub answer: Stored,
 }
 
 // record i: name and size are zero unless it answers a file.
-#[derive(Drop)]
+#[derive(Clone, Copy)]
 pub struct FileRecord {
     pub answer: Recorded,
     pub name: [u8; 8],

@@ -1,4 +1,6 @@
 // The public calls of the purse store. Each promise is one equation: what is answered and left is the call's outcome at what was given.
+#![tactic(auto)]
+
 ghost use Rattle.std.specs.Prelude.{◌≡◌, List, ℕ};
 ghost use Rattle.spec.specs.Answers.{done_of, started_of, stored_of};
 ghost use Rattle.spec.specs.Transaction.{state_of};

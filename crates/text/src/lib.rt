@@ -1,4 +1,6 @@
 // Text written to the front of lent bytes. Where the bytes end the rest of a text is dropped, so that every call takes any place.
+#![tactic(auto)]
+
 ghost use Rattle.std.specs.Prelude.{◌∷◌, [], ◌/◌, ◌%◌, ◌<◌, ◌≡◌};
 ghost use Rattle.spec.specs.Listing.{digits, hex_digit, hexadecimal};
 ghost use Rattle.text.specs.Written.{Written, number};

@@ -1,4 +1,6 @@
 // The transaction: staged blocks, the working copy of a block, staging.
+#![tactic(auto)]
+
 ghost use Rattle.std.specs.Prelude.{◌≡◌, List, ℕ, ◌≤◌, ◌<◌, min, length, take};
 ghost use Rattle.spec.specs.Bytes.{exactly, place};
 ghost use Rattle.spec.specs.declared.Phase.{Phase};
@@ -10,7 +12,7 @@ use block::{block_in, store_block};
 use spec::{DiskBlock, Limits, Session};
 
 // Where a block stands among the staged ones.
-#[derive(Drop)]
+#[derive(Clone, Copy)]
 pub enum Place {
     At(usize),
     Nothing,

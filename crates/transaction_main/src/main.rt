@@ -1,6 +1,8 @@
 // Runs the transaction's functions: blocks staged, found, overwritten, and seen in the working copy.
-use libc::STDOUT_FILENO;
+#![tactic(auto)]
+
 use spec::{DiskBlock, Limits, Phase, Session};
+use std::io;
 use transaction::Place;
 use trial::{number, stage};
 
@@ -16,45 +18,51 @@ fn stage_many(work: &mut [u8], s: Session) -> Session {
 }
 
 // A block's place among the staged ones, and the first byte of its working copy.
-fn show<'a>(device: &'a [u8], work: &'a [u8], s: Session, b: u32) {
-    number(b as u64);
+fn show<'a>(
+    rt: &impl Print,
+    device: &'a [u8],
+    work: &'a [u8],
+    s: Session,
+    b: u32,
+) -> io::Result<()> {
+    number(rt, b as u64)?;
     match transaction::staged_at(s, DiskBlock(b)) {
         Place::At(i) => {
-            io::write_all(STDOUT_FILENO, b" at");
-            number(i as u64);
+            rt.write_all(b" at")?;
+            number(rt, i as u64)?;
         }
         Place::Nothing => {
-            io::write_all(STDOUT_FILENO, b" not staged");
+            rt.write_all(b" not staged")?;
         }
     }
-    io::write_all(STDOUT_FILENO, b" holds");
+    rt.write_all(b" holds")?;
     let v = transaction::view_block(device, work, s, DiskBlock(b));
-    number(block::load(v, 0) as u64);
-    io::write_all(STDOUT_FILENO, b"\n");
+    number(rt, block::load(v, 0) as u64)?;
+    rt.write_all(b"\n")
 }
 
-fn count(s: Session) {
-    io::write_all(STDOUT_FILENO, b"staged");
-    number(transaction::staged_count(s) as u64);
-    io::write_all(STDOUT_FILENO, b"\n");
+fn count(rt: &impl Print, s: Session) -> io::Result<()> {
+    rt.write_all(b"staged")?;
+    number(rt, transaction::staged_count(s) as u64)?;
+    rt.write_all(b"\n")
 }
 
-fn main() {
+fn main(rt: HostRuntime) -> io::Result<()> {
     let device = [7u8; 32768];
     let mut work = [9u8; Limits::WORK_SIZE];
     let fresh = Session::opened(64, Phase::Ready);
-    count(fresh);
+    count(&rt, fresh)?;
     let one = stage(&mut work, fresh, 34, 1);
     let two = stage(&mut work, one, 33, 2);
     let again = stage(&mut work, two, 34, 3);
-    count(again);
-    show(&device, &work, again, 33);
-    show(&device, &work, again, 34);
-    show(&device, &work, again, 42);
-    show(&device, &work, again, 64);
+    count(&rt, again)?;
+    show(&rt, &device, &work, again, 33)?;
+    show(&rt, &device, &work, again, 34)?;
+    show(&rt, &device, &work, again, 42)?;
+    show(&rt, &device, &work, again, 64)?;
     let full = stage_many(&mut work, again);
-    count(full);
-    show(&device, &work, full, 69);
-    show(&device, &work, full, 70);
-    count(Session::never_opened());
+    count(&rt, full)?;
+    show(&rt, &device, &work, full, 69)?;
+    show(&rt, &device, &work, full, 70)?;
+    count(&rt, Session::never_opened())
 }

@@ -1,4 +1,6 @@
 // The tree of a file walked once: its extents and nodes tested, and their blocks marked.
+#![tactic(auto)]
+
 ghost use Rattle.std.specs.Prelude.{◌≡◌, [], ◌∷◌, ◌+◌, ◌*◌, ◌-◌, ◌≤◌, ◌<◌, min, length, drop};
 ghost use Rattle.spec.specs.Bytes.{exactly};
 ghost use Rattle.spec.specs.Disk.{blocks_of};
@@ -15,7 +17,7 @@ use spec::{DiskBlock, Extent, FileBlock, Limits};
 
 // What a walk over the extents of a file has found so far: whether they all lie within 42 to N-1, and apart; where the last one ends;
 // how many there are, and blocks in them; and the file's last block, where its size ends within it.
-#[derive(Drop)]
+#[derive(Clone, Copy)]
 pub struct Run {
     pub inside: bool,
     pub apart: bool,
@@ -27,7 +29,7 @@ pub struct Run {
 
 // And over its nodes: whether they all lie within 42 to N-1 and are packed, count as the slots above tell, and are full but for the last;
 // how many slots there are above, and blocks that they count.
-#[derive(Drop)]
+#[derive(Clone, Copy)]
 pub struct Nodes {
     pub run: Run,
     pub sound: bool,
@@ -39,7 +41,7 @@ pub struct Nodes {
 }
 
 // What a record's four slots tell of nodes, and whether those behind the used ones are zero.
-#[derive(Drop)]
+#[derive(Clone, Copy)]
 pub struct Tops {
     pub nodes: Nodes,
     pub packed: bool,

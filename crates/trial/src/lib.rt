@@ -1,11 +1,13 @@
 // What the programs that run functions on concrete values share.
-use libc::STDOUT_FILENO;
+#![tactic(auto)]
+
 use spec::{DiskBlock, Limits, Session};
+use std::io;
 
 // A number behind a blank.
-pub fn number(n: u64) {
-    io::write_all(STDOUT_FILENO, b" ");
-    io::print_decimal(STDOUT_FILENO, n);
+pub fn number(rt: &impl Print, n: u64) -> io::Result<()> {
+    rt.write_all(b" ")?;
+    rt.print(n)
 }
 
 // Block b staged with 512 times a byte, where there is room.

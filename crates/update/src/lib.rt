@@ -1,4 +1,6 @@
 // The public calls that change files: tests in the order of the numbers, the plan, then one call below.
+#![tactic(auto)]
+
 ghost use Rattle.std.specs.Prelude.{◌≡◌, ℕ, ◌+◌, ◌<◌, ◌≤◌, max, length, take};
 ghost use Rattle.spec.specs.declared.Phase.{Phase};
 ghost use Rattle.spec.specs.Inode.{blocks_for};

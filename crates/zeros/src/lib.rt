@@ -1,4 +1,6 @@
 // Bytes that are all zero.
+#![tactic(auto)]
+
 ghost use Rattle.std.specs.Prelude.{◌≡◌};
 ghost use Rattle.spec.specs.Bytes.{all_zero};
 

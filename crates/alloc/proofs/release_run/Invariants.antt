@@ -1,0 +1,14 @@
+use Rattle.alloc.proofs.Laws.{mark-none, run_more, run-part}
+use Rattle.spec.specs.Bitmap.{bits_of, mark}
+use Rattle.spec.specs.Bytes.{up_from}
+use native.Mathlib.Omega.{arith}
+use mathlib.Core.Path.{◌≡◌}
+use Prim.Native.Nat.{◌+◌, ◌*◌, ◌-◌, ◌/◌, ◌≤◌}
+use borrow.Author.Rules.{rules}
+use Rattle.alloc.proofs.release_run.Given as goal
+
+abbrev pub invariant-loop-k : goal.invariant-loop-k
+invariant-loop-k l = (l.k ≤ l.n) × (bits_of l.t ≡ mark 0 (up_from l.b.0 l.k) (bits_of l.initial.t))
+
+abbrev pub decreases-loop-k : goal.decreases-loop-k
+decreases-loop-k l = l.n - l.k

@@ -1,0 +1,13 @@
+use borrow.Author.Rules.{rules}
+use Prim.Native.Nat.{◌-◌}
+use mathlib.Core.Path.{◌≡◌}
+use native.Mathlib.Omega.{arith}
+use Rattle.runs.specs.Push.{columns}
+use Rattle.alloc.proofs.Laws.{Taking, take-start, take_more}
+use Rattle.alloc.proofs.take_data.Given as goal
+
+abbrev pub invariant-loop-k : goal.invariant-loop-k
+invariant-loop-k l = Taking l.initial.t l.t (columns l.initial.first l.initial.count l.initial.end) (columns l.first l.count l.end) l.from l.n l.k
+
+abbrev pub decreases-loop-k : goal.decreases-loop-k
+decreases-loop-k l = l.n - l.k

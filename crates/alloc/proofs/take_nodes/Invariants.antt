@@ -1,0 +1,12 @@
+use borrow.Author.Rules.{rules}
+use Prim.Native.Nat.{◌-◌}
+use mathlib.Core.Path.{refl}
+use native.Mathlib.Omega.{arith}
+use Rattle.alloc.proofs.Laws.{Filling, fill_start, fill_more, fill-room, fill_end}
+use Rattle.alloc.proofs.take_nodes.Given as goal
+
+abbrev pub invariant-loop-k : goal.invariant-loop-k
+invariant-loop-k l = Filling l.initial.t l.t l.initial.node l.node l.initial.k l.k l.wanted
+
+abbrev pub decreases-loop-k : goal.decreases-loop-k
+decreases-loop-k l = l.wanted - l.k

@@ -1,0 +1,14 @@
+use Prim.Native.Nat.{◌≤◌, ◌*◌, ◌-◌}
+use mathlib.Core.Path.{◌≡◌, refl, ap}
+use native.Mathlib.Omega.{arith}
+use lib.ListN.{take}
+use Rattle.spec.specs.Bitmap.{bits_of, free_bits}
+use Rattle.bitmap.proofs.Words.{Word, word-says, all_words}
+use borrow.Author.Rules.{rules}
+use Rattle.bitmap.proofs.free_in.Given as goal
+
+abbrev pub invariant-loop-w : goal.invariant-loop-w
+invariant-loop-w l = (l.w ≤ 64) × (l.n ≤ 64 * l.w) × (l.n ≡ free_bits (take (64 * l.w) (bits_of l.t)))
+
+abbrev pub decreases-loop-w : goal.decreases-loop-w
+decreases-loop-w l = 64 - l.w

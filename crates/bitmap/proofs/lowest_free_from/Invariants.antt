@@ -1,0 +1,16 @@
+use Prim.Native.Nat.{◌*◌, ◌-◌}
+use mathlib.Core.Path.{◌≡◌, sym, ap, ◌∙◌}
+use native.Mathlib.Omega.{arith}
+use borrow.Author.Rules.{rules}
+use lib.ListN.{take}
+use Rattle.spec.specs.Bitmap.{bits_of, free_bits}
+use Rattle.bitmap.specs.Words.{found_of}
+use Rattle.bitmap.proofs.Laws.{none-placed}
+use Rattle.bitmap.proofs.Words.{Word, word-says, full-word, all_words, place-lt}
+use Rattle.bitmap.proofs.lowest_free_from.Given as goal
+
+abbrev pub invariant-loop-at : goal.invariant-loop-at
+invariant-loop-at l = free_bits (take (64 * l.at) (bits_of l.t)) ≡ 0
+
+abbrev pub decreases-loop-at : goal.decreases-loop-at
+decreases-loop-at l = 64 - l.at

@@ -1,0 +1,7 @@
+use native.Mathlib.Omega.{arith}
+use Rattle.block.proofs.Keys.{key-is}
+use borrow.Author.Rules.{rules}
+use Rattle.block.proofs.key_of.Goals as goal
+
+pub returns : goal.returns
+returns c = (key-is c.args.name.now _ _ c.requires (omega arith) (omega arith), record { long = c.requires; small = λ i. omega (arith, c.type_inv.name i) })

@@ -1,0 +1,6 @@
+use Rattle.cardfile.proofs.Forms.{amount-is}
+use borrow.Author.Rules.{rules}
+use Rattle.cardfile.proofs.amount_bytes.Goals as goal
+
+pub returns : goal.returns
+returns c = amount-is _ _ c.eight_bytes.ensures

@@ -1,0 +1,6 @@
+use Rattle.cardfile.proofs.Forms.{eight_are}
+use borrow.Author.Rules.{rules}
+use Rattle.cardfile.proofs.eight_bytes.Goals as goal
+
+pub returns : goal.returns
+returns c = eight_are _

@@ -1,0 +1,6 @@
+use Rattle.convertapi.proofs.Laws.{converts}
+use borrow.Author.Rules.{rules}
+use Rattle.convertapi.proofs.purse_convert_h_v.Goals as goal
+
+pub returns : goal.returns
+returns c = converts _ c.convert.result _ _ c.numbers_of.ensures c.convert.ensures

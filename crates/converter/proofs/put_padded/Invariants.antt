@@ -1,0 +1,10 @@
+use native.Mathlib.Omega.{arith}
+use Rattle.converter.proofs.Writes.{Padding, padding-none, unit-some, padding-more, padding-length, padding-end}
+use borrow.Author.Rules.{rules}
+use Rattle.converter.proofs.put_padded.Given as goal
+
+abbrev pub invariant-loop-k : goal.invariant-loop-k
+invariant-loop-k l = Padding l.initial.out l.at l.count l.n l.out l.p l.k l.u
+
+abbrev pub decreases-loop-k : goal.decreases-loop-k
+decreases-loop-k l = l.k

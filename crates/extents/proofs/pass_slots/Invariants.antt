@@ -1,0 +1,18 @@
+use Prim.Native.Nat.{ℕ, ◌≤◌}
+use mathlib.Core.Path.{◌≡◌}
+use native.Mathlib.Omega.{arith}
+use borrow.Author.Rules.{rules}
+use borrow.Author.Tests.{not-false}
+use lib.ListN.{length}
+use Rattle.spec.specs.Bytes.{exactly}
+use Rattle.spec.specs.Disk.{Disk}
+use Rattle.inode.proofs.Walk.{live-left, live_inside}
+use Rattle.extents.specs.Stretches.{Passes, moved}
+use Rattle.extents.proofs.Laws.{pass-none, pass-more, pass-end}
+use Rattle.extents.proofs.pass_slots.Given as goal
+
+abbrev pub invariant-loop-e : goal.invariant-loop-e
+invariant-loop-e l = (length l.block ≤ 512) × ((v : Disk) (tb : ℕ) → exactly 512 l.block ≡ v l.scan.at.block → Passes v tb l.scan (moved l.scan l.at l.left l.skip))
+
+abbrev pub decreases-loop-e : goal.decreases-loop-e
+decreases-loop-e l = l.left

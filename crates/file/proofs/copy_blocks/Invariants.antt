@@ -1,0 +1,18 @@
+use Prim.Native.Nat.{ℕ, ◌+◌, ◌*◌, ◌-◌, ◌%◌, ◌<◌, ◌≤◌}
+use mathlib.Core.Path.{◌≡◌, refl, sym, ◌∙◌}
+use native.Mathlib.Omega.{arith}
+use lib.ListN.{length, take, drop, length-take, length-drop}
+use Rattle.transaction.specs.Places.{view_in}
+use Rattle.transaction.proofs.Laws.{view-in-length}
+use Rattle.file.specs.Bytes.{run_bytes}
+use Rattle.file.proofs.Laws.{landed, landed_none, landed-step, landed-all, part_of, stretch-length, run-next}
+use borrow.Author.Rules.{rules}
+use Rattle.file.proofs.copy_blocks.Given as goal
+
+abbrev pub invariant-loop-done : goal.invariant-loop-done
+invariant-loop-done l =
+    (l.done ≤ length l.initial.to) × (length l.to ≡ length l.initial.to) × (l.first < 131072) × (l.skip + length l.initial.to ≤ 1048576)
+    × ((count : ℕ) → l.skip + length l.initial.to ≤ 512 * count → l.to ≡ landed (take (length l.initial.to) (drop l.skip (run_bytes (view_in l.staged l.device l.work) l.first count))) l.done l.initial.to)
+
+abbrev pub decreases-loop-done : goal.decreases-loop-done
+decreases-loop-done l = length l.initial.to - l.done

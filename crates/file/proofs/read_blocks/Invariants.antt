@@ -1,0 +1,21 @@
+use Prim.Native.Nat.{ℕ, ◌+◌, ◌-◌, ◌≤◌}
+use mathlib.Core.Path.{◌≡◌, refl, sym, ap, ◌∙◌}
+use native.Mathlib.Omega.{arith}
+use borrow.Author.Rules.{rules}
+use lib.ListN.{length, take, drop, length-take, length-drop}
+use Rattle.spec.specs.Bytes.{exactly}
+use Rattle.spec.specs.Inode.{block_of_inode}
+use Rattle.transaction.specs.Places.{view_in}
+use Rattle.transaction.proofs.Laws.{view-in-length}
+use Rattle.inode.specs.Walk.{weight}
+use Rattle.extents.proofs.Laws.{on-slot-piece, on-slot-passed, on-slot-unused, on-node-next, on-node-none, no_room, goes_further}
+use Rattle.file.specs.Bytes.{run_bytes, block_bytes}
+use Rattle.file.proofs.Reading.{Under, under-start, under_next, under-on, under-end, under-full}
+use Rattle.file.proofs.read_blocks.Given as goal
+
+abbrev pub invariant-loop-done : goal.invariant-loop-done
+invariant-loop-done l = Under (view_in l.staged l.device l.work) (block_of_inode l.i) (take (length l.initial.to) (drop l.from (block_bytes (view_in l.staged l.device l.work) l.i))) l.initial.to l.to l.scan l.skip l.done
+    × (exactly 512 l.block ≡ view_in l.staged l.device l.work l.scan.at.block) × (length l.block ≤ 512)
+
+abbrev pub decreases-loop-done : goal.decreases-loop-done
+decreases-loop-done l = weight l.scan.at

@@ -1,0 +1,6 @@
+use Rattle.filecheck.proofs.Shape.{limits-by}
+use borrow.Author.Rules.{rules}
+use Rattle.filecheck.proofs.limits_hold.Goals as goal
+
+pub returns : goal.returns
+returns c = limits-by _ _ _ _ _ _ c.place_in_block-at.ensures.0 c.requires.0 c.requires.1 c.clear_in.ensures

@@ -1,0 +1,12 @@
+use Prim.Native.Nat.{◌-◌, ◌≤◌}
+use mathlib.Core.Path.{◌≡◌, refl, sym, ◌∙◌}
+use native.Mathlib.Omega.{arith}
+use Rattle.header.proofs.Loops.{fault_from, fault-start, fault-hit, fault-miss, fault-end, fault-zero}
+use borrow.Author.Rules.{rules}
+use Rattle.header.proofs.header_fault.Given as goal
+
+abbrev pub invariant-loop-i : goal.invariant-loop-i
+invariant-loop-i l = (l.i ≤ 32) × (fault_from l.blocks l.head 0 ≡ fault_from l.blocks l.head l.i)
+
+abbrev pub decreases-loop-i : goal.decreases-loop-i
+decreases-loop-i l = 32 - l.i

@@ -1,0 +1,17 @@
+use Prim.Native.Nat.{◌-◌, ◌≤◌}
+use mathlib.Core.Path.{◌≡◌, refl}
+use native.Mathlib.Omega.{arith}
+use lib.ListN.{length, take, length-set}
+use Rattle.header.proofs.Loops.{records_to, records-more, records-all}
+use borrow.Author.Rules.{rules}
+use Rattle.header.proofs.record_targets.Goals as goal
+
+pub loop-i-init : goal.loop-i-init
+unfolding records_to
+loop-i-init c = (omega arith, refl, refl)
+
+pub loop-i-preserved : goal.loop-i-preserved
+loop-i-preserved c = (omega arith, simp length-set c.loop-i.invariant.1, records-more _ _ _ _ (omega arith) c.loop-i.invariant.2 c.load2.ensures.0)
+
+pub returns : goal.returns
+returns c = records-all _ _ _ c.loop-i.invariant.1 (omega arith) c.loop-i.invariant.2

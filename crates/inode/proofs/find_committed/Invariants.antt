@@ -1,0 +1,16 @@
+use Prim.Native.Nat.{ℕ, ◌-◌, ◌%◌, ◌≤◌}
+use mathlib.Core.Path.{◌≡◌, refl, sym, ◌∙◌}
+use mathlib.Core.List.{List}
+use native.Mathlib.Omega.{arith}
+use Rattle.spec.specs.Disk.{blocks_of}
+use Rattle.block.specs.Keys.{key_of, Name}
+use Rattle.inode.specs.Records.{lowest_to}
+use Rattle.inode.proofs.Laws.{named_at, find-all, find-hit, find-miss, lowest-none, table-part}
+use borrow.Author.Rules.{rules}
+use Rattle.inode.proofs.find_committed.Given as goal
+
+abbrev pub invariant-loop-first : goal.invariant-loop-first
+invariant-loop-first l = (l.first ≤ 128) × (l.first % 16 ≡ 0) × ((name : List ℕ) → Name name → l.key ≡ key_of name → lowest_to 128 (named_at (blocks_of l.device) name) 0 ≡ lowest_to 128 (named_at (blocks_of l.device) name) l.first)
+
+abbrev pub decreases-loop-first : goal.decreases-loop-first
+decreases-loop-first l = 128 - l.first

@@ -1,0 +1,8 @@
+use mathlib.Core.Path.{refl}
+use Rattle.transaction.proofs.Laws.{view-in-length}
+use Rattle.inode.proofs.Laws.{find-zeros}
+use borrow.Author.Rules.{rules}
+use Rattle.inode.proofs.find_empty.Goals as goal
+
+pub returns : goal.returns
+returns c = let a = c.args in find-zeros _ _ _ (view-in-length a.staged.now a.device.now a.work.now) refl c.find.ensures

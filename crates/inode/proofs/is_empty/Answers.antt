@@ -1,0 +1,6 @@
+use Rattle.block.proofs.Keys.{zero-key}
+use borrow.Author.Rules.{rules}
+use Rattle.inode.proofs.is_empty.Goals as goal
+
+pub returns : goal.returns
+returns c = zero-key _ _ c.key_at.ensures.0

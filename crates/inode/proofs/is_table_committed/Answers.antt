@@ -1,0 +1,22 @@
+use mathlib.Core.Bool.{true≢false}
+use Prim.Native.Nat.{ℕ, ◌-◌, ◌<◌, ◌≤◌}
+use mathlib.Core.Path.{◌≡◌, sym, ◌∙◌}
+use lib.ListN.{length}
+use Rattle.spec.specs.Bytes.{place}
+use Rattle.transaction.specs.Places.{found_at}
+use Rattle.transaction.proofs.Laws.{place_in, place-start, place-miss, place_end}
+use Rattle.inode.proofs.Laws.{other_block}
+use borrow.Author.Rules.{rules}
+use Rattle.inode.proofs.is_table_committed.Goals as goal
+
+pub loop-i-init : goal.loop-i-init
+loop-i-init c = λ b p l. place-start c.args.staged.now b
+
+pub returns-then-is_table : goal.returns-then-is_table
+returns-then-is_table c = λ h. absurd (true≢false (sym h))
+
+pub loop-i-preserved : goal.loop-i-preserved
+loop-i-preserved c = λ b p l. c.loop-i.invariant b p l ∙ place-miss c.args.staged.now c.loop-i.i b c.loop-i-test.true (λ e. other_block _ b _ c.is_table.ensures c.if-is_table.false p l e)
+
+pub returns : goal.returns
+returns c = λ h b p l. c.loop-i.invariant b p l ∙ place_end c.args.staged.now c.loop-i.i b c.loop-i-test.false

@@ -1,0 +1,6 @@
+use Rattle.inode.proofs.Laws.{size_in}
+use borrow.Author.Rules.{rules}
+use Rattle.inode.proofs.size_of.Goals as goal
+
+pub returns : goal.returns
+returns c = size_in _ _ _ _ c.place_in_block.ensures.0 c.load4.ensures

@@ -1,0 +1,5 @@
+use borrow.Author.Rules.{rules}
+use Rattle.inode.proofs.start.Goals as goal
+
+pub returns : goal.returns
+returns c = c.start_at.ensures _ c.inode_block.ensures

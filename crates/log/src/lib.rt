@@ -1,1 +1,0 @@
-// Laws of the log: stores in a row, the header, the staged blocks, in specs/. No code.

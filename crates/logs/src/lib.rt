@@ -1,0 +1,2 @@
+// Laws of the log: stores in a row, the header, the staged blocks, in specs/. No code.
+#![tactic(auto)]

@@ -1,0 +1,24 @@
+use Prim.Native.Nat.{ℕ}
+use mathlib.Core.Path.{ap}
+use native.Mathlib.Omega.{arith}
+use lib.ListN.{length, length-replicate}
+use Rattle.block.proofs.Laws.{allowed-says}
+use Rattle.mkfs.proofs.Laws.{made}
+use borrow.Author.Rules.{rules}
+use Rattle.mkfs.proofs.make_empty.Goals as goal
+
+pub overflow_cast-n : goal.overflow_cast-n
+overflow_cast-n c = let a = allowed-says _ c.requires in omega arith
+
+pub empty_table-table-requires : goal.empty_table-table-requires
+empty_table-table-requires c = let a = allowed-says _ c.requires in (omega arith, omega arith)
+
+pub store_block-requires : goal.store_block-requires
+store_block-requires c =
+    let a = allowed-says _ c.requires in
+    let l = ap length c.clear.ensures in
+    omega (arith, length-replicate {A = ℕ} (length c.args.device.now) 0)
+
+pub returns : goal.returns
+returns c =
+    made _ _ _ _ _ c.clear.ensures c.empty_table-table.ensures.0 c.store_block.ensures

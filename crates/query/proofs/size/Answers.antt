@@ -1,0 +1,5 @@
+use borrow.Author.Rules.{rules}
+use Rattle.query.proofs.size.Goals as goal
+
+pub returns : goal.returns
+returns c = c.size_in.ensures

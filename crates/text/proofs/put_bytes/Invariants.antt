@@ -1,0 +1,13 @@
+use Rattle.text.proofs.Laws.{Left, left-start, left_step, left-length, left_end, next-byte, no_byte}
+use borrow.Author.Count.{falls}
+use mathlib.Core.Path.{refl}
+use Prim.Native.Nat.{◌-◌}
+use lib.ListN.{length, drop}
+use borrow.Author.Rules.{rules}
+use Rattle.text.proofs.put_bytes.Given as goal
+
+abbrev pub invariant-loop-k : goal.invariant-loop-k
+invariant-loop-k l = Left l.initial.out l.at l.bytes l.out l.p (drop l.k l.bytes)
+
+abbrev pub decreases-loop-k : goal.decreases-loop-k
+decreases-loop-k l = length l.bytes - l.k

@@ -1,0 +1,23 @@
+use Rattle.text.proofs.Laws.{Left, left-start, left_step, left-length, left_end, next-byte, no_byte}
+use borrow.Author.Count.{falls}
+use mathlib.Core.Path.{refl, ap}
+use Prim.Native.Nat.{◌-◌}
+use lib.ListN.{length, drop}
+use Rattle.spec.specs.Listing.{hexadecimal}
+use borrow.Author.Rules.{rules}
+use Rattle.text.proofs.put_hex.Goals as goal
+
+pub loop-k-init : goal.loop-k-init
+loop-k-init c = left-start _ _ _ _ refl
+
+pub loop-k-smaller : goal.loop-k-smaller
+loop-k-smaller c = falls _ _ c.loop-k-test.true
+
+pub loop-k-preserved : goal.loop-k-preserved
+loop-k-preserved c = left_step _ _ _ _ _ _ c.loop-k.invariant _ _ _ _ (ap hexadecimal (next-byte _ _ c.loop-k-test.true)) c.put_hex_byte-p.ensures
+
+pub shape_of-out : goal.shape_of-out
+shape_of-out c = left-length _ _ _ _ _ _ c.loop-k.invariant
+
+pub returns : goal.returns
+returns c = left_end _ _ _ _ _ _ c.loop-k.invariant (ap hexadecimal (no_byte _ _ c.loop-k-test.false))

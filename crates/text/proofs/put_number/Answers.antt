@@ -1,0 +1,7 @@
+use Rattle.text.specs.Written.{number}
+use borrow.Author.Rules.{rules}
+use Rattle.text.proofs.put_number.Goals as goal
+
+pub returns : goal.returns
+unfolding number
+returns c = c.put_digits.ensures

@@ -1,0 +1,30 @@
+use Prim.Native.Nat.{◌+◌, ◌*◌, ◌-◌, ◌≤◌}
+use mathlib.Core.Path.{◌≡◌}
+use mathlib.Core.Bool.{◌&&◌}
+use native.Mathlib.Omega.{arith}
+use lib.ListN.{drop}
+use Rattle.spec.specs.Bytes.{exactly, all}
+use Rattle.spec.specs.Inode.{slots_in}
+use Rattle.spec.specs.Sound.{slots_packed}
+use Rattle.tree.specs.Reached.{is_unused}
+use Rattle.tree.proofs.Slots.{unused-start, unused-more, unused-end}
+use borrow.Author.Rules.{rules}
+use Rattle.tree.proofs.are_packed.Goals as goal
+
+pub loop-j-init : goal.loop-j-init
+loop-j-init c = unused-start _ _ _ _ c.requires.1
+
+pub overflow_mul-j : goal.overflow_mul-j
+overflow_mul-j c = omega (arith, c.requires.0, c.loop-j-test.true)
+
+pub overflow_add-at : goal.overflow_add-at
+overflow_add-at c = omega (arith, c.requires.0, c.loop-j-test.true)
+
+pub slot_in-e-requires : goal.slot_in-e-requires
+slot_in-e-requires c = omega (arith, c.requires.0, c.loop-j-test.true)
+
+pub loop-j-preserved : goal.loop-j-preserved
+loop-j-preserved c = let a = c.args in let X = exactly 512 a.block.now in let l = c.loop-j in (omega (arith, c.loop-j-test.true), unused-more X a.at a.n l.j (slots_in a.n (drop a.at X)) l.unused l.invariant.1 c.slot_in-e.result c.loop-j-test.true c.slot_in-e.ensures.0)
+
+pub returns : goal.returns
+returns c = let a = c.args in let X = exactly 512 a.block.now in let l = c.loop-j in unused-end X a.at a.n l.j (slots_in a.n (drop a.at X)) l.unused l.invariant.1 (omega (arith, c.loop-j-test.false))

@@ -1,0 +1,5 @@
+use borrow.Author.Rules.{rules}
+use Rattle.tree.proofs.no_nodes.Goals as goal
+
+pub returns : goal.returns
+returns c = rw c.no_run-r.ensures

@@ -1,0 +1,12 @@
+use Rattle.spec.specs.Transaction.{State}
+use Rattle.spec.specs.Calls.{rename}
+use Rattle.capi.proofs.Kept.{rename-still}
+use Rattle.capi.proofs.Ends.{ends-in}
+use borrow.Author.Rules.{rules}
+use Rattle.capi.proofs.purse_rename_v.Goals as goal
+
+pub returns : goal.returns
+returns c =
+    let a = c.args in
+    let h = c.head_in-head in
+    ends-in (λ (s : State). rename s a.name.now a.new.now) (λ (s : State). rename-still s a.name.now a.new.now) a.numbers.now a.staged.now a.device.now a.work.now h.result h.ensures _ _ _ _ _ _ c.phase_in-phase.ensures c.rename_in-c.ensures _ _ c.changed.ensures

@@ -1,0 +1,12 @@
+use Rattle.spec.specs.Transaction.{State}
+use Rattle.spec.specs.Calls.{write}
+use Rattle.capi.proofs.Kept.{write-still}
+use Rattle.capi.proofs.Ends.{ends-in}
+use borrow.Author.Rules.{rules}
+use Rattle.capi.proofs.purse_write_v.Goals as goal
+
+pub returns : goal.returns
+returns c =
+    let a = c.args in
+    let h = c.head_in-head in
+    ends-in (λ (s : State). write s a.name.now a.x a.bytes.now) (λ (s : State). write-still s a.name.now a.x a.bytes.now) a.numbers.now a.staged.now a.device.now a.work.now h.result h.ensures _ _ _ _ _ _ c.phase_in-phase.ensures c.write_in-c.ensures _ _ c.changed.ensures

@@ -1,0 +1,20 @@
+use Prim.Native.Nat.{◌≤◌}
+use mathlib.Core.Path.{◌≡◌, refl, sym, ap, ◌∙◌}
+use native.Mathlib.Omega.{arith}
+use borrow.Author.Rules.{rules}
+use lib.ListN.{length}
+use Rattle.spec.specs.Bytes.{exactly}
+use Rattle.spec.specs.Inode.{block_of_inode}
+use Rattle.transaction.specs.Places.{view_in}
+use Rattle.inode.specs.Walk.{weight}
+use Rattle.extents.specs.Stretches.{rest_runs, growing_from}
+use Rattle.extents.proofs.Laws.{BegunIn, begin-in, on-slot-piece, on-slot-passed, on-slot-unused, on-node-next, on-node-none, no_room, goes_further, grow_first, grow-join, grow-apart}
+use Rattle.capi.proofs.Laws.{Filling, fill_start, fill-low, fill-grown, fill_on, fill_more, fill-last, listed-as}
+use Rattle.capi.proofs.put_runs.Given as goal
+
+abbrev pub invariant-loop-scan : goal.invariant-loop-scan
+invariant-loop-scan l = Filling (view_in l.staged l.device l.work) (rest_runs (view_in l.staged l.device l.work) (block_of_inode l.i) (record { run = l.initial.run; scan = l.initial.scan })) (block_of_inode l.i) l.initial.list l.list (record { run = l.run; scan = l.scan }) l.k
+    × (exactly 512 l.block ≡ view_in l.staged l.device l.work l.scan.at.block) × (length l.block ≤ 512)
+
+abbrev pub decreases-loop-scan : goal.decreases-loop-scan
+decreases-loop-scan l = weight l.scan.at

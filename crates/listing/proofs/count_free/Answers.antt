@@ -1,0 +1,9 @@
+use Rattle.spec.specs.Bitmap.{bits_of, free_bits}
+use mathlib.Core.List.{List}
+use mathlib.Core.Path.{ap, ◌∙◌}
+use Prim.Native.Nat.{ℕ}
+use borrow.Author.Rules.{rules}
+use Rattle.listing.proofs.count_free.Goals as goal
+
+pub returns : goal.returns
+returns c = c.free_count.ensures.0 ∙ ap (λ (t : List ℕ). free_bits (bits_of t)) (c.copy_of-table.ensures ∙ c.view_block.ensures)

@@ -1,0 +1,15 @@
+use Rattle.listing.proofs.Laws.{text-long, short-text, listed}
+use borrow.Author.Rules.{rules}
+use Rattle.listing.proofs.list_image.Reads as reads
+use Rattle.listing.proofs.list_image.Lts as lts
+use Rattle.listing.proofs.list_device.Reads as list-device-reads
+use Rattle.listing.proofs.put_refused.Reads as put-refused-reads
+use Rattle.listing.proofs.list_image.Goals as goal
+
+-- src/lib.rt:250:9
+pub returns-then-image-gt-LONGEST_IMAGE : goal.returns-then-image-gt-LONGEST_IMAGE
+returns-then-image-gt-LONGEST_IMAGE c = listed c.args.image.now _ _ _ _ c.put_refused.ensures (text-long c.args.image.now c.if-image-gt-LONGEST_IMAGE.true)
+
+-- src/lib.rt:246:1
+pub returns : goal.returns
+returns c = listed c.args.image.now _ _ _ _ c.list_device.ensures (short-text c.args.image.now c.if-image-gt-LONGEST_IMAGE.false)

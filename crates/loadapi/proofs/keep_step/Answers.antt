@@ -1,0 +1,11 @@
+use mathlib.Core.Path.{sym, ap, ◌∙◌}
+use Rattle.mirror.specs.Mirror.{numbers_of}
+use Rattle.loadapi.proofs.Laws.{stays, moves}
+use borrow.Author.Rules.{rules}
+use Rattle.loadapi.proofs.keep_step.Goals as goal
+
+pub returns-then-leaves_all : goal.returns-then-leaves_all
+returns-then-leaves_all c = let t = sym c.leaves_all.ensures ∙ c.if-leaves_all.true in (stays _ _ _ t, stays _ _ _ t)
+
+pub returns : goal.returns
+returns c = let t = sym c.leaves_all.ensures ∙ c.if-leaves_all.false in (c.keep.ensures ∙ ap numbers_of c.encode.ensures ∙ moves _ _ _ t, moves _ _ _ t)

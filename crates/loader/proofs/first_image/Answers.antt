@@ -1,0 +1,7 @@
+use native.Mathlib.Omega.{arith}
+use Rattle.promises.specs.Images.{image-is}
+use borrow.Author.Rules.{rules}
+use Rattle.loader.proofs.first_image.Goals as goal
+
+pub returns : goal.returns
+returns c = image-is _ _ (omega arith) c.copy.ensures

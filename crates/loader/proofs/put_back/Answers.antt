@@ -1,0 +1,7 @@
+use native.Mathlib.Omega.{arith}
+use Rattle.promises.specs.Images.{image-stored}
+use borrow.Author.Rules.{rules}
+use Rattle.loader.proofs.put_back.Goals as goal
+
+pub returns : goal.returns
+returns c = let a = c.args in image-stored a.image.now _ a.work.now c.copy.ensures (omega arith) (omega arith)

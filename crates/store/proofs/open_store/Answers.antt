@@ -1,0 +1,47 @@
+use native.Mathlib.Omega.{arith}
+use mathlib.Core.Path.{sym, ◌∙◌}
+use borrow.Author.Tests.{not-true, not-false}
+use Rattle.block.proofs.Laws.{allowed-says}
+use Rattle.checks.proofs.Laws.{told}
+use Rattle.store.proofs.Laws.{fault-at, no-fault, counted, open-device, open-header, open-log, open-unsound, open-ready}
+use borrow.Author.Rules.{rules}
+use Rattle.store.proofs.open_store.Goals as goal
+
+pub returns-then-not-is_allowed : goal.returns-then-not-is_allowed
+returns-then-not-is_allowed c =
+    λ work. told _ _ _ _ c.args.device.now work _ c.refused.ensures.0 c.refused.ensures.1 (open-device c.args.session c.args.device.now work (sym c.is_allowed.ensures ∙ c.if-not-is_allowed.true))
+
+pub returns-in-At : goal.returns-in-At
+returns-in-At c =
+    λ work.
+    let d = c.args.device.now in
+    let e = sym c.is_allowed.ensures ∙ c.if-not-is_allowed.false in
+    told _ _ _ _ d work _ c.refused-in-At.ensures.0 c.refused-in-At.ensures.1 (open-header c.args.session d work e _ (fault-at d _ e c.block_in-head.ensures _ _ _ c.header_fault.ensures c.in-At.is))
+
+pub returns-then-t-ne0 : goal.returns-then-t-ne0
+returns-then-t-ne0 c =
+    λ work.
+    let d = c.args.device.now in
+    let e = sym c.is_allowed.ensures ∙ c.if-not-is_allowed.false in
+    let n = counted d _ e c.block_in-head.ensures _ c.targets_in-t.ensures in
+    told _ _ _ _ d work _ (c.done.ensures.0 ∙ c.opened.ensures) c.done.ensures.1 (open-log c.args.session d work e (no-fault d _ e c.block_in-head.ensures _ _ c.header_fault.ensures c.in_default.is) (λ z. c.if-t-ne0.true (n ∙ z)))
+
+pub is_sound-requires : goal.is_sound-requires
+is_sound-requires c =
+    let a = allowed-says _ (sym c.is_allowed.ensures ∙ c.if-not-is_allowed.false) in a.high
+
+pub returns-then-not-is_sound : goal.returns-then-not-is_sound
+returns-then-not-is_sound c =
+    λ work.
+    let d = c.args.device.now in
+    let e = sym c.is_allowed.ensures ∙ c.if-not-is_allowed.false in
+    let n = counted d _ e c.block_in-head.ensures _ c.targets_in-t.ensures in
+    told _ _ _ _ d work _ c.refused-then-not-is_sound.ensures.0 c.refused-then-not-is_sound.ensures.1 (open-unsound c.args.session d work e (no-fault d _ e c.block_in-head.ensures _ _ c.header_fault.ensures c.in_default.is) (sym n ∙ c.if-t-ne0.false) (sym c.is_sound.ensures ∙ c.if-not-is_sound.true))
+
+pub returns : goal.returns
+returns c =
+    λ work.
+    let d = c.args.device.now in
+    let e = sym c.is_allowed.ensures ∙ c.if-not-is_allowed.false in
+    let n = counted d _ e c.block_in-head.ensures _ c.targets_in-t.ensures in
+    told _ _ _ _ d work _ (c.done-2.ensures.0 ∙ c.opened-2.ensures) c.done-2.ensures.1 (open-ready c.args.session d work e (no-fault d _ e c.block_in-head.ensures _ _ c.header_fault.ensures c.in_default.is) (sym n ∙ c.if-t-ne0.false) (sym c.is_sound.ensures ∙ c.if-not-is_sound.false))

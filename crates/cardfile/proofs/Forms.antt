@@ -354,3 +354,6 @@ name-as r w n e = e
 pub amount-is : (r : List ℕ) (n : ℕ) → r ≡ bytes_of 8 n → r ≡ amount_bytes n
 unfolding amount_bytes
 amount-is r n e = e
+
+-- what the answers of line_in need
+pub ruleset line_rules = (in-long, in-open, in-room, in-good, in-bad)

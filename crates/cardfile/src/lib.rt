@@ -303,6 +303,7 @@ fn form_of(line: &[u8]) -> Form
 }
 
 // What stands at a place, by the text from there on.
+#[tactic(auto, using(crate::proofs::Forms::line_rules))]
 fn line_in(rest: &[u8], at: usize) -> Line
     requires { at + length rest.now < 18446744073709551616 }
     ensures { result ≡ line_in rest.now at }

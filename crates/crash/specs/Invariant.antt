@@ -1,6 +1,6 @@
 -- What relates the store to the plain store, phase by phase, and how single stores keep it.
-use Rattle.std.specs.Prelude.{ℕ, suc, ◌+◌, ◌≤◌, ◌<◌, ◌≡◌, refl, Bool, true, false, ◌⊎◌, List, [], ◌∷◌, T, length, drop, get_or}
-use Rattle.std.proofs.Common.{sym, ap, ◌∙◌, subst, inl, inr, arith}
+use Rattle.std.specs.Prelude.{ℕ, suc, ◌+◌, ◌≤◌, ◌<◌, ◌≡◌, Bool, true, false, List, [], ◌∷◌, T, length, drop, get_or}
+use Rattle.std.proofs.Common.{sym, ap, ◌∙◌, subst, arith}
 use Rattle.std.proofs.Math.Option.{none}
 use Rattle.std.proofs.lemmas.List.{length-map}
 use Rattle.std.proofs.Math.Seq.{drop-length}
@@ -14,9 +14,10 @@ use Rattle.spec.specs.Transaction.{State, BlockStore, put}
 use Rattle.spec.specs.Journal.{header_of, targets_in, header_fault, are_targets, redo_from}
 use Rattle.spec.specs.Plain.{Plain, Mode, plain}
 use Rattle.transaction.proofs.Laws.{shown}
-use Rattle.logs.specs.Stores.{upd, upd_same, upd_other, Whole, upd-whole, Long, long-entry, blank, applied, applied-whole, applied-agree, applied-off, applied-drop, Avoids, avoids-entry, Entry, Entries, entry_at, absorb, Ascending, ascending-avoids, ascending-targets, targets_of, redo-is}
+use Rattle.logs.specs.Stores.{upd, upd_same, upd_other, Whole, upd-whole, Long, long-entry, blank, applied, applied-whole, applied-agree, applied-drop, avoids-entry, Entry, Entries, entry_at, absorb, Ascending, ascending-avoids, ascending-targets, targets_of, redo-is}
 use Rattle.logs.specs.Targets.{Targets, targets-listed, are-targets, holds, truth}
-use Rattle.logs.specs.Header.{header-targets, header-right, length-header, length-clear, clear-targets, clear-right, clear_zero}
+use Rattle.logs.specs.Header.{length-header, length-clear, clear_zero}
+use Rattle.logs.proofs.Header.{header-targets, header-right, clear-targets, clear-right}
 use Rattle.logs.specs.View.{Held, list_of, numbered}
 use Rattle.crash.specs.Interface.{FilesOn}
 use Rattle.crash.specs.Machine.{ses, at}
@@ -25,11 +26,6 @@ use Rattle.crash.specs.Machine.{ses, at}
 abbrev pub InLog : List BlockStore → Type 0
 InLog [] = Unit {0}
 InLog (e ∷ s) = (1 ≤ e.block) × (e.block ≤ log_length) × InLog s
-
-log-avoids : (n : ℕ) (s : List BlockStore) → (n ≡ 0) ⊎ (33 ≤ n) → InLog s → Avoids n s
-log-avoids n [] h g = tt
-log-avoids n (e ∷ s) (inl h) g = ((λ q. omega (arith, g.0)), log-avoids n s (inl h) g.2)
-log-avoids n (e ∷ s) (inr h) g = ((λ q. omega (arith, g.1)), log-avoids n s (inr h) g.2)
 
 -- a list that a commit takes
 pub record Taken (N : ℕ) (l : List BlockStore) : Type 0 where
@@ -100,15 +96,6 @@ module _ {N : ℕ} (F : FilesOn N) where
   pub local : (v w : Disk) (c : Files) → Whole v → Whole w → ((b : ℕ) → 33 ≤ b → w b ≡ v b) → Means v c → Means w c
   local v w c g h q m =
       record { good = F.good-local v w g h q m.good; files = λ name. F.files-local v w g h q m.good name ∙ m.files name }
-
-  -- any stores to blocks 1 to 32 leave a settled disk settled
-  pub settled-log : (s : List BlockStore) (v : Disk) (c : Files) → InLog s → Long s → Settled v c → Settled (applied s v) c
-  settled-log s v c i g z =
-      record {
-        clear = applied-off 0 s v (log-avoids 0 s (inl refl) i) ∙ z.clear;
-        whole = applied-whole s v g z.whole;
-        means = local v (applied s v) c z.whole (applied-whole s v g z.whole) (λ b h. applied-off b s v (log-avoids b s (inr h) i)) z.means;
-      }
 
   -- any stores of the list, in any order and any number of times, leave it logged
   pub logged-entry : (e : BlockStore) (l : List BlockStore) (v : Disk) (c : Files) → Entry e l → Logged l v c → Logged l (upd e v) c

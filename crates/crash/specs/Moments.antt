@@ -1,34 +1,33 @@
--- Each moment and each call of a list is as the cut rule says.
-use Rattle.std.specs.Prelude.{ℕ, ◌≡◌, refl, Bool, true, false, cond, ◌&&◌, List, [], ◌∷◌, T, eqb, length}
+-- Each moment and each call of a list is as the cut rule says (proofs/Moments.antt). Here: what the invariant says in every phase, so at one moment, and of a cut.
+use Rattle.std.specs.Prelude.{ℕ, ◌≡◌, refl, Bool, true, false, ◌&&◌, List, [], ◌∷◌, T, eqb, length}
 use Rattle.std.proofs.Common.{sym, ap, ap₂, ◌∙◌, subst, true≢false, eq-eqb}
-use Rattle.std.proofs.Math.Option.{none, some, map}
+use Rattle.std.proofs.Math.Option.{none, some}
 use Rattle.spec.specs.Bytes.{all, distinct}
 use Rattle.spec.specs.Disk.{Disk, Slice, is_target}
 use Rattle.spec.specs.Sound.{volume_sound}
 use Rattle.spec.specs.Map.{Files, files_of}
-use Rattle.spec.specs.declared.Phase.TheVariants.{Closed, Ready, Committing, Recovering}
+use Rattle.spec.specs.declared.Phase.TheVariants.{Closed, Committing}
 use Rattle.spec.specs.declared.Session.{Session}
 use Rattle.spec.specs.declared.Refusal.{Refusal}
 use Rattle.spec.specs.declared.Refusal.TheVariants.{DeviceSize, WorkSize, BadName, TooLarge, BadHeader, Unsound, NotReady, Unknown, Taken, NoInode, NoSpace, TooManyExtents, TooManyStaged, ListShort}
 use Rattle.spec.specs.Session.{opened, staged_in, with_staged}
 use Rattle.spec.specs.Answers.{Answer, refused, done, started, stored, idle, counted, file, no_file, run, no_run, refusal_of, is_refused}
 use Rattle.spec.specs.Transaction.{State, view}
-use Rattle.spec.specs.Calls.{Outcome, Call, step}
-use Rattle.spec.specs.Plain.{Plain, Mode, plain, phase_of, accepted, follow}
-use Rattle.spec.specs.CutRule.{Event, call, cut, Both, refusal_in, Moment, Always, Each, next, after, Rightly}
+use Rattle.spec.specs.Calls.{step}
+use Rattle.spec.specs.Plain.{Plain, Mode, plain, phase_of}
+use Rattle.spec.specs.CutRule.{cut, Both, refusal_in, Moment, next}
 use Rattle.transaction.proofs.Laws.{shown}
 use Rattle.logs.specs.Stores.{Whole}
 use Rattle.logs.specs.Targets.{targets-listed, truth}
 use Rattle.logs.specs.View.{Held, held_none, numbered, list_of, list_length, view-is}
 use Rattle.crash.specs.Interface.{FilesOn}
-use Rattle.crash.specs.Tests.{keeping, turned_down, taken}
 use Rattle.crash.specs.Machine.{ses, at, ses-none, ses-staged}
 use Rattle.crash.specs.Invariant.{Means, Settled, Rest, settled, logged, Inv, closed, ready, imaging, targeting, recovering, settled-sound}
-use Rattle.crash.specs.Steps.{both, Goes, goes}
+use Rattle.crash.specs.Steps.{both}
 
 -- ---- answers
 
-refusal_is : (r : Refusal) → (n : ℕ) × (vs : List ℕ) × (refusal_of r ≡ refused n vs)
+pub refusal_is : (r : Refusal) → (n : ℕ) × (vs : List ℕ) × (refusal_of r ≡ refused n vs)
 refusal_is DeviceSize = (1, [], refl)
 refusal_is WorkSize = (2, [], refl)
 refusal_is BadName = (3, [], refl)
@@ -43,9 +42,6 @@ refusal_is NoSpace = (16, [], refl)
 refusal_is TooManyExtents = (17, [], refl)
 refusal_is TooManyStaged = (18, [], refl)
 refusal_is ListShort = (19, [], refl)
-
-refused-is : (r : Refusal) → is_refused (refusal_of r) ≡ true
-refused-is r = ap is_refused (refusal_is r).2
 
 pub refusal-in : (r : Refusal) → refusal_in (refusal_of r) ≡ some (refusal_of r)
 refusal-in r = let e = (refusal_is r).2 in ap refusal_in e ∙ ap some (sym e)
@@ -73,30 +69,6 @@ differ : {A : Type 0} (x y : Mode) → eqb (code x) (code y) ≡ false → x ≡
 differ x y h e = absurd (true≢false (sym (eq-eqb (code x) (code y) (ap code e)) ∙ h))
 
 module _ {N : ℕ} (F : FilesOn N) where
-  -- ---- a call
-
-  rightly : (b : Both) (c : Call) → Goes F b c → Rightly step N b c
-  rightly b c (turned_down r d e) =
-      let a : (step b.store c).answer ≡ refusal_of r = ap (λ (o : Outcome). o.answer) e in
-      record {
-        refused = ap refusal_in a ∙ refusal-in r ∙ sym (ap (map refusal_of) d);
-        kept = λ h. e ∙ ap (keeping b.store c) (sym a);
-        accepted = λ h. absurd (true≢false (sym (ap is_refused a ∙ refused-is r) ∙ h));
-      }
-  rightly b c (taken d k) =
-      record {
-        refused = accepted-is (step b.store c).answer k.answer ∙ sym (ap (map refusal_of) d);
-        kept = λ h. absurd (true≢false (sym h ∙ k.answer));
-        accepted = λ h. k.accepts;
-      }
-
-  inv-call : (b : Both) (c : Call) → Inv F b.store b.plain → Goes F b c → Inv F (next step N b (call c)).store (next step N b (call c)).plain
-  inv-call b c i (turned_down r d e) =
-      subst (λ (o : Outcome). Inv F o.after (follow N b.plain c o.answer)) (sym e)
-      (subst (λ (t : Bool). Inv F b.store (cond t b.plain (accepted N b.plain c (refusal_of r)))) (sym (refused-is r)) i)
-  inv-call b c i (taken d k) =
-      subst (λ (t : Bool). Inv F (step b.store c).after (cond t b.plain (accepted N b.plain c (step b.store c).answer))) (sym k.answer) k.inv
-
   -- ---- a moment
 
   -- what the invariant says in every phase
@@ -167,7 +139,7 @@ module _ {N : ℕ} (F : FilesOn N) where
   rest-whole v c k false (settled z) = z.whole
   rest-whole v c k true (logged l e g) = g.whole
 
-  moment : (s : State) (p : Plain) → Seen s p → Moment N (both s p)
+  pub moment : (s : State) (p : Plain) → Seen s p → Moment N (both s p)
   moment s p x =
       let n = ses p.blocks (phase_of p) x.bs in
       let q : staged_in n ≡ x.bs = ses-staged p.blocks (phase_of p) x.bs in
@@ -190,26 +162,7 @@ module _ {N : ℕ} (F : FilesOn N) where
 
   -- ---- a cut
 
-  inv-cut : (b : Both) (w : Slice) → Seen b.store b.plain → Inv F (next step N b (cut w)).store (next step N b (cut w)).plain
+  pub inv-cut : (b : Both) (w : Slice) → Seen b.store b.plain → Inv F (next step N b (cut w)).store (next step N b (cut w)).plain
   inv-cut b w x =
       closed 0 b.plain.committed b.plain.k b.plain.d b.plain.pending x.disk w
       (ap₂ (λ (n : Session) (y : State). record { session = n; device = y.device; work = w }) (ses-none 0 Closed) x.is) refl x.rest
-
-  inv-next : (b : Both) (e : Event) → Inv F b.store b.plain → Inv F (next step N b e).store (next step N b e).plain
-  inv-next b (call c) i = inv-call b c i (goes F c b.store b.plain i)
-  inv-next b (cut w) i = inv-cut b w (seen b.store b.plain i)
-
-  -- ---- a list
-
-  pub moments : (es : List Event) (b : Both) → Inv F b.store b.plain → Always step N (Moment N) b es
-  moments [] b i = moment b.store b.plain (seen b.store b.plain i)
-  moments (e ∷ es) b i = (moment b.store b.plain (seen b.store b.plain i), moments es (next step N b e) (inv-next b e i))
-
-  pub calls : (es : List Event) (b : Both) → Inv F b.store b.plain → Each step N (Rightly step N) b es
-  calls [] b i = tt
-  calls (call c ∷ es) b i = (rightly b c (goes F c b.store b.plain i), calls es (next step N b (call c)) (inv-next b (call c) i))
-  calls (cut w ∷ es) b i = calls es (next step N b (cut w)) (inv-next b (cut w) i)
-
-  pub inv-after : (es : List Event) (b : Both) → Inv F b.store b.plain → Inv F (after step N b es).store (after step N b es).plain
-  inv-after [] b i = i
-  inv-after (e ∷ es) b i = inv-after es (next step N b e) (inv-next b e i)

@@ -1,2 +1,2 @@
-// The cut rule, over laws of files on disks, in specs/. No code.
+// The cut rule, over laws of files on disks, in specs/ and proofs/. No code.
 #![tactic(auto)]

@@ -14,7 +14,7 @@ use Rattle.lists.specs.Tests.{both_true}
 use Rattle.logs.specs.Stores.{Whole}
 use Rattle.crash.specs.Interface.{Plans, FileLayer}
 use Rattle.crash.specs.Tests.{one_name, two-names}
-use Rattle.crash.specs.Theorem.{cut-rule}
+use Rattle.crash.proofs.Theorem.{cut-rule}
 use Rattle.laws.specs.Bytes.{below-drop, record-small}
 use Rattle.laws.specs.Good.{Good}
 use Rattle.laws.specs.Volume.{volume-sound, own_name}

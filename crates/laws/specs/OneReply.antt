@@ -16,7 +16,7 @@ use Rattle.spec.specs.Refusals.{due}
 use Rattle.spec.specs.CutRule.{call, refusal_in, start_of, CutRule}
 use Rattle.lists.specs.Tests.{both_true}
 use Rattle.logs.specs.Targets.{holds}
-use Rattle.logs.specs.Header.{clear-right, clear-targets}
+use Rattle.logs.proofs.Header.{clear-right, clear-targets}
 use Rattle.crash.specs.Machine.{empty-clear, allowed-ok, clear-due}
 use Rattle.laws.specs.Starts.{empty_store, empty-sound, empty-starts}
 

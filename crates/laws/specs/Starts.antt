@@ -1,4 +1,4 @@
--- Demand 3 begins "from a store formatted whole or opened as sound": what format and open leave starts a list of the cut rule. Assumes nothing.
+-- Demand 3 begins "from a store formatted whole or opened as sound": what format and open leave starts a list of the cut rule (open: proofs/Starts.antt). Assumes nothing.
 use Rattle.std.specs.Prelude.{ℕ, zero, suc, ◌+◌, ◌*◌, ◌/◌, ◌%◌, ◌≤◌, ◌<◌, ◌≡◌, Bool, cond, ◌&&◌, ◌||◌, List, [], ◌∷◌, map, T, get_or, drop}
 use Rattle.std.proofs.Math.Path.{refl}
 use Rattle.std.proofs.Common.{sym, ap, ◌∙◌, subst, true≢false, inl, inr, get_or-take, get_or-drop, arith}
@@ -21,9 +21,8 @@ use Rattle.spec.specs.Transaction.{State, with_session, state_of}
 use Rattle.spec.specs.Journal.{target_at, targets_before, targets_in, is_record_wrong, header_fault}
 use Rattle.spec.specs.Calls.{Outcome, outcome, settle, is_ready, empty_disk, format, open_phase, open_store, Format, Open, step, left}
 use Rattle.spec.specs.CutRule.{Starts}
-use Rattle.lists.specs.Tests.{and_both}
 use Rattle.lists.specs.Lowest.{lowest-none}
-use Rattle.block.proofs.Laws.{block-length, allowed-says}
+use Rattle.block.proofs.Laws.{allowed-says}
 use Rattle.logs.specs.Targets.{truth}
 use Rattle.logs.specs.Header.{clear_zero}
 use Rattle.crash.specs.Machine.{empty-clear, empty-whole, allowed-ok}
@@ -97,7 +96,7 @@ module _ (N : ℕ) (xs : List ℕ) (whole : length xs ≡ block_size) (right : h
 -- ---- open
 
 -- open by the results of its tests: the length, the header's lowest wrong record, no record used, S1 to S8
-abbrev opening : Bool → Option ℕ → Bool → Bool → State → Outcome
+abbrev pub opening : Bool → Option ℕ → Bool → Bool → State → Outcome
 opening a o t v s =
     settle (outcome s)
     (require a DeviceSize
@@ -105,31 +104,12 @@ opening a o t v s =
     >> (cond (is_ready (cond t Ready (Recovering 0))) (require v Unsound) (accept true)
     >> accept (outcome (with_session s (opened (s.device.size / block_size) (cond t Ready (Recovering 0)))) done))))
 
-ready-says : (a : Bool) (o : Option ℕ) (t v : Bool) (s : State) → (opening a o t v s).answer ≡ done → (opening a o t v s).after.session.phase ≡ Ready
-    → (a ≡ true) × (o ≡ none) × (t ≡ true) × (v ≡ true)
-ready-says false o t v s h p = absurd (true≢false (ap is_refused h))
-ready-says true (some i) t v s h p = absurd (true≢false (ap is_refused h))
-ready-says true none true true s h p = (refl, refl, refl, refl)
-ready-says true none true false s h p = absurd (true≢false (ap is_refused h))
-ready-says true none false v s h p = absurd (false≢true (ap is_ready p))
-
 anew-says : (a : Bool) (o : Option ℕ) (t v : Bool) (s : State) (n : Session) → (opening a o t v s).answer ≡ done → opening a o t v (with_session s n) ≡ opening a o t v s
 anew-says false o t v s n h = absurd (true≢false (ap is_refused h))
 anew-says true (some i) t v s n h = absurd (true≢false (ap is_refused h))
 anew-says true none true true s n h = refl
 anew-says true none true false s n h = absurd (true≢false (ap is_refused h))
 anew-says true none false v s n h = refl
-
--- "opened as sound": a device on which open answers done with a ready session is sound
-pub ready-sound : (s : State) → length (s.device.block header_block) ≡ block_size → (step s Open).answer ≡ done → (step s Open).after.session.phase ≡ Ready
-    → (is_allowed s.device.size ≡ true) × T (sound (s.device.size / block_size) s.device.block)
-unfolding open_store open_phase
-ready-sound s whole h p =
-    let N = s.device.size / block_size in
-    let d = s.device.block in
-    let r = ready-says (is_allowed s.device.size) (header_fault N (d header_block)) (eqb (length (targets_in (d header_block))) 0) (volume_sound N d) s h p in
-    let z = header-zero N (d header_block) whole r.1 (eqb-true (length (targets_in (d header_block))) 0 r.2) in
-    (r.0, truth (sound N d) (and_both (all_zero (d header_block)) (volume_sound N d) z r.3))
 
 -- "Open makes a new session whatever went before": an open that is done has the same outcome with a session never opened
 pub open-anew : (s : State) → (step s Open).answer ≡ done → step (with_session s never_opened) Open ≡ step s Open
@@ -141,7 +121,7 @@ open-anew s h =
 
 -- ---- by the promises of open and format
 
-whole-blocks : (size : ℕ) → is_allowed size ≡ true → size ≡ block_size * (size / block_size)
+pub whole-blocks : (size : ℕ) → is_allowed size ≡ true → size ≡ block_size * (size / block_size)
 whole-blocks size h = let a = allowed-says size h in let q = a.whole in omega (arith, q)
 
 -- what a function left on device d and work space w, with session t and answer a, is the outcome of open: answered done and ready, it starts a
@@ -149,13 +129,6 @@ whole-blocks size h = let a = allowed-says size h in let q = a.whole in omega (a
 module _ (s t : Session) (d w : List ℕ) (a : Answer) (small : (i : ℕ) → get_or d i 0 < 256) (is-done : a ≡ done) (ready : t.phase ≡ Ready)
     (promise : left t d w a ≡ step (state_of s d w) Open)
   where
-    pub opened-starts : Starts (length d / block_size) (state_of never_opened d w)
-    opened-starts =
-        let answer : (step (state_of s d w) Open).answer ≡ done = sym (ap (λ (o : Outcome). o.answer) promise) ∙ is-done in
-        let phase : (step (state_of s d w) Open).after.session.phase ≡ Ready = sym (ap (λ (o : Outcome). o.after.session.phase) promise) ∙ ready in
-        let r = ready-sound (state_of s d w) (block-length d header_block) answer phase in
-        starts-on (length d / block_size) never_opened d w (truth (is_allowed (length d)) r.0) (whole-blocks (length d) r.0) small r.1 (inr refl)
-
     pub opened-first : left t d w a ≡ step (state_of never_opened d w) Open
     opened-first = promise ∙ sym (open-anew (state_of s d w) (sym (ap (λ (o : Outcome). o.answer) promise) ∙ is-done))
 

@@ -24,7 +24,8 @@ use Rattle.logs.specs.View.{Held, numbered, view-is}
 use Rattle.crash.specs.Interface.{FilesOn}
 use Rattle.crash.specs.Machine.{ses, at, ses-none, ses-staged}
 use Rattle.crash.specs.Invariant.{Rest, settled, logged, Inv, closed}
-use Rattle.crash.specs.Moments.{Seen, seen, inv-after}
+use Rattle.crash.specs.Moments.{Seen, seen}
+use Rattle.crash.proofs.Moments.{inv-after}
 use Rattle.crash.specs.Theorem.{bounds}
 use Rattle.laws.specs.Good.{Good}
 use Rattle.laws.specs.Files.{files, files-good}

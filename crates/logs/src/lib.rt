@@ -1,2 +1,2 @@
-// Laws of the log: stores in a row, the header, the staged blocks, in specs/. No code.
+// Laws of the log: stores in a row, the header, the staged blocks, in specs/ and proofs/. No code.
 #![tactic(auto)]

@@ -1,0 +1,4 @@
+pub mod Invariant
+pub mod Steps
+pub mod Moments
+pub mod Theorem

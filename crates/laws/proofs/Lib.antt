@@ -1,0 +1,4 @@
+pub mod Starts
+pub mod CallRuns
+pub mod Determined
+pub mod Programs

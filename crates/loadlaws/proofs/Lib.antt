@@ -1,0 +1,4 @@
+pub mod Lists
+pub mod Turns
+pub mod Maps
+pub mod Begins

@@ -58,14 +58,17 @@ def tables(library):
 
 def moved(mnemonic, operands):
     """By how much an instruction lowers the stack pointer."""
-    if mnemonic.startswith("push"):
+    if mnemonic in ("push", "pushq"):
         return 8
-    if mnemonic.startswith("pop"):
+    if mnemonic in ("pop", "popq"):
         return -8
     match = re.fullmatch(r"\$(-?0x[0-9a-f]+),%rsp", operands)
     if match and mnemonic.startswith(("sub", "add")):
         value = int(match.group(1), 16)
         return value if mnemonic.startswith("sub") else -value
+    match = re.fullmatch(r"(-?0x[0-9a-f]+)\(%rsp\),%rsp", operands)
+    if match and mnemonic == "lea":
+        return -int(match.group(1), 16)
     if operands.endswith(",%rsp") and not mnemonic.startswith(("cmp", "test", "mov", "lea")):
         sys.exit(f"frames: {mnemonic} {operands}")
     if re.search(r"[^(]%rsp$", operands) and mnemonic.startswith(("mov", "lea")) and "(%rsp)" not in operands.split(",")[-1]:

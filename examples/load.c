@@ -1,5 +1,6 @@
 /* Loads the printer's file into a till box: a purse for each line, a transaction for each purse.
  *
+ *     tools/build capi loadapi
  *     gcc -std=c11 -Wall -Wextra -pedantic -O2 -Iinclude examples/load.c target/staticlib/libcapi.a target/staticlib/libloadapi.a -o load
  *     ./load box.img samples/monday.txt        the box must be there: ./purse format box.img 64 makes one
  *     ./load box.img samples/monday.txt 3      the same from line 3 on

@@ -1,5 +1,6 @@
 /* A sale on a till box: the meal, the wash booked with it and the new balance, in one transaction over three files of a card holder.
  *
+ *     tools/build capi purselist
  *     gcc -std=c11 -Wall -Wextra -pedantic -O2 -Iinclude examples/sale.c target/staticlib/libcapi.a -o sale
  *     ./sale box.img          makes the image if there is none, and books a sale
  *     ./sale box.img 5        the same, but the plug is pulled after five blocks: the next run recovers

@@ -3,13 +3,10 @@
 # them and of their recovery. The last line is 'ok'.
 set -eu
 cd "$(dirname "$0")/.."
-rt staticlib capi >/dev/null
-rt staticlib loadapi >/dev/null
-rt staticlib convertapi >/dev/null
-rt check purselist >/dev/null
 tmp=$(mktemp -d)
 boxes=$(mktemp -d -p /dev/shm 2>/dev/null || mktemp -d) # in memory where there is such a place: each store is flushed
 trap 'rm -rf "$tmp" "$boxes"' EXIT
+tools/build capi loadapi convertapi purselist >"$tmp/build" || { tail -n 20 "$tmp/build" >&2; exit 1; }
 c="gcc -std=c11 -Wall -Wextra -pedantic -Werror -O2 -Iinclude"
 library="target/staticlib/libcapi.a target/staticlib/libloadapi.a"
 conversions=target/staticlib/libconvertapi.a

@@ -24,8 +24,8 @@
  * call that is refused leaves such a session as it is. One that is accepted, and may change the session, leaves it with regular numbers:
  * phase 0 where the number given was no phase, place 0 where the phase has no place.
  *
- * Link with target/staticlib/libcapi.a (rt staticlib capi), and for the calls of a load with libloadapi.a besides (rt staticlib loadapi). A
- * conversion uses nothing of the store: a program that only converts links with libconvertapi.a alone (rt staticlib convertapi). Every
+ * Link with target/staticlib/libcapi.a (tools/build capi), and for the calls of a load with libloadapi.a besides (tools/build loadapi). A
+ * conversion uses nothing of the store: a program that only converts links with libconvertapi.a alone (tools/build convertapi). Every
  * function of them is proved to do exactly what is specified of its call, for all arguments: crates/capi/src/lib.rt,
  * crates/loadapi/src/lib.rt and crates/convertapi/src/lib.rt have the promises. The functions of this header are not proved: those over a
  * session, and the conversions, only hand on to the library, those over a box call these. examples/calls.c and examples/convert.c test them,

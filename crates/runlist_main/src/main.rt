@@ -18,7 +18,7 @@ struct Listed {
     list: [Extent; 8],
 }
 
-// A list of eight places, lent to the call: the one function here that holds a reference to extents, so its proof is a walk by hand.
+// A list of eight places, lent to the call.
 fn list_runs<'a>(
     device: &'a [u8],
     work: &'a [u8],

@@ -8,11 +8,10 @@ use native.Mathlib.Decide.{dec_lt}
 use native.Mathlib.Omega.{arith}
 use borrow.Author.Tests.{eqb-true, eqb-false, eq-eqb, ne_eqb, leb-true}
 use lib.Dec.{eqb, leb}
-use lib.ListN.{length, take, drop, get_or, length-append, length-take, length-drop, drop_of_length-le, get_or-append, get_or-eq_default}
+use lib.ListN.{length, take, drop, get_or, length-append, length-take, length-drop, get_or-append, get_or-eq_default}
 use lib.Seq.{ext_get_or, take-nil, take-append_seam, drop-append-add, drop-drop, get_or-take, get_or-drop, get_or-append-add}
 use Rattle.spec.specs.Bytes.{zeros, exactly, patch, number2, number4, bytes2, bytes4, same}
 use Rattle.spec.specs.Disk.{Disk, Slice, blocks_of, with_block, slice_of, is_allowed}
-use Rattle.block.specs.Stores.{stored_in}
 
 pub lt-or-le : (a b : ℕ) → (a < b) ⊎ (b ≤ a)
 lt-or-le a b = elim (dec_lt a b) [ yes h ↦ inl h | no h ↦ inr (omega arith) ]

@@ -1,12 +1,12 @@
 -- Laws of comparing a block with its new content, and of making that in its image. Assumes nothing.
 use Prim.Native.Nat.{ℕ, ◌+◌, ◌*◌, ◌-◌, ◌<◌, ◌≤◌, min}
 use mathlib.Core.Path.{◌≡◌, refl, sym, ap, ap₂, ◌∙◌, fun_ext}
-use mathlib.Core.Bool.{Bool, true, false, cond, ◌&&◌, true≢false}
+use mathlib.Core.Bool.{Bool, true, false, ◌&&◌, true≢false}
 use mathlib.Core.List.{List, [], ◌∷◌, ◌++◌}
 use native.Mathlib.Omega.{arith}
 use borrow.Author.Tests.{eqb-true}
 use lib.Dec.{eqb}
-use lib.ListN.{length, take, drop, get_or, length-take, length-drop, take-append-drop}
+use lib.ListN.{length, take, drop, length-take, length-drop, take-append-drop}
 use lib.Seq.{take_all, drop-drop, take-append_seam, drop-append_seam, ext_get_or, get_or-take, get_or-drop}
 use Rattle.spec.specs.Bytes.{exactly, part, patch, same, place}
 use Rattle.spec.specs.Disk.{Disk, Slice, slice_of, blocks_of, with_block}

@@ -1,13 +1,12 @@
 -- Laws of the places of blocks among the blocks of extents. Assumes nothing.
 use Prim.Native.Nat.{ℕ, zero, suc, ◌+◌, ◌-◌, ◌<◌, ◌≤◌}
 use mathlib.Core.Path.{◌≡◌, refl, sym, ap, ◌∙◌}
-use mathlib.Core.List.{List, [], ◌∷◌, ◌++◌, append_assoc}
+use mathlib.Core.List.{List, [], ◌∷◌, ◌++◌}
 use native.Mathlib.Omega.{arith}
 use native.Mathlib.Numerals.{add-one}
 use native.Mathlib.Nat.{add-zero}
 use lib.ListN.{length, get_or, length-append, get_or-append}
 use lib.Seq.{get_or-append-add}
-use Rattle.spec.specs.declared.Extent.{Extent}
 use Rattle.spec.specs.Bytes.{up_from}
 use Rattle.spec.specs.Inode.{extent, blocks_in, counts}
 use Rattle.runs.specs.Tree.{Runs}

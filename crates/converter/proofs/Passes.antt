@@ -12,7 +12,7 @@ use lib.Dec.{eqb, ltb}
 use borrow.Author.Tests.{eq-eqb, ne_eqb, lt-ltb, le-ltb, le-leb, lt-leb}
 use Rattle.spec.specs.Answers.{Answer, refused, counted}
 use Rattle.spec.specs.Listing.{decimal, hexadecimal}
-use Rattle.cardfile.specs.Cards.{Entry, Proper, number_of, bytes_of, padded, digits_for, spell, line_text, before, entry_of}
+use Rattle.cardfile.specs.Cards.{Entry, number_of, bytes_of, padded, digits_for, spell, before, entry_of}
 use Rattle.cardfile.specs.Lines.{split_lines, card_for, line_at}
 use Rattle.cardfile.specs.declared.Card.{Card}
 use Rattle.cardfile.specs.declared.Line.TheVariants.{Found, TooLong, BadForm, NoLine}
@@ -20,7 +20,7 @@ use Rattle.cardfile.proofs.Laws.{no_byte}
 use Rattle.cardfile.proofs.Splits.{split-some, split-feed, split-last, split-nil}
 use Rattle.cardfile.proofs.Spelling.{read_is, bytes-number, digits-few, length-hex, length-padded}
 use Rattle.cardfile.proofs.Names.{width_fits, number_fits}
-use Rattle.cardfile.proofs.Places.{Stands, stands, too-long-at, malformed-at, nothing-at, long-at, bad-at, none-at, FoundAt, found_at}
+use Rattle.cardfile.proofs.Places.{Stands, stands, too-long-at, malformed-at, nothing-at, long-at, bad-at, none-at, found_at}
 use Rattle.converter.specs.declared.Room.{Room}
 use Rattle.converter.specs.Convert.{cents, line_with, Conversion, output, refusal, onto, entry_converted, line_converted, last_converted, convert_lines, convert_file}
 use Rattle.converter.specs.Passes.{answer_behind, answer_for, spelt_size}

@@ -8,9 +8,9 @@ use native.Mathlib.Omega.{arith}
 use native.Mathlib.Nat.{div-div-eq-div-mul, pow-succ', one-le-pow}
 use lib.ListN.{length, take, drop, length-append, take-append-drop}
 use lib.Seq.{drop-drop, take_all, drop_at, take_at}
-use lib.Dec.{eqb, ltb, leb}
+use lib.Dec.{eqb, leb}
 use borrow.Author.Tests.{eq-eqb, ne_eqb, leb-true}
-use Rattle.spec.specs.Answers.{Answer, refused, counted}
+use Rattle.spec.specs.Answers.{refused, counted}
 use Rattle.spec.specs.Listing.{decimal, hexadecimal}
 use Rattle.text.specs.Written.{Written}
 use Rattle.text.proofs.Laws.{written_then, written_as, Left, left-start, left_step, left_end, left-length, laid-front}
@@ -24,7 +24,7 @@ use Rattle.cardfile.proofs.Names.{exactly-front}
 use Rattle.converter.specs.declared.Spelling.{Spelling}
 use Rattle.converter.specs.declared.Converted.{Converted}
 use Rattle.converter.specs.declared.Converted.TheVariants.{Length}
-use Rattle.converter.specs.Convert.{letter_of, cents, line_with, Conversion, output, refusal, onto, entry_converted, line_converted, last_converted, convert_lines, convert_file, ConvertOutcome, left_buffer, settled, convert, converted_of}
+use Rattle.converter.specs.Convert.{letter_of, cents, line_with, Conversion, output, refusal, onto, entry_converted, line_converted, last_converted, convert_lines, convert_file, left_buffer, settled, convert, converted_of}
 use Rattle.converter.specs.Passes.{answer_behind, answer_for, output_of}
 use Rattle.converter.proofs.Meaning.{no-refusal, last-refused, line_of, line-to}
 use Rattle.converter.proofs.Passes.{Next, line-long, line-bad, line-end, digits_are, serial-is, cents-are}

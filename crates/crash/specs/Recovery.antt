@@ -18,7 +18,7 @@ use Rattle.spec.specs.Transaction.{State, with_session, BlockStore, put}
 use Rattle.spec.specs.Journal.{clearing}
 use Rattle.spec.specs.Calls.{Outcome, outcome, lent_ok, Open, Advance, step}
 use Rattle.spec.specs.Plain.{Mode, phase_in}
-use Rattle.spec.specs.CutRule.{after, advances}
+use Rattle.spec.specs.CutRule.{advances}
 use Rattle.logs.specs.Stores.{upd, blank}
 use Rattle.crash.specs.Interface.{FilesOn}
 use Rattle.crash.specs.Tests.{lent_is}

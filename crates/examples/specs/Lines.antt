@@ -1,8 +1,8 @@
 -- The form of the table of examples: a row is a list of lines, each a call with what it must give or a fact about the state reached.
-use Rattle.std.specs.Prelude.{ℕ, suc, ◌+◌, ◌*◌, Bool, true, false, ◌&&◌, List, [], ◌∷◌, ◌++◌, length, replicate}
+use Rattle.std.specs.Prelude.{ℕ, suc, ◌*◌, Bool, true, false, ◌&&◌, List, [], ◌∷◌, length, replicate}
 use Rattle.spec.specs.Layout.{block_size, work_size}
 use Rattle.spec.specs.Bytes.{part, same}
-use Rattle.spec.specs.Disk.{Disk, with_block}
+use Rattle.spec.specs.Disk.{with_block}
 use Rattle.spec.specs.Session.{never_opened, staged_in}
 use Rattle.spec.specs.Answers.{Answer, refused, done, started, stored, idle, counted, file, no_file, run, no_run}
 use Rattle.spec.specs.Transaction.{State, view}

@@ -1,5 +1,5 @@
 -- The examples of document 01 as rows, in its order and its words, and the theorem that each row holds.
-use Rattle.std.specs.Prelude.{ℕ, ◌+◌, ◌*◌, List, [], ◌∷◌, ◌++◌, take, replicate, T}
+use Rattle.std.specs.Prelude.{ℕ, ◌*◌, List, [], ◌∷◌, ◌++◌, take, replicate, T}
 use Rattle.spec.specs.Bytes.{zeros, up_from}
 use Rattle.spec.specs.Disk.{open-Disk}
 use Rattle.spec.specs.Bitmap.{open-Bitmap}
@@ -7,7 +7,7 @@ use Rattle.spec.specs.Inode.{extent, open-Inode}
 use Rattle.spec.specs.Sound.{open-Sound}
 use Rattle.spec.specs.Map.{open-Map}
 use Rattle.spec.specs.Session.{open-Session}
-use Rattle.spec.specs.Answers.{Answer, refused, done, started, counted, run}
+use Rattle.spec.specs.Answers.{refused, done, started, counted, run}
 use Rattle.spec.specs.Transaction.{State, open-Transaction}
 use Rattle.spec.specs.Plan.{open-Plan}
 use Rattle.spec.specs.Journal.{open-Journal}

@@ -7,8 +7,8 @@ use mathlib.Core.Option.{Option, none, some, some-ne-none, some-injective}
 use native.Mathlib.Nat.{add-zero}
 use native.Mathlib.Numerals.{add-one}
 use native.Mathlib.Omega.{arith}
-use lib.Dec.{eqb, ltb, leb}
-use borrow.Author.Tests.{eqb-true, eq-eqb, ne_eqb, lt-ltb, leb-true}
+use lib.Dec.{eqb, leb}
+use borrow.Author.Tests.{eqb-true, eq-eqb, ne_eqb, leb-true}
 use lib.ListN.{length, take, drop, get_or, replicate, length-take, length-drop}
 use lib.Seq.{ext_get_or, get_or-take, get_or-drop, take-take, take-nil, drop-drop}
 use Rattle.spec.specs.Bytes.{exactly, part, number2, number4, same, all_zero, found, place, lowest}

@@ -12,7 +12,7 @@ use Rattle.spec.specs.Disk.{Disk}
 use Rattle.spec.specs.Session.{staged_in}
 use Rattle.spec.specs.Transaction.{State, BlockStore, put}
 use Rattle.spec.specs.Journal.{header_of, targets_in, are_targets, images_from, redo_from, clearing, staged_stores, commit_stores, recovery_stores}
-use Rattle.journal.specs.Order.{rank, blocks, in_order, sorted}
+use Rattle.journal.specs.Order.{rank, in_order, sorted}
 use Rattle.journal.proofs.Order.{blank, order-length, order-at, order-blocks, sorted-length, sorted-at}
 use Rattle.journal.proofs.Listed.{targets-listed}
 

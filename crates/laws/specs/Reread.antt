@@ -1,5 +1,5 @@
 -- What a write or a change of size leaves on the disk: its record, its data blocks and its nodes tell the new file. Assumes nothing.
-use Rattle.std.specs.Prelude.{ℕ, ◌+◌, ◌/◌, ◌%◌, ◌≤◌, ◌<◌, ◌≡◌, true, not, ◌&&◌, ◌||◌, ◌⊎◌, List, [], ◌∷◌, ◌++◌, eqb, length, drop, get_or}
+use Rattle.std.specs.Prelude.{ℕ, ◌/◌, ◌%◌, ◌≤◌, ◌<◌, ◌≡◌, true, not, ◌&&◌, ◌||◌, ◌⊎◌, List, [], ◌∷◌, ◌++◌, eqb, length, drop, get_or}
 use Rattle.std.proofs.Common.{sym, ap, ap₂, ◌∙◌, subst, inl, inr, append-nil, drop_of_length-le, arith}
 use Rattle.spec.specs.Layout.{block_size, bitmap_block, inode_count, slots_per_inode, slots_per_node}
 use Rattle.spec.specs.Bytes.{concat, occurs, quotient_up, all_zero, patch, same, member}

@@ -1,10 +1,10 @@
 -- The runs of a list of blocks: they hold these blocks, lie where they lie, do not touch, and fit their slots. Assumes nothing.
-use Rattle.std.specs.Prelude.{ℕ, suc, ◌+◌, ◌≤◌, ◌≡◌, refl, Bool, true, false, cond, List, [], ◌∷◌, ◌++◌, eqb, length}
-use Rattle.std.proofs.Common.{sym, ap, ◌∙◌, arith, eqb-true, ne_eqb}
+use Rattle.std.specs.Prelude.{ℕ, suc, ◌+◌, ◌≤◌, ◌≡◌, refl, Bool, true, false, cond, List, [], ◌∷◌, eqb}
+use Rattle.std.proofs.Common.{arith, eqb-true, ne_eqb}
 use Rattle.std.proofs.lemmas.Bool.{eqb-false}
-use Rattle.spec.specs.Bytes.{occurs, up_from}
+use Rattle.spec.specs.Bytes.{occurs}
 use Rattle.spec.specs.declared.Extent.{Extent}
-use Rattle.spec.specs.Inode.{extent, prepend, runs, blocks_in, counts}
+use Rattle.spec.specs.Inode.{extent, prepend, runs}
 use Rattle.spec.specs.Sound.{apart}
 use Rattle.lists.specs.Counts.{occurs-head}
 use Rattle.lists.specs.All.{All}

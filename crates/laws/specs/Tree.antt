@@ -1,6 +1,6 @@
 -- The tree of a sound file: its levels, its data blocks, and that none of them is cut off or lies outside. Assumes nothing.
-use Rattle.std.specs.Prelude.{ℕ, zero, suc, ◌+◌, ◌≤◌, ◌<◌, ◌≡◌, refl, ◌⊎◌, List, [], ◌∷◌, ◌++◌, map, length}
-use Rattle.std.proofs.Common.{sym, ap, ap₂, ◌∙◌, inl, inr, append-nil, length-append, not-suc-le-zero, eq-or-lt_of_le, arith}
+use Rattle.std.specs.Prelude.{ℕ, zero, suc, ◌+◌, ◌≤◌, ◌<◌, ◌≡◌, refl, ◌⊎◌, List, [], ◌∷◌, map, length}
+use Rattle.std.proofs.Common.{sym, ap, ap₂, ◌∙◌, inl, inr, append-nil, not-suc-le-zero, eq-or-lt_of_le, arith}
 use Rattle.std.proofs.Math.Seq.{take_all}
 use Rattle.spec.specs.Layout.{max_depth, max_file_blocks}
 use Rattle.spec.specs.Bytes.{occurs, concat, up_from}

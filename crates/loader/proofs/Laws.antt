@@ -16,7 +16,6 @@ use Rattle.spec.specs.declared.Done.{Done}
 use Rattle.spec.specs.declared.Done.TheVariants as done-cases
 use Rattle.spec.specs.declared.Started.{Started}
 use Rattle.spec.specs.declared.Started.TheVariants as started-cases
-use Rattle.spec.specs.Bytes.{same}
 use Rattle.spec.specs.Disk.{Slice, slice_of, blocks_of}
 use Rattle.spec.specs.Session.{staged_in}
 use Rattle.spec.specs.Answers.{Answer, refused, done, started, stored, idle, counted, file, no_file, run, no_run, refusal_of, done_of, started_of, is_refused, Result, refuse, accept, require, ◌>>◌}

@@ -5,7 +5,7 @@ use Rattle.spec.specs.declared.Phase.TheVariants.{Closed, Ready, Committing, Rec
 use Rattle.spec.specs.declared.Session.{Session}
 use Rattle.spec.specs.declared.Refusal.TheVariants.{NotReady}
 use Rattle.spec.specs.Session.{staged_in}
-use Rattle.spec.specs.Answers.{Answer, refused, done, started, stored, idle, counted, file, no_file, run, no_run, refusal_of, stored_of, is_refused, Result, refuse, accept, require, ◌>>=◌, ◌>>◌}
+use Rattle.spec.specs.Answers.{Answer, refused, done, started, stored, idle, counted, file, no_file, run, no_run, refusal_of, stored_of, is_refused, Result, refuse, accept, require, ◌>>◌}
 use Rattle.spec.specs.Transaction.{State, state_of}
 use Rattle.spec.specs.Calls.{Outcome, outcome, settle, ready_ok, create, write, commit, advance}
 use Rattle.cardfile.specs.Cards.{name_of, amount_bytes}

@@ -14,10 +14,6 @@ use Rattle.spec.specs.declared.Refusal.TheVariants.{DeviceSize, WorkSize, BadNam
 use Rattle.spec.specs.Answers.{Answer, done, started, stored, idle, counted, file, no_file, run, no_run, refusal_of}
 use Rattle.spec.specs.Session.{never_opened}
 use Rattle.spec.specs.Calls.{Outcome, left, left_buffer}
-use Rattle.mirror.specs.declared.Head.{Head}
-use Rattle.mirror.specs.declared.CFinished.{CFinished}
-use Rattle.mirror.specs.declared.CCommitted.{CCommitted}
-use Rattle.mirror.specs.declared.CAdvanced.{CAdvanced}
 use Rattle.mirror.specs.declared.CCounted.{CCounted}
 use Rattle.mirror.specs.declared.CRecord.{CRecord}
 use Rattle.mirror.specs.Mirror.{phase_of, phase_number, place_in, decode, encode, refusal_number, fault_in, values_of, name_in, finished_of, committed_of, advanced_of, counted_of, recorded_of, run_of, Stays, Reads, Names}

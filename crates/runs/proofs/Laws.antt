@@ -1,7 +1,7 @@
 -- Laws of extents held by value. Assumes nothing.
 use Prim.Native.Nat.{ℕ, zero, suc, ◌+◌, ◌-◌, ◌<◌, ◌≤◌}
 use mathlib.Core.Path.{◌≡◌, refl, sym, ap, ◌∙◌}
-use mathlib.Core.Bool.{Bool, true, false, cond}
+use mathlib.Core.Bool.{Bool, true, false}
 use mathlib.Core.List.{List, [], ◌∷◌, ◌++◌}
 use native.Mathlib.Omega.{arith}
 use native.Mathlib.Nat.{zero-add}
@@ -12,7 +12,7 @@ use lib.ListN.{length, take, get_or, set, replicate, length-set, length-append, 
 use lib.Seq.{take_all, take-suc-set, take-append-le, take-set-lt, take-set-le, get_or-take, take-nil}
 use Rattle.spec.specs.declared.Extent.{Extent}
 use Rattle.spec.specs.Bytes.{up_from}
-use Rattle.spec.specs.Inode.{extent, counts, prepend, runs}
+use Rattle.spec.specs.Inode.{extent, prepend, runs}
 use Rattle.runs.specs.Tree.{Runs}
 use Rattle.runs.specs.Runs.{extents_from, listed}
 use Rattle.runs.specs.Push.{Holds, Small, Pushed, Column, firsts, lengths, end_from, grown}

@@ -1,19 +1,19 @@
 -- Definitions at work on small values, so that a wrong one does not pass here. The examples of document 01 as a whole stand in crate examples.
 use Prim.Native.Nat.{ℕ}
 use mathlib.Core.Path.{◌≡◌, refl}
-use mathlib.Core.Bool.{Bool, true, false}
+use mathlib.Core.Bool.{true, false}
 use mathlib.Core.List.{List, [], ◌∷◌, ◌++◌}
-use mathlib.Core.Option.{Option, none, some}
+use mathlib.Core.Option.{none, some}
 use lib.ListN.{take, replicate}
 use Rattle.spec.specs.Bytes.{zeros, number2, number4, bytes2, bytes4}
 use Rattle.spec.specs.Disk.{Disk, with_block, in_data, is_target, is_allowed, open-Disk}
-use Rattle.spec.specs.Bitmap.{bits_of, bytes_of, mark, picks, open-Bitmap}
-use Rattle.spec.specs.Inode.{Extent, extent, slots_in, bytes_of_slots, Inode, block_of_inode, place_of_inode, runs, levels_for, top_slots, inode_with, bytes_of_inode, inode_of, extents_of, levels_of, data_of, node_bytes, open-Inode}
+use Rattle.spec.specs.Bitmap.{bits_of, bytes_of, picks, open-Bitmap}
+use Rattle.spec.specs.Inode.{Extent, extent, slots_in, bytes_of_slots, Inode, block_of_inode, place_of_inode, runs, levels_for, inode_with, bytes_of_inode, inode_of, levels_of, data_of, node_bytes, open-Inode}
 use Rattle.spec.specs.Sound.{apart, limits_hold}
 use Rattle.spec.specs.Session.{opened, staged_in, with_staged, Ready, open-Session}
-use Rattle.spec.specs.Transaction.{BlockStore, put, ascending, stage, Staged, open-Transaction}
+use Rattle.spec.specs.Transaction.{put, ascending, stage, open-Transaction}
 use Rattle.spec.specs.Plan.{Tree, resized, overlay, clear_tail, holds_data, is_last_kept, open-Plan}
-use Rattle.spec.specs.Journal.{header_of, header_fault, targets_in, are_targets, redo_from, open-Journal}
+use Rattle.spec.specs.Journal.{header_of, header_fault, targets_in, are_targets, open-Journal}
 use Rattle.spec.specs.Plain.{new_file}
 
 -- "All numbers are little-endian"

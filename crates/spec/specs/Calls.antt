@@ -1,16 +1,15 @@
 -- The calls: for each its whole outcome, on any input. The tests of a call stand in the order of the refusals' numbers.
-use Rattle.std.specs.Prelude.{ℕ, zero, suc, ◌+◌, ◌*◌, ◌-◌, ◌/◌, max, Bool, true, false, cond, not, ◌&&◌, ◌||◌, List, [], ◌∷◌, ◌++◌, length, take, drop, replicate, eqb, leb, ltb}
-use Rattle.std.proofs.Math.Option.{Option, none, some}
+use Rattle.std.specs.Prelude.{ℕ, zero, suc, ◌+◌, ◌*◌, ◌-◌, ◌/◌, max, Bool, true, false, cond, not, ◌&&◌, ◌||◌, List, [], ◌++◌, length, take, drop, replicate, eqb, leb}
 use Rattle.std.proofs.Math.ListN.{get_elem?}
 use Rattle.spec.specs.Layout.{block_size, most_blocks, header_block, bitmap_block, data_start, log_length, work_size, inode_count, max_file_size}
 use Rattle.spec.specs.Bytes.{found, zeros, is_some}
-use Rattle.spec.specs.Disk.{Disk, Slice, with_block, is_allowed}
+use Rattle.spec.specs.Disk.{Disk, with_block, is_allowed}
 use Rattle.spec.specs.Bitmap.{bits_of, bytes_of, free_bits}
 use Rattle.spec.specs.Inode.{Extent, is_name, inode_at, name_at, is_empty, find, find_empty, data_of, runs}
 use Rattle.spec.specs.Sound.{volume_sound}
 use Rattle.spec.specs.Map.{content_of}
 use Rattle.spec.specs.Session.{Phase, Closed, Ready, Committing, Recovering, Session, opened, closed_on, in_phase, staged_in}
-use Rattle.spec.specs.Answers.{Refusal, DeviceSize, WorkSize, BadName, TooLarge, BadHeader, Unsound, NotReady, Unknown, Taken, NoInode, TooManyStaged, ListShort, Answer, done, started, stored, idle, counted, file, no_file, run, no_run, refusal_of, Result, refuse, accept, require, ◌>>=◌, ◌>>◌}
+use Rattle.spec.specs.Answers.{DeviceSize, WorkSize, BadName, TooLarge, BadHeader, Unsound, NotReady, Unknown, Taken, NoInode, TooManyStaged, ListShort, Answer, done, started, stored, idle, counted, file, no_file, run, no_run, refusal_of, Result, refuse, accept, require, ◌>>=◌, ◌>>◌}
 use Rattle.spec.specs.Transaction.{State, with_session, view, BlockStore, stage_all, with_staging, state_of}
 use Rattle.spec.specs.Journal.{targets_in, header_fault, commit_stores, recovery_stores}
 use Rattle.spec.specs.Plan.{tree_for, rewrites, creates, removes, renames}

@@ -1,19 +1,19 @@
 -- The cut rule: demand 3, one claim about every list of calls and cuts. It is made of any store `step`, so that a wrong one can be tried in its place.
-use Rattle.std.specs.Prelude.{ℕ, zero, suc, ◌+◌, ◌*◌, ◌/◌, ◌≤◌, ◌<◌, ◌≡◌, Bool, true, false, cond, not, ◌&&◌, ◌||◌, ◌⊎◌, List, [], ◌∷◌, ◌++◌, length, take, drop, get_or, T, eqb, leb}
+use Rattle.std.specs.Prelude.{ℕ, zero, suc, ◌+◌, ◌*◌, ◌≤◌, ◌<◌, ◌≡◌, true, false, cond, not, ◌&&◌, ◌||◌, ◌⊎◌, List, [], ◌∷◌, ◌++◌, length, take, drop, get_or, T, eqb, leb}
 use Rattle.std.proofs.Math.Option.{Option, none, some, map}
 use Rattle.std.proofs.Math.ListN.{get_elem?}
 use Rattle.spec.specs.Layout.{block_size, work_size, inode_count}
 use Rattle.spec.specs.Bytes.{found, keep, member, distinct, all}
-use Rattle.spec.specs.Disk.{Disk, Slice, with_block, is_allowed, is_target}
+use Rattle.spec.specs.Disk.{Slice, with_block, is_allowed, is_target}
 use Rattle.spec.specs.Inode.{Extent, inode_bytes, name_at, is_empty, find, runs}
 use Rattle.spec.specs.Sound.{volume_sound, sound, free_blocks}
-use Rattle.spec.specs.Map.{Files, files_of}
-use Rattle.spec.specs.Session.{Session, opened, closed_on, never_opened, in_phase, staged_in, with_staged}
+use Rattle.spec.specs.Map.{files_of}
+use Rattle.spec.specs.Session.{opened, closed_on, never_opened, in_phase, staged_in, with_staged}
 use Rattle.spec.specs.declared.Phase.{Phase}
 use Rattle.spec.specs.Answers.{Answer, refused, done, started, stored, idle, counted, file, no_file, run, no_run, refusal_of, is_refused, DeviceSize, WorkSize}
 use Rattle.spec.specs.Transaction.{State, with_session, view, BlockStore}
 use Rattle.spec.specs.Journal.{commit_stores, recovery_stores}
-use Rattle.spec.specs.Calls.{Outcome, outcome, with_buffer, with_list, empty_disk, read_into, list_into, Change, Query, Read, Size, Free, Record, RunList, NthExtent, Call, Format, Open, Advance, Commit, Abort, Do, Ask}
+use Rattle.spec.specs.Calls.{Outcome, outcome, empty_disk, read_into, list_into, Change, Query, Read, Size, Free, Record, RunList, NthExtent, Call, Format, Open, Advance, Commit, Abort, Do, Ask}
 use Rattle.spec.specs.Plain.{Plain, Mode, Closed, Ready, Committing, Recovering, place_of, phase_of, phase_in, plain_start, after_cut, follow}
 use Rattle.spec.specs.Sentences.{file_at, file_then, record_for, call_stages, staged_by}
 use Rattle.spec.specs.Refusals.{is_format, is_open, due}

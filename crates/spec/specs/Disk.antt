@@ -1,5 +1,5 @@
 -- The device. A disk takes each block number to the 512 bytes of that block.
-use Rattle.std.specs.Prelude.{ℕ, zero, suc, ◌+◌, ◌*◌, ◌-◌, ◌/◌, ◌%◌, Bool, true, false, cond, ◌&&◌, List, length, drop, eqb, leb, ltb}
+use Rattle.std.specs.Prelude.{ℕ, ◌*◌, ◌/◌, ◌%◌, Bool, true, false, cond, ◌&&◌, List, length, drop, eqb, leb, ltb}
 use Rattle.spec.specs.Layout.{block_size, fewest_blocks, most_blocks, bitmap_block, inode_start, data_start}
 use Rattle.spec.specs.Bytes.{exactly}
 pub use Rattle.spec.specs.declared.Area.{Area}

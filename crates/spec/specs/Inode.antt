@@ -1,5 +1,5 @@
 -- Inodes (document 01: file records), their slots, and the tree of extents that an inode names, over any disk v.
-use Rattle.std.specs.Prelude.{ℕ, zero, suc, ◌+◌, ◌*◌, ◌-◌, ◌/◌, ◌%◌, min, Bool, true, false, cond, not, ◌&&◌, List, [], ◌∷◌, ◌++◌, map, length, take, drop, get_or, eqb, leb}
+use Rattle.std.specs.Prelude.{ℕ, zero, suc, ◌+◌, ◌*◌, ◌/◌, ◌%◌, min, Bool, cond, not, ◌&&◌, List, [], ◌∷◌, ◌++◌, map, length, take, drop, get_or, eqb, leb}
 use Rattle.std.proofs.Math.Option.{Option}
 use Rattle.spec.specs.Layout.{block_size, inode_start, inode_count, inode_size, inodes_per_block, name_size, slot_size, slots_per_inode, slots_per_node, max_depth, max_file_blocks}
 use Rattle.spec.specs.Bytes.{part, number2, number4, bytes2, bytes4, exactly, same, all_zero, leading, concat, sum, up_from, lowest, quotient_up}

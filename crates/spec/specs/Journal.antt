@@ -1,10 +1,10 @@
 -- The header (document 01: commit block), and the stores of a commit and of a recovery in order.
-use Rattle.std.specs.Prelude.{ℕ, zero, suc, ◌+◌, ◌*◌, Bool, true, false, cond, not, ◌&&◌, ◌||◌, List, [], ◌∷◌, ◌++◌, map, length, get_or, eqb}
+use Rattle.std.specs.Prelude.{ℕ, suc, ◌+◌, ◌*◌, Bool, cond, not, ◌&&◌, ◌||◌, List, [], ◌∷◌, ◌++◌, map, length, get_or, eqb}
 use Rattle.std.proofs.Math.Option.{Option}
 use Rattle.spec.specs.Layout.{block_size, header_block, log_length, log_record_size}
 use Rattle.spec.specs.Bytes.{exactly, zeros, part, number2, bytes2, all_zero, all, leading, concat, up_from, lowest, member, distinct}
 use Rattle.spec.specs.Disk.{Disk, is_target}
-use Rattle.spec.specs.Session.{Session, staged_in}
+use Rattle.spec.specs.Session.{staged_in}
 use Rattle.spec.specs.Transaction.{State, BlockStore, put, ascending}
 
 -- ---- the header

@@ -1,5 +1,5 @@
 -- What the program purselist prints for a device image, as bytes.
-use Rattle.std.specs.Prelude.{ℕ, zero, suc, ◌+◌, ◌*◌, ◌/◌, ◌%◌, Bool, true, false, cond, not, List, [], ◌∷◌, ◌++◌, map, length, eqb, ltb}
+use Rattle.std.specs.Prelude.{ℕ, zero, suc, ◌+◌, ◌/◌, ◌%◌, cond, not, List, [], ◌∷◌, ◌++◌, map, length, ltb}
 use Rattle.spec.specs.Layout.{header_block, bitmap_block, inode_count}
 use Rattle.spec.specs.Bytes.{concat, keep, up_from}
 use Rattle.spec.specs.Disk.{Disk, Slice, slice_of}
@@ -8,7 +8,7 @@ use Rattle.spec.specs.Inode.{Extent, inode_at, name_at, is_empty, data_of, runs}
 use Rattle.spec.specs.Session.{Phase, Closed, Ready, Committing, Recovering, never_opened}
 use Rattle.spec.specs.Answers.{Answer, refused, done, started, stored, idle, counted, file, no_file, run, no_run}
 use Rattle.spec.specs.Journal.{targets_in}
-use Rattle.spec.specs.Calls.{Outcome, open_store}
+use Rattle.spec.specs.Calls.{open_store}
 
 -- ---- words and numbers
 

@@ -1,10 +1,10 @@
 -- What a change does to a file: the blocks it takes and gives back, what it stages and with which content.
-use Rattle.std.specs.Prelude.{ℕ, zero, suc, ◌+◌, ◌*◌, ◌-◌, ◌/◌, ◌%◌, Bool, true, false, cond, not, ◌&&◌, ◌||◌, List, [], ◌∷◌, ◌++◌, map, length, take, drop, get_or, eqb, leb, ltb}
+use Rattle.std.specs.Prelude.{ℕ, zero, suc, ◌+◌, ◌*◌, ◌-◌, ◌/◌, ◌%◌, Bool, cond, not, ◌&&◌, ◌||◌, List, [], ◌∷◌, ◌++◌, map, length, take, drop, get_or, eqb, leb, ltb}
 use Rattle.spec.specs.Layout.{block_size, bitmap_block, inode_size, slots_per_node, max_extents}
-use Rattle.spec.specs.Bytes.{exactly, zeros, patch, same, keep, concat, up_from, sum}
+use Rattle.spec.specs.Bytes.{exactly, zeros, patch, same, keep, up_from}
 use Rattle.spec.specs.Disk.{Disk}
 use Rattle.spec.specs.Bitmap.{bits_of, bytes_of, free_bits, mark, picks}
-use Rattle.spec.specs.Inode.{Extent, Inode, inode_at, block_of_inode, place_of_inode, bytes_of_inode, data_of, levels_of, nodes_of, blocks_for, levels_for, nodes_for, runs, node_slots, node_bytes, inode_with}
+use Rattle.spec.specs.Inode.{Extent, Inode, inode_at, block_of_inode, place_of_inode, bytes_of_inode, data_of, levels_of, nodes_of, blocks_for, levels_for, runs, node_slots, node_bytes, inode_with}
 use Rattle.spec.specs.Answers.{NoSpace, TooManyExtents, Result, accept, require, ◌>>=◌, ◌>>◌}
 use Rattle.spec.specs.Transaction.{BlockStore, put}
 

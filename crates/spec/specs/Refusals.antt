@@ -13,7 +13,7 @@ use Rattle.spec.specs.Transaction.{State, view}
 use Rattle.spec.specs.Journal.{targets_in, header_fault}
 use Rattle.spec.specs.Calls.{Change, Create, Remove, Rename, Write, SetSize, Query, Read, Size, Free, Record, RunList, NthExtent, Call, Format, Open, Advance, Commit, Abort, Do, Ask}
 use Rattle.spec.specs.Plain.{Plain, Mode, Closed, Ready, Committing, Recovering}
-use Rattle.spec.specs.Sentences.{File, file_at, record_for, size_for, free_list, more_blocks, blocks_then, more_nodes, extent_count, call_stages}
+use Rattle.spec.specs.Sentences.{file_at, record_for, size_for, free_list, more_blocks, blocks_then, more_nodes, extent_count, call_stages}
 
 -- ---- kinds of calls
 

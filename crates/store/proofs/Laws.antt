@@ -1,8 +1,8 @@
 -- The cases of the public calls. Assumes nothing.
-use Prim.Native.Nat.{ℕ, zero, suc, ◌+◌, ◌*◌, ◌/◌}
+use Prim.Native.Nat.{ℕ, ◌*◌, ◌/◌}
 use mathlib.Core.Path.{◌≡◌, refl, sym, ap, ap₂, ◌∙◌}
 use mathlib.Core.Bool.{true, false}
-use mathlib.Core.List.{List, []}
+use mathlib.Core.List.{List}
 use native.Mathlib.Omega.{arith}
 use mathlib.Core.Option.{Option, none, some}
 use borrow.Author.Tests.{eq-eqb, ne_eqb}
@@ -16,14 +16,13 @@ use Rattle.header.specs.declared.Targets.{Targets}
 use Rattle.header.specs.Header.{fault_of, Holds}
 use Rattle.block.proofs.Laws.{allowed-says, block-is, exactly-all}
 use Rattle.spec.specs.declared.Session.{Session}
-use Rattle.spec.specs.declared.Phase.{Phase}
-use Rattle.spec.specs.declared.Phase.TheVariants.{Closed, Ready, Committing, Recovering}
+use Rattle.spec.specs.declared.Phase.TheVariants.{Ready, Recovering}
 use Rattle.spec.specs.declared.Refusal.{Refusal}
 use Rattle.spec.specs.declared.Refusal.TheVariants.{DeviceSize, BadHeader, Unsound}
-use Rattle.spec.specs.Session.{opened, closed_on, in_phase, staged_in}
-use Rattle.spec.specs.Answers.{done, started, refusal_of, refuse, accept}
+use Rattle.spec.specs.Session.{opened, closed_on}
+use Rattle.spec.specs.Answers.{done, refusal_of, refuse, accept}
 use Rattle.spec.specs.Transaction.{state_of}
-use Rattle.spec.specs.Calls.{Outcome, outcome, left, lent_ok, ready_ok, start_commit, empty_disk, format, open_phase, open_store, advance_in, advance, commit, abort}
+use Rattle.spec.specs.Calls.{outcome, left, ready_ok, empty_disk, format, open_phase, open_store, abort}
 
 -- ---- format
 

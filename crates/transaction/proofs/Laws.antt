@@ -1,22 +1,22 @@
 -- Laws of staging and of the working copy. Assumes nothing.
 use Prim.Native.Nat.{ℕ, suc, ◌+◌, ◌*◌, ◌-◌, ◌<◌, ◌≤◌, min}
-use mathlib.Core.Path.{◌≡◌, refl, sym, ap, ap₂, ◌∙◌, subst, fun_ext}
-use mathlib.Core.Bool.{Bool, true, false, cond, ◌&&◌, and-true}
+use mathlib.Core.Path.{◌≡◌, refl, sym, ap, ap₂, ◌∙◌, fun_ext}
+use mathlib.Core.Bool.{Bool, true, false}
 use mathlib.Core.List.{List, [], ◌∷◌, ◌++◌}
 use mathlib.Core.Option.{Option, none, some}
 use lib.ListN.{length, take, drop, get_or, set, length-append, length-take, length-drop, take-append-drop, drop_of_length-le}
-use lib.Seq.{take-append_seam, take_all, drop-cons, set_split, append_snoc, get_or-take, drop-append-add, drop-drop}
-use lib.Dec.{T, eqb}
+use lib.Seq.{take-append_seam, take_all, drop-cons, set_split, append_snoc, drop-append-add, drop-drop}
+use lib.Dec.{eqb}
 use native.Mathlib.Decide.{dec_lt}
 use native.Mathlib.Numerals.{add-one}
 use native.Mathlib.Omega.{arith}
 use borrow.Author.Tests.{eqb-true, eqb-false, eq-eqb, ne_eqb}
-use Rattle.spec.specs.Bytes.{found, place, place_from, member, distinct, all}
+use Rattle.spec.specs.Bytes.{found, place, place_from, distinct, all}
 use Rattle.spec.specs.Disk.{Disk, Slice, blocks_of, slice_of, is_target, with_block}
 use Rattle.spec.specs.declared.Phase.{Phase}
 use Rattle.spec.specs.declared.Phase.TheVariants.{Closed}
 use Rattle.spec.specs.declared.Session.{Session}
-use Rattle.spec.specs.Session.{opened, in_phase, staged_in, with_staged}
+use Rattle.spec.specs.Session.{opened, staged_in, with_staged}
 use Rattle.spec.specs.Transaction.{State, state_of, view, BlockStore, put, Staged, stage, staged_of, with_staging}
 use Rattle.block.specs.Stores.{stored_in}
 use Rattle.block.proofs.Laws.{block-length}

@@ -21,7 +21,7 @@ use Rattle.tree.specs.declared.Run.{Run}
 use Rattle.tree.specs.declared.Nodes.{Nodes}
 use Rattle.tree.specs.Runs.{with_extent, over_extents, with_node, over_nodes, no_nodes}
 use Rattle.tree.specs.Reached.{used_from, blocks_from, tree_from}
-use Rattle.tree.proofs.Runs.{and_assoc, and_right, over-append, over-extents, over-blocks, nodes-run, nodes-append, nodes-tops, nodes-counts}
+use Rattle.tree.proofs.Runs.{and_assoc, and_right, over-extents, over-blocks, nodes-run, nodes-append, nodes-tops, nodes-counts}
 use Rattle.tree.proofs.Slots.{slots_next, unused-none, used-first, packed_from, not-used, is-used, used-length, used-counts, used_step, packed_step}
 
 -- ---- blocks of extents

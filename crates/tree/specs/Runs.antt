@@ -3,7 +3,7 @@ use Rattle.std.specs.Prelude.{ℕ, ◌+◌, ◌-◌, true, cond, not, ◌&&◌, 
 use Rattle.spec.specs.declared.Extent.{Extent}
 use Rattle.spec.specs.Disk.{Disk, in_data}
 use Rattle.spec.specs.Inode.{slots_at, used, counts}
-use Rattle.spec.specs.Sound.{slots_packed, extent_inside, apart}
+use Rattle.spec.specs.Sound.{slots_packed, extent_inside}
 use Rattle.tree.specs.declared.Run.{Run}
 use Rattle.tree.specs.declared.Nodes.{Nodes}
 

@@ -12,7 +12,6 @@ use Rattle.spec.specs.declared.Refusal.{Refusal}
 use Rattle.spec.specs.declared.Refusal.TheVariants.{BadName, NotReady, Taken}
 use Rattle.spec.specs.Answers.{refusal_of, Result, refuse, accept, require, ◌>>=◌, ◌>>◌}
 use Rattle.spec.specs.Transaction.{BlockStore, state_of, view}
-use Rattle.spec.specs.Plan as plan
 use Rattle.spec.specs.Plan.{fits, creates, removes, renames, rewrites}
 use Rattle.spec.specs.Calls.{Outcome, outcome, settle, left, lent_ok, name_ok, file_ok, sized_ok, known, is_taken, empty_inode, is_ready, staging, rewrite, create, remove, rename, write, set_size}
 use Rattle.checks.specs.Checks.{names_ok}

@@ -1,11 +1,10 @@
 -- Laws of a call that stages the record's block, or nothing. Assumes nothing.
 use Prim.Native.Nat.{ℕ, ◌<◌, ◌≤◌}
 use mathlib.Core.Path.{◌≡◌, refl, sym, ap, subst, ◌∙◌}
-use mathlib.Core.List.{List, [], ◌∷◌, ◌++◌}
+use mathlib.Core.List.{List, [], ◌∷◌}
 use mathlib.Core.Option.{Option, none, some}
 use native.Mathlib.Omega.{arith}
 use borrow.Author.Tests.{le-leb, lt-leb}
-use lib.Dec.{leb}
 use lib.ListN.{length, take, length-take, length-append}
 use Rattle.spec.specs.Bytes.{place}
 use Rattle.spec.specs.Disk.{Disk}
@@ -14,7 +13,7 @@ use Rattle.spec.specs.declared.Session.{Session}
 use Rattle.spec.specs.Session.{staged_in}
 use Rattle.spec.specs.Inode.{block_of_inode}
 use Rattle.spec.specs.Answers.{done, refused}
-use Rattle.spec.specs.Transaction.{State, view, state_of, BlockStore, put, Staged, stage, stage_each, staged_of, with_staging, ascending}
+use Rattle.spec.specs.Transaction.{State, view, state_of, BlockStore, put, Staged, stage, staged_of, with_staging, ascending}
 use Rattle.spec.specs.Calls.{Outcome, left, outcome, settle, staging}
 use Rattle.lists.specs.Places.{place-lt}
 use Rattle.transaction.specs.Places.{spot, blocks_with, session_of, view_in}

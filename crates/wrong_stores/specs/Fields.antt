@@ -1,6 +1,6 @@
 -- Which field of the cut rule a wrong store breaks.
-use Rattle.std.specs.Prelude.{ℕ, zero, suc, ◌<◌, ◌≡◌, refl, ◌⊎◌, Bool, true, false, cond, ◌&&◌, List, [], ◌∷◌, length, get_or, T, eqb, ltb}
-use Rattle.std.proofs.Common.{arith, sym, ap, ◌∙◌, inl, inr, lit<, ltb-true}
+use Rattle.std.specs.Prelude.{ℕ, zero, suc, ◌<◌, ◌≡◌, refl, Bool, true, false, cond, ◌&&◌, List, [], ◌∷◌, length, get_or, T, eqb, ltb}
+use Rattle.std.proofs.Common.{arith, sym, ap, ◌∙◌, inl, lit<, ltb-true}
 use Rattle.spec.specs.Layout.{block_size, work_size, bitmap_block}
 use Rattle.spec.specs.Bytes.{all, zeros}
 use Rattle.spec.specs.Disk.{is_allowed, open-Disk}

@@ -1,5 +1,5 @@
 -- Wrong stores, each with the row of the table that refutes it.
-use Rattle.std.specs.Prelude.{ℕ, suc, ◌+◌, ◌-◌, ◌/◌, Bool, true, false, cond, not, ◌≡◌, refl, List, [], ◌∷◌, ◌++◌, map, reverse, length, take, drop, T, eqb, ltb}
+use Rattle.std.specs.Prelude.{suc, ◌+◌, ◌-◌, ◌/◌, Bool, true, false, not, ◌≡◌, refl, List, [], ◌∷◌, ◌++◌, map, reverse, length, take, drop, T}
 use Rattle.std.proofs.Common.{ap, ◌∙◌}
 use Rattle.spec.specs.Bytes.{zeros, all, concat, pieces}
 use Rattle.spec.specs.Disk.{Slice, with_block, open-Disk}

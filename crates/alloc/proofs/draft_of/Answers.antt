@@ -1,5 +1,4 @@
 use Rattle.transaction.specs.Places.{view_in}
-use borrow.Author.Rules.{rules}
 use Prim.Native.Nat.{◌-◌}
 use mathlib.Core.Path.{refl}
 use native.Mathlib.Omega.{arith}

@@ -1,16 +1,13 @@
-use Prim.Native.Nat.{◌-◌, ◌≤◌}
-use mathlib.Core.Path.{◌≡◌, refl, sym, ap, ◌∙◌}
-use native.Mathlib.Omega.{arith}
+use Prim.Native.Nat.{◌≤◌}
+use mathlib.Core.Path.{◌≡◌}
 use lib.ListN.{length, take, drop}
 use Rattle.spec.specs.Bytes.{exactly}
 use Rattle.spec.specs.Inode.{block_of_inode}
 use Rattle.inode.specs.Walk.{weight}
 use Rattle.transaction.specs.Places.{view_in}
 use Rattle.alloc.specs.Parts.{data_at}
-use Rattle.extents.proofs.Laws.{on-slot-piece, on-slot-passed, on-slot-unused, on-node-next, on-node-none, no_room, goes_further}
 use Rattle.spec.specs.Bitmap.{bits_of, mark}
-use Rattle.alloc.proofs.Laws.{Passed, pass-start, pass_on, pass-more, mark-none, back_none, back_more, back_end}
-use borrow.Author.Rules.{rules}
+use Rattle.alloc.proofs.Laws.{Passed}
 use Rattle.alloc.proofs.give_back.Given as goal
 
 abbrev pub invariant-loop-scan : goal.invariant-loop-scan

@@ -1,11 +1,9 @@
 use borrow.Author.Rules.{rules}
-use Prim.Native.Nat.{◌-◌}
 use mathlib.Core.Path.{◌≡◌, refl}
 use native.Mathlib.Omega.{arith}
-use lib.ListN.{length, take}
-use Rattle.alloc.proofs.Laws.{Leaving, leave-more, leave-end}
+use lib.ListN.{length}
+use Rattle.alloc.proofs.Laws.{leave-more, leave-end}
 use mathlib.Core.Path.{refl}
-use lib.ListN.{take}
 use Rattle.alloc.proofs.give_nodes.Goals as goal
 
 pub loop-k-init : goal.loop-k-init

@@ -1,10 +1,6 @@
-use borrow.Author.Rules.{rules}
 use Prim.Native.Nat.{◌-◌}
-use mathlib.Core.Path.{◌≡◌, refl}
-use native.Mathlib.Omega.{arith}
-use lib.ListN.{length, take}
-use Rattle.alloc.proofs.Laws.{Leaving, leave-more, leave-end}
-use mathlib.Core.Path.{refl}
+use lib.ListN.{take}
+use Rattle.alloc.proofs.Laws.{Leaving}
 use lib.ListN.{take}
 use Rattle.alloc.proofs.give_nodes.Given as goal
 

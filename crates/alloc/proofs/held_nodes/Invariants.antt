@@ -1,14 +1,9 @@
-use native.Mathlib.Omega.{arith}
-use Prim.Native.Nat.{ℕ}
-use mathlib.Core.Path.{◌≡◌, refl}
-use borrow.Author.Tests.{not-true, not-false}
+use mathlib.Core.Path.{◌≡◌}
 use Rattle.spec.specs.Bytes.{exactly}
 use Rattle.spec.specs.Disk.{Disk}
 use Rattle.spec.specs.Inode.{block_of_inode}
-use Rattle.inode.proofs.Walk.{live-left, live_inside}
 use Rattle.alloc.specs.Parts.{nodes_at}
-use Rattle.alloc.proofs.Laws.{Gathering, gather-start, gather-next, gather-last}
-use borrow.Author.Rules.{rules}
+use Rattle.alloc.proofs.Laws.{Gathering}
 use Rattle.alloc.proofs.held_nodes.Given as goal
 
 abbrev pub invariant-loop-e : goal.invariant-loop-e

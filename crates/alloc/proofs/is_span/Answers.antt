@@ -1,6 +1,5 @@
 use borrow.Author.Tests.{ltb-true}
 use mathlib.Core.Bool.{false≢true}
-use borrow.Author.Rules.{rules}
 use Rattle.alloc.proofs.is_span.Goals as goal
 
 pub returns-then-b-m-ne0 : goal.returns-then-b-m-ne0

@@ -1,17 +1,13 @@
-use Prim.Native.Nat.{◌-◌, ◌≤◌}
-use mathlib.Core.Path.{◌≡◌, refl, sym, ap, ◌∙◌}
-use native.Mathlib.Omega.{arith}
+use Prim.Native.Nat.{◌≤◌}
+use mathlib.Core.Path.{◌≡◌}
 use lib.ListN.{length, take}
 use Rattle.spec.specs.Bytes.{exactly}
 use Rattle.spec.specs.Inode.{block_of_inode}
 use Rattle.inode.specs.Walk.{weight}
 use Rattle.transaction.specs.Places.{view_in}
 use Rattle.alloc.specs.Parts.{data_at}
-use Rattle.extents.proofs.Laws.{on-slot-piece, on-slot-passed, on-slot-unused, on-node-next, on-node-none, no_room, goes_further}
 use Rattle.runs.specs.Push.{columns}
-use Rattle.runs.proofs.Laws.{holds-none}
-use Rattle.alloc.proofs.Laws.{Keeping, keep-start, keep-on, keep-more, keep-end}
-use borrow.Author.Rules.{rules}
+use Rattle.alloc.proofs.Laws.{Keeping}
 use Rattle.alloc.proofs.keep.Given as goal
 
 abbrev pub invariant-loop-scan : goal.invariant-loop-scan

@@ -1,4 +1,3 @@
-use borrow.Author.Rules.{rules}
 use native.Mathlib.Omega.{arith}
 use Rattle.spec.specs.Inode.{levels_for}
 use borrow.Author.Tests.{le-leb, lt-leb}

@@ -1,4 +1,3 @@
-use borrow.Author.Rules.{rules}
 use mathlib.Core.Path.{sym, ◌∙◌}
 use Rattle.alloc.proofs.Laws.{picked, none-picked}
 use Rattle.bitmap.proofs.Laws.{next-free}

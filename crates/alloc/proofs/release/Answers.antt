@@ -1,4 +1,3 @@
-use borrow.Author.Rules.{rules}
 use Rattle.alloc.proofs.Laws.{past-table}
 use Rattle.alloc.proofs.release.Goals as goal
 

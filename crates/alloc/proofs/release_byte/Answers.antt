@@ -1,6 +1,5 @@
 use Rattle.alloc.proofs.Laws.{byte-cleared}
 use native.Mathlib.Omega.{arith}
-use borrow.Author.Rules.{rules}
 use Rattle.alloc.proofs.release_byte.Goals as goal
 
 pub returns : goal.returns

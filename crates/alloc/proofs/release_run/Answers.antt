@@ -1,10 +1,7 @@
 use Rattle.alloc.proofs.Laws.{mark-none, run_more, run-part}
-use Rattle.spec.specs.Bitmap.{bits_of, mark}
-use Rattle.spec.specs.Bytes.{up_from}
 use native.Mathlib.Omega.{arith}
 use mathlib.Core.Path.{◌≡◌}
-use Prim.Native.Nat.{◌+◌, ◌*◌, ◌-◌, ◌/◌, ◌≤◌}
-use borrow.Author.Rules.{rules}
+use Prim.Native.Nat.{◌+◌, ◌*◌, ◌/◌}
 use Rattle.alloc.proofs.release_run.Goals as goal
 
 pub loop-k-init : goal.loop-k-init

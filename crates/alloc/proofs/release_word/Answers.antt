@@ -2,7 +2,6 @@ use Prim.Native.Nat.{◌*◌}
 use native.Mathlib.Omega.{arith}
 use Rattle.spec.specs.Bitmap.{bits_of}
 use Rattle.alloc.proofs.Laws.{mark-none, run-part}
-use borrow.Author.Rules.{rules}
 use Rattle.alloc.proofs.release_word.Goals as goal
 
 pub returns : goal.returns

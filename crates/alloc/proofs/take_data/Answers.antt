@@ -1,9 +1,7 @@
-use borrow.Author.Rules.{rules}
 use Prim.Native.Nat.{◌-◌}
 use mathlib.Core.Path.{◌≡◌}
 use native.Mathlib.Omega.{arith}
-use Rattle.runs.specs.Push.{columns}
-use Rattle.alloc.proofs.Laws.{Taking, take-start, take_more}
+use Rattle.alloc.proofs.Laws.{take-start, take_more}
 use Rattle.alloc.proofs.take_data.Goals as goal
 
 pub loop-k-init : goal.loop-k-init

@@ -1,9 +1,6 @@
-use borrow.Author.Rules.{rules}
 use Prim.Native.Nat.{◌-◌}
-use mathlib.Core.Path.{◌≡◌}
-use native.Mathlib.Omega.{arith}
 use Rattle.runs.specs.Push.{columns}
-use Rattle.alloc.proofs.Laws.{Taking, take-start, take_more}
+use Rattle.alloc.proofs.Laws.{Taking}
 use Rattle.alloc.proofs.take_data.Given as goal
 
 abbrev pub invariant-loop-k : goal.invariant-loop-k

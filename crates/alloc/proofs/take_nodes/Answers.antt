@@ -1,8 +1,7 @@
 use borrow.Author.Rules.{rules}
-use Prim.Native.Nat.{◌-◌}
 use mathlib.Core.Path.{refl}
 use native.Mathlib.Omega.{arith}
-use Rattle.alloc.proofs.Laws.{Filling, fill_start, fill_more, fill-room, fill_end}
+use Rattle.alloc.proofs.Laws.{fill_start, fill_more, fill-room, fill_end}
 use Rattle.alloc.proofs.take_nodes.Goals as goal
 
 pub loop-k-init : goal.loop-k-init

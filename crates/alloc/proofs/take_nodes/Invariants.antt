@@ -1,8 +1,5 @@
-use borrow.Author.Rules.{rules}
 use Prim.Native.Nat.{◌-◌}
-use mathlib.Core.Path.{refl}
-use native.Mathlib.Omega.{arith}
-use Rattle.alloc.proofs.Laws.{Filling, fill_start, fill_more, fill-room, fill_end}
+use Rattle.alloc.proofs.Laws.{Filling}
 use Rattle.alloc.proofs.take_nodes.Given as goal
 
 abbrev pub invariant-loop-k : goal.invariant-loop-k

@@ -1,4 +1,3 @@
-use borrow.Author.Rules.{rules}
 use Rattle.bitmap.proofs.Words.{bit-cleared}
 use Rattle.bitmap.proofs.clear_bit.Goals as goal
 

@@ -1,10 +1,7 @@
-use Prim.Native.Nat.{◌≤◌, ◌*◌, ◌-◌}
-use mathlib.Core.Path.{◌≡◌, refl, ap}
+use mathlib.Core.Path.{refl, ap}
 use native.Mathlib.Omega.{arith}
-use lib.ListN.{take}
-use Rattle.spec.specs.Bitmap.{bits_of, free_bits}
+use Rattle.spec.specs.Bitmap.{free_bits}
 use Rattle.bitmap.proofs.Words.{Word, word-says, all_words}
-use borrow.Author.Rules.{rules}
 use Rattle.bitmap.proofs.free_in.Goals as goal
 
 -- `bitmap::free_in` meets its contract. The count so far is that of the zero bits of the words read.

@@ -1,10 +1,7 @@
 use Prim.Native.Nat.{◌≤◌, ◌*◌, ◌-◌}
-use mathlib.Core.Path.{◌≡◌, refl, ap}
-use native.Mathlib.Omega.{arith}
+use mathlib.Core.Path.{◌≡◌}
 use lib.ListN.{take}
 use Rattle.spec.specs.Bitmap.{bits_of, free_bits}
-use Rattle.bitmap.proofs.Words.{Word, word-says, all_words}
-use borrow.Author.Rules.{rules}
 use Rattle.bitmap.proofs.free_in.Given as goal
 
 abbrev pub invariant-loop-w : goal.invariant-loop-w

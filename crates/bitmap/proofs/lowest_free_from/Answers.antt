@@ -1,8 +1,5 @@
-use Prim.Native.Nat.{◌*◌, ◌-◌}
-use mathlib.Core.Path.{◌≡◌, sym, ap, ◌∙◌}
+use mathlib.Core.Path.{sym, ap, ◌∙◌}
 use native.Mathlib.Omega.{arith}
-use borrow.Author.Rules.{rules}
-use lib.ListN.{take}
 use Rattle.spec.specs.Bitmap.{bits_of, free_bits}
 use Rattle.bitmap.specs.Words.{found_of}
 use Rattle.bitmap.proofs.Laws.{none-placed}

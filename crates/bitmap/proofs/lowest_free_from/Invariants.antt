@@ -1,12 +1,7 @@
 use Prim.Native.Nat.{◌*◌, ◌-◌}
-use mathlib.Core.Path.{◌≡◌, sym, ap, ◌∙◌}
-use native.Mathlib.Omega.{arith}
-use borrow.Author.Rules.{rules}
+use mathlib.Core.Path.{◌≡◌}
 use lib.ListN.{take}
 use Rattle.spec.specs.Bitmap.{bits_of, free_bits}
-use Rattle.bitmap.specs.Words.{found_of}
-use Rattle.bitmap.proofs.Laws.{none-placed}
-use Rattle.bitmap.proofs.Words.{Word, word-says, full-word, all_words, place-lt}
 use Rattle.bitmap.proofs.lowest_free_from.Given as goal
 
 abbrev pub invariant-loop-at : goal.invariant-loop-at

@@ -1,4 +1,3 @@
-use borrow.Author.Rules.{rules}
 use Rattle.bitmap.proofs.Words.{bit-set}
 use Rattle.bitmap.proofs.set_bit.Goals as goal
 

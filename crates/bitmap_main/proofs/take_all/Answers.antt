@@ -1,10 +1,9 @@
-use Prim.Native.Nat.{◌+◌, ◌*◌}
 use mathlib.Core.Path.{◌≡◌, refl, sym, ◌∙◌}
 use native.Mathlib.Omega.{arith}
 use borrow.Author.Rules.{rules}
-use lib.ListN.{length, take}
+use lib.ListN.{length}
 use Rattle.spec.specs.Bytes.{place}
-use Rattle.spec.specs.Bitmap.{bits_of, free_bits}
+use Rattle.spec.specs.Bitmap.{bits_of}
 use Rattle.bitmap.proofs.Laws.{Next, next-free, found_nothing, none_free, free-le, length-bits}
 use Rattle.bitmap_main.proofs.take_all.Goals as goal
 

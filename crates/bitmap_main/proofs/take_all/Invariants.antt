@@ -1,11 +1,7 @@
 use Prim.Native.Nat.{◌+◌, ◌*◌}
-use mathlib.Core.Path.{◌≡◌, refl, sym, ◌∙◌}
-use native.Mathlib.Omega.{arith}
-use borrow.Author.Rules.{rules}
-use lib.ListN.{length, take}
-use Rattle.spec.specs.Bytes.{place}
+use mathlib.Core.Path.{◌≡◌}
+use lib.ListN.{take}
 use Rattle.spec.specs.Bitmap.{bits_of, free_bits}
-use Rattle.bitmap.proofs.Laws.{Next, next-free, found_nothing, none_free, free-le, length-bits}
 use Rattle.bitmap_main.proofs.take_all.Given as goal
 
 abbrev pub invariant-loop-b : goal.invariant-loop-b

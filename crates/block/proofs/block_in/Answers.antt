@@ -1,5 +1,4 @@
 use native.Mathlib.Omega.{arith}
-use borrow.Author.Rules.{rules}
 use Rattle.block.proofs.Steps.{part-past, part_in}
 use Rattle.block.proofs.block_in.Goals as goal
 

@@ -1,4 +1,3 @@
-use borrow.Author.Rules.{rules}
 use Rattle.spec.specs.Bytes.{zeros}
 use Rattle.block.proofs.clear_block.Goals as goal
 

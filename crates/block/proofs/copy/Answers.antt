@@ -1,11 +1,9 @@
 use mathlib.Core.Path.{sym}
 use lib.ListN.{get_or}
-use Prim.Native.Nat.{◌≤◌, ◌-◌}
-use mathlib.Core.Path.{◌≡◌, refl, ◌∙◌}
+use mathlib.Core.Path.{refl, ◌∙◌}
 use native.Mathlib.Omega.{arith}
-use lib.ListN.{length, take, length-set}
+use lib.ListN.{length, length-set}
 use Rattle.block.proofs.Steps.{placed-more, placed-all}
-use borrow.Author.Rules.{rules}
 use Rattle.block.proofs.copy.Goals as goal
 
 pub loop-k-preserved : goal.loop-k-preserved

@@ -1,8 +1,6 @@
 use Prim.Native.Nat.{◌-◌, ◌≤◌}
-use mathlib.Core.Path.{◌≡◌, refl}
-use native.Mathlib.Omega.{arith}
-use borrow.Author.Rules.{rules}
-use Rattle.block.proofs.Steps.{fetched, fetched-more, fetched-all}
+use mathlib.Core.Path.{◌≡◌}
+use Rattle.block.proofs.Steps.{fetched}
 use Rattle.block.proofs.copy_of.Given as goal
 
 -- the first k bytes are copied, the others are zero

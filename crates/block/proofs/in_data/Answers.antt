@@ -1,4 +1,3 @@
-use borrow.Author.Rules.{rules}
 use Rattle.block.proofs.Steps.{data-by}
 use Rattle.block.proofs.in_data.Goals as goal
 

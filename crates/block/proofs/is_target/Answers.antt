@@ -1,4 +1,3 @@
-use borrow.Author.Rules.{rules}
 use Rattle.block.proofs.Steps.{target-by}
 use Rattle.block.proofs.is_target.Goals as goal
 

@@ -1,6 +1,5 @@
 use native.Mathlib.Omega.{arith}
 use Rattle.block.proofs.Keys.{key-is}
-use borrow.Author.Rules.{rules}
 use Rattle.block.proofs.key_of.Goals as goal
 
 pub returns : goal.returns

@@ -2,7 +2,6 @@ use Prim.Native.Nat.{ℕ, ◌+◌}
 use mathlib.Core.Path.{◌≡◌, ap}
 use native.Mathlib.Omega.{arith}
 use lib.ListN.{get_or}
-use borrow.Author.Rules.{rules}
 use Rattle.block.proofs.load4.Goals as goal
 
 pub returns-then-at-bytes : goal.returns-then-at-bytes

@@ -1,9 +1,5 @@
-use Prim.Native.Nat.{◌-◌, ◌≤◌}
-use mathlib.Core.Path.{◌≡◌, refl}
-use mathlib.Core.Bool.{◌&&◌}
+use mathlib.Core.Path.{refl}
 use native.Mathlib.Omega.{arith}
-use lib.ListN.{drop}
-use Rattle.spec.specs.Bytes.{same}
 use Rattle.block.proofs.Steps.{compared-more, compared-all}
 use Rattle.block.proofs.same_block.Goals as goal
 

@@ -1,10 +1,8 @@
 use Prim.Native.Nat.{◌-◌, ◌≤◌}
-use mathlib.Core.Path.{◌≡◌, refl}
+use mathlib.Core.Path.{◌≡◌}
 use mathlib.Core.Bool.{◌&&◌}
-use native.Mathlib.Omega.{arith}
 use lib.ListN.{drop}
 use Rattle.spec.specs.Bytes.{same}
-use Rattle.block.proofs.Steps.{compared-more, compared-all}
 use Rattle.block.proofs.same_block.Given as goal
 
 -- what is to come decides, unless a byte differed before

@@ -1,5 +1,4 @@
 use native.Mathlib.Omega.{arith}
-use borrow.Author.Rules.{rules}
 use lib.ListN.{length-set}
 use Rattle.block.proofs.Steps.{patch-two}
 use Rattle.block.proofs.store2.Goals as goal

@@ -1,7 +1,6 @@
 use Prim.Native.Nat.{◌+◌, ◌/◌, ◌%◌}
 use mathlib.Core.Path.{ap, ◌∙◌}
 use native.Mathlib.Omega.{arith}
-use borrow.Author.Rules.{rules}
 use Rattle.spec.specs.Bytes.{patch, bytes2}
 use Rattle.block.proofs.Laws.{patch-join}
 use Rattle.block.proofs.store4.Goals as goal

@@ -1,5 +1,4 @@
 use native.Mathlib.Omega.{arith}
-use borrow.Author.Rules.{rules}
 use Rattle.block.proofs.Steps.{slice-stored}
 use Rattle.block.proofs.store_block.Goals as goal
 

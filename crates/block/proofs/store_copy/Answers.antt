@@ -1,9 +1,7 @@
 use Rattle.block.specs.Stores.{stored_in}
 use Rattle.block.proofs.Steps.{slice-stored}
 use Rattle.block.proofs.Laws.{length-exactly, exactly-all}
-use native.Mathlib.Omega.{arith}
 use mathlib.Core.Path.{sym, ap, ◌∙◌}
-use borrow.Author.Rules.{rules}
 use Rattle.block.proofs.store_copy.Goals as goal
 
 pub returns-then-from-eq-BLOCK_SIZE : goal.returns-then-from-eq-BLOCK_SIZE

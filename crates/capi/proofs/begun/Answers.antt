@@ -4,7 +4,6 @@ use Rattle.spec.specs.declared.Started.{Started}
 use Rattle.spec.specs.Answers.{is_refused, started_of}
 use Rattle.mirror.specs.Mirror.{numbers_of, head_of}
 use Rattle.capi.proofs.Ends.{started-refused, stays, becomes}
-use borrow.Author.Rules.{rules}
 use Rattle.capi.proofs.begun.Goals as goal
 
 pub returns-in-Refused : goal.returns-in-Refused

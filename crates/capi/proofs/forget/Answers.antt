@@ -4,7 +4,6 @@ use Rattle.mirror.specs.Mirror.{decode}
 use Rattle.journal.specs.Entries.{behind}
 use Rattle.spec.specs.declared.Session.{Session}
 use Rattle.journal.proofs.Steps.{behind-last, behind-next}
-use borrow.Author.Rules.{rules}
 use Rattle.capi.proofs.forget.Goals as goal
 
 pub returns-in-Refused : goal.returns-in-Refused

@@ -6,7 +6,6 @@ use Rattle.journal.specs.Entries.{behind}
 use Rattle.journal.proofs.Steps.{behind-last, behind-next}
 use Rattle.mirror.specs.Mirror.{numbers_of, head_of, encode, decode}
 use Rattle.capi.proofs.Ends.{stored_refused, stays, becomes, head-same}
-use borrow.Author.Rules.{rules}
 use Rattle.capi.proofs.keep_behind.Goals as goal
 
 pub returns-then-last : goal.returns-then-last

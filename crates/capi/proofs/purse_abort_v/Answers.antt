@@ -5,7 +5,6 @@ use Rattle.spec.specs.Calls.{abort}
 use Rattle.mirror.specs.Mirror.{finished_of}
 use Rattle.capi.proofs.Kept.{abort-still}
 use Rattle.capi.proofs.Ends.{ends-settled}
-use borrow.Author.Rules.{rules}
 use Rattle.capi.proofs.purse_abort_v.Goals as goal
 
 pub returns : goal.returns

@@ -2,7 +2,6 @@ use Rattle.spec.specs.Transaction.{State}
 use Rattle.spec.specs.Calls.{create}
 use Rattle.capi.proofs.Kept.{create-still}
 use Rattle.capi.proofs.Ends.{ends-in}
-use borrow.Author.Rules.{rules}
 use Rattle.capi.proofs.purse_create_v.Goals as goal
 
 pub returns : goal.returns

@@ -5,7 +5,6 @@ use Rattle.spec.specs.Calls.{format}
 use Rattle.mirror.specs.Mirror.{finished_of}
 use Rattle.capi.proofs.Kept.{format-still}
 use Rattle.capi.proofs.Ends.{ends-settled}
-use borrow.Author.Rules.{rules}
 use Rattle.capi.proofs.purse_format_v.Goals as goal
 
 pub returns : goal.returns

@@ -6,7 +6,6 @@ use Rattle.mirror.specs.Mirror.{head_in, decode}
 use Rattle.mirror.proofs.Laws.{reads}
 use Rattle.capi.proofs.Kept.{read-still}
 use Rattle.capi.proofs.Laws.{lent-session}
-use borrow.Author.Rules.{rules}
 use Rattle.capi.proofs.purse_read_v.Goals as goal
 
 pub returns : goal.returns

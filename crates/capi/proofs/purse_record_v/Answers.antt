@@ -4,7 +4,6 @@ use Rattle.spec.specs.Calls.{record_at}
 use Rattle.mirror.specs.Mirror.{head_in, decode}
 use Rattle.mirror.proofs.Laws.{names}
 use Rattle.capi.proofs.Laws.{lent-session}
-use borrow.Author.Rules.{rules}
 use Rattle.capi.proofs.purse_record_v.Goals as goal
 
 pub returns : goal.returns

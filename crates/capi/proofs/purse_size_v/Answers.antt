@@ -4,7 +4,6 @@ use Rattle.spec.specs.Calls.{size_of}
 use Rattle.mirror.specs.Mirror.{head_in, decode, counted_of}
 use Rattle.mirror.proofs.Laws.{answers}
 use Rattle.capi.proofs.Laws.{lent-session}
-use borrow.Author.Rules.{rules}
 use Rattle.capi.proofs.purse_size_v.Goals as goal
 
 pub returns : goal.returns

@@ -2,7 +2,6 @@ use Rattle.spec.specs.Transaction.{State}
 use Rattle.spec.specs.Calls.{write}
 use Rattle.capi.proofs.Kept.{write-still}
 use Rattle.capi.proofs.Ends.{ends-in}
-use borrow.Author.Rules.{rules}
 use Rattle.capi.proofs.purse_write_v.Goals as goal
 
 pub returns : goal.returns

@@ -1,5 +1,4 @@
 use mathlib.Core.Path.{refl}
-use borrow.Author.Rules.{rules}
 use Rattle.capi.proofs.put_last.Goals as goal
 
 pub returns-then-run-eq0 : goal.returns-then-run-eq0

@@ -1,7 +1,6 @@
 use mathlib.Core.Path.{refl}
 use native.Mathlib.Omega.{arith}
 use lib.ListN.{length-set}
-use borrow.Author.Rules.{rules}
 use Rattle.capi.proofs.put_run.Goals as goal
 
 pub bounds-list-k-then-k-list : goal.bounds-list-k-then-k-list

@@ -1,15 +1,12 @@
 use Prim.Native.Nat.{◌≤◌}
-use mathlib.Core.Path.{◌≡◌, refl, sym, ap, ◌∙◌}
-use native.Mathlib.Omega.{arith}
-use borrow.Author.Rules.{rules}
+use mathlib.Core.Path.{◌≡◌}
 use lib.ListN.{length}
 use Rattle.spec.specs.Bytes.{exactly}
 use Rattle.spec.specs.Inode.{block_of_inode}
 use Rattle.transaction.specs.Places.{view_in}
 use Rattle.inode.specs.Walk.{weight}
-use Rattle.extents.specs.Stretches.{rest_runs, growing_from}
-use Rattle.extents.proofs.Laws.{BegunIn, begin-in, on-slot-piece, on-slot-passed, on-slot-unused, on-node-next, on-node-none, no_room, goes_further, grow_first, grow-join, grow-apart}
-use Rattle.capi.proofs.Laws.{Filling, fill_start, fill-low, fill-grown, fill_on, fill_more, fill-last, listed-as}
+use Rattle.extents.specs.Stretches.{rest_runs}
+use Rattle.capi.proofs.Laws.{Filling}
 use Rattle.capi.proofs.put_runs.Given as goal
 
 abbrev pub invariant-loop-scan : goal.invariant-loop-scan

@@ -3,7 +3,6 @@ use Rattle.spec.specs.declared.Done.{Done}
 use Rattle.spec.specs.Answers.{is_refused, done_of}
 use Rattle.mirror.specs.Mirror.{numbers_of}
 use Rattle.capi.proofs.Ends.{done_refused, stays, becomes}
-use borrow.Author.Rules.{rules}
 use Rattle.capi.proofs.settled.Goals as goal
 
 pub returns-in-Refused : goal.returns-in-Refused

@@ -1,5 +1,4 @@
 use Rattle.cardfile.proofs.Forms.{amount-is}
-use borrow.Author.Rules.{rules}
 use Rattle.cardfile.proofs.amount_bytes.Goals as goal
 
 pub returns : goal.returns

@@ -1,5 +1,4 @@
 use Rattle.cardfile.proofs.Forms.{cents-none, cents-many, cents-one, cents-idle, cents-more}
-use borrow.Author.Rules.{rules}
 use Rattle.cardfile.proofs.amount_of.Goals as goal
 
 pub returns-then-t-eq0 : goal.returns-then-t-eq0

@@ -1,9 +1,6 @@
-use Prim.Native.Nat.{◌-◌}
 use native.Mathlib.Omega.{arith}
-use lib.ListN.{length}
 use borrow.Author.Count.{falls}
-use Rattle.cardfile.proofs.Laws.{Decimals, decimals-none, decimals-bad, decimals-more, decimals-end, decimals-room}
-use borrow.Author.Rules.{rules}
+use Rattle.cardfile.proofs.Laws.{decimals-none, decimals-bad, decimals-more, decimals-end, decimals-room}
 use Rattle.cardfile.proofs.decimal_number.Goals as goal
 
 pub loop-k-init : goal.loop-k-init

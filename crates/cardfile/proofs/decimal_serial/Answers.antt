@@ -1,7 +1,6 @@
 use mathlib.Core.Path.{sym, ◌∙◌}
 use native.Mathlib.Omega.{arith}
 use Rattle.cardfile.proofs.Laws.{within-good, within-large, within_none}
-use borrow.Author.Rules.{rules}
 use Rattle.cardfile.proofs.decimal_serial.Goals as goal
 
 pub returns-then-n-limit : goal.returns-then-n-limit

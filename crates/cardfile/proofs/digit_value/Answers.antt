@@ -1,6 +1,5 @@
 use native.Mathlib.Omega.{arith}
 use Rattle.cardfile.proofs.Laws.{digit_low, digit-high, digit-in}
-use borrow.Author.Rules.{rules}
 use Rattle.cardfile.proofs.digit_value.Goals as goal
 
 pub returns-then-c-lt48 : goal.returns-then-c-lt48

@@ -1,5 +1,4 @@
 use Rattle.cardfile.proofs.Forms.{eight_are}
-use borrow.Author.Rules.{rules}
 use Rattle.cardfile.proofs.eight_bytes.Goals as goal
 
 pub returns : goal.returns

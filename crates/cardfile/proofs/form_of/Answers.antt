@@ -5,7 +5,6 @@ use mathlib.Core.Path.{sym, ◌∙◌, ap}
 use native.Mathlib.Omega.{arith}
 use Rattle.cardfile.proofs.Laws.{before-length}
 use Rattle.cardfile.proofs.Forms.{form-short, form-open, form-serial, form-cents, form-good}
-use borrow.Author.Rules.{rules}
 use Rattle.cardfile.proofs.form_of.Goals as goal
 
 pub overflow_add-k : goal.overflow_add-k

@@ -1,6 +1,5 @@
 use native.Mathlib.Omega.{arith}
 use Rattle.cardfile.proofs.Laws.{pair-first, pair-second, pair-both-as}
-use borrow.Author.Rules.{rules}
 use Rattle.cardfile.proofs.hex_byte.Goals as goal
 
 pub returns-then-x-eq16 : goal.returns-then-x-eq16

@@ -1,7 +1,6 @@
 use Prim.Native.Nat.{◌-◌}
 use native.Mathlib.Omega.{arith}
-use Rattle.cardfile.proofs.Laws.{Hexes, hexes-none, hexes-bad, hexes-more, hexes-room, hexes-end}
-use borrow.Author.Rules.{rules}
+use Rattle.cardfile.proofs.Laws.{hexes-none, hexes-bad, hexes-more, hexes-room, hexes-end}
 use Rattle.cardfile.proofs.hex_number.Goals as goal
 
 pub loop-k-init : goal.loop-k-init

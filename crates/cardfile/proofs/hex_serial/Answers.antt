@@ -1,7 +1,6 @@
 use mathlib.Core.Path.{sym, ◌∙◌}
 use native.Mathlib.Omega.{arith}
 use Rattle.cardfile.proofs.Laws.{hex-good, hex-bad}
-use borrow.Author.Rules.{rules}
 use Rattle.cardfile.proofs.hex_serial.Goals as goal
 
 pub returns-in-Value : goal.returns-in-Value

@@ -1,6 +1,5 @@
 use native.Mathlib.Omega.{arith}
 use Rattle.cardfile.proofs.Laws.{hex-low, hex-digit, hex-gap, hex-high, hex-letter}
-use borrow.Author.Rules.{rules}
 use Rattle.cardfile.proofs.hex_value.Goals as goal
 
 pub returns-then-c-lt48 : goal.returns-then-c-lt48

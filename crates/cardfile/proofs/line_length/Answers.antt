@@ -1,5 +1,4 @@
 use Rattle.cardfile.proofs.Laws.{few, many}
-use borrow.Author.Rules.{rules}
 use Rattle.cardfile.proofs.line_length.Goals as goal
 
 pub returns-then-rest-le-LINE_SEEN : goal.returns-then-rest-le-LINE_SEEN

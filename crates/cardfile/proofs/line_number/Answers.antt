@@ -1,5 +1,4 @@
 use Rattle.cardfile.proofs.Forms.{number_past, number-inside}
-use borrow.Author.Rules.{rules}
 use Rattle.cardfile.proofs.line_number.Goals as goal
 
 pub returns-then-text-at : goal.returns-then-text-at

@@ -1,9 +1,7 @@
 use Rattle.cardfile.proofs.Forms.{counted-as}
-use Prim.Native.Nat.{◌-◌}
-use lib.ListN.{length}
 use native.Mathlib.Omega.{arith}
 use borrow.Author.Count.{falls}
-use Rattle.cardfile.proofs.Forms.{Counted, counted_none, counted-feed, counted-other, counted-end}
+use Rattle.cardfile.proofs.Forms.{counted_none, counted-feed, counted-other, counted-end}
 use Rattle.cardfile.proofs.lines_in.Goals as goal
 use Rattle.cardfile.proofs.lines_in.Goals.{then-text-k-eq10, else-text-k-eq10}
 

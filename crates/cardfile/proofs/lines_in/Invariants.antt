@@ -1,10 +1,6 @@
-use Rattle.cardfile.proofs.Forms.{counted-as}
 use Prim.Native.Nat.{◌-◌}
 use lib.ListN.{length}
-use native.Mathlib.Omega.{arith}
-use mathlib.Core.Logic.{⊎_elim}
-use borrow.Author.Count.{falls}
-use Rattle.cardfile.proofs.Forms.{Counted, counted_none, counted-feed, counted-other, counted-end}
+use Rattle.cardfile.proofs.Forms.{Counted}
 use Rattle.cardfile.proofs.lines_in.Given as goal
 
 abbrev pub invariant-loop-k : goal.invariant-loop-k

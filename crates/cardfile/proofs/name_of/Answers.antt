@@ -1,5 +1,4 @@
 use Rattle.cardfile.proofs.Forms.{name-as}
-use borrow.Author.Rules.{rules}
 use Rattle.cardfile.proofs.name_of.Goals as goal
 
 pub returns : goal.returns

@@ -1,5 +1,4 @@
 use Rattle.cardfile.proofs.Forms.{d-ten, d-seventeen, d-other}
-use borrow.Author.Rules.{rules}
 use Rattle.cardfile.proofs.serial_d.Goals as goal
 
 pub returns-then-t-eq-SHORT_DECIMAL : goal.returns-then-t-eq-SHORT_DECIMAL

@@ -1,5 +1,4 @@
 use Rattle.cardfile.proofs.Forms.{h-eight, h-fourteen, h-other}
-use borrow.Author.Rules.{rules}
 use Rattle.cardfile.proofs.serial_h.Goals as goal
 
 pub returns-then-t-eq-SHORT_HEX : goal.returns-then-t-eq-SHORT_HEX

@@ -1,5 +1,4 @@
 use Rattle.cardfile.proofs.Forms.{of-h, of-d, of_other}
-use borrow.Author.Rules.{rules}
 use Rattle.cardfile.proofs.serial_of.Goals as goal
 
 pub returns-then-letter-eq72 : goal.returns-then-letter-eq72

@@ -1,8 +1,5 @@
-use Prim.Native.Nat.{◌-◌}
-use lib.ListN.{length}
 use borrow.Author.Count.{falls}
-use Rattle.cardfile.proofs.Laws.{Passed, passed_none, passed-hit, passed-more, passed-end}
-use borrow.Author.Rules.{rules}
+use Rattle.cardfile.proofs.Laws.{passed_none, passed-hit, passed-more, passed-end}
 use Rattle.cardfile.proofs.until.Goals as goal
 
 pub loop-k-init : goal.loop-k-init

@@ -1,8 +1,6 @@
 use Prim.Native.Nat.{◌-◌}
 use lib.ListN.{length}
-use borrow.Author.Count.{falls}
-use Rattle.cardfile.proofs.Laws.{Passed, passed_none, passed-hit, passed-more, passed-end}
-use borrow.Author.Rules.{rules}
+use Rattle.cardfile.proofs.Laws.{Passed}
 use Rattle.cardfile.proofs.until.Given as goal
 
 abbrev pub invariant-loop-k : goal.invariant-loop-k

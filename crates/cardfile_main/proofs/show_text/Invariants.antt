@@ -1,7 +1,5 @@
 use Prim.Native.Nat.{◌≤◌, ◌-◌}
-use mathlib.Core.Path.{◌≡◌}
 use lib.ListN.{length}
-use borrow.Author.Rules.{rules}
 use Rattle.cardfile_main.proofs.show_text.Given as goal
 
 abbrev pub invariant-loop-k : goal.invariant-loop-k

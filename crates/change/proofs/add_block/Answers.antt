@@ -1,9 +1,7 @@
 use Rattle.transaction.specs.Places.{view_in}
-use Rattle.spec.specs.Transaction.{view, state_of}
 use Rattle.change.proofs.Steps.{changed-not, changed-is}
 use Rattle.change.proofs.Images.{block-compared}
-use native.Mathlib.Omega.{arith}
-use Rattle.agenda.specs.Agenda.{agenda, Room}
+use Rattle.agenda.specs.Agenda.{agenda}
 use borrow.Author.Rules.{rules}
 use Rattle.change.proofs.add_block.Goals as goal
 

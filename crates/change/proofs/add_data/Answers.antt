@@ -1,18 +1,13 @@
-use Prim.Native.Nat.{ℕ, ◌-◌, ◌+◌, ◌<◌, ◌≤◌}
+use Prim.Native.Nat.{◌-◌, ◌+◌, ◌<◌}
 use mathlib.Core.Path.{◌≡◌, refl, ap, ◌∙◌}
 use mathlib.Core.List.{[]}
 use native.Mathlib.Omega.{arith}
-use Rattle.spec.specs.Disk.{Disk}
-use Rattle.spec.specs.Transaction.{ascending}
 use Rattle.runs.specs.Push.{columns}
-use Rattle.agenda.specs.Agenda.{Lists}
-use Rattle.change.specs.Contents.{content_in, data_stores, place_of, change_of}
+use Rattle.change.specs.Contents.{place_of, change_of}
 use Rattle.change.proofs.Places.{place-columns, counts-columns, place_none, place-under, place-back, place-split, run_room, run_inside, run-block, all_blocks}
 use Rattle.change.proofs.Steps.{data-cast, data-start, run-gap}
 use Rattle.change.proofs.Outside.{clear-run}
-use Rattle.agenda.specs.Agenda.{agenda, Room}
 use Rattle.agenda.proofs.Laws.{nothing-lists}
-use borrow.Author.Rules.{rules}
 use Rattle.change.proofs.add_data.Goals as goal
 
 pub window_of-w-requires : goal.window_of-w-requires

@@ -1,11 +1,8 @@
 use Rattle.transaction.specs.Places.{view_in}
 use Rattle.change.specs.Contents.{change_of}
 use native.Mathlib.Omega.{arith}
-use Rattle.spec.specs.Transaction.{view, state_of}
 use Rattle.change.proofs.Contents.{node-told}
 use Rattle.change.proofs.Steps.{held-lists, new-lists}
-use Rattle.agenda.specs.Agenda.{agenda, Room}
-use borrow.Author.Rules.{rules}
 use Rattle.change.proofs.add_node.Goals as goal
 
 pub node_at-b-requires : goal.node_at-b-requires

@@ -1,14 +1,8 @@
-use Rattle.transaction.specs.Places.{view_in}
-use Prim.Native.Nat.{ℕ, ◌+◌, ◌-◌, ◌≤◌}
-use mathlib.Core.List.{List}
+use Prim.Native.Nat.{◌+◌, ◌-◌}
 use mathlib.Core.Path.{◌≡◌}
-use Rattle.spec.specs.Transaction.{view, state_of, ascending}
-use Rattle.agenda.specs.Agenda.{Lists}
-use Rattle.change.specs.Contents.{change_of, content_in, data_stores, node_stores}
+use Rattle.change.specs.Contents.{change_of}
 use Rattle.change.proofs.Steps.{nodes-start, node-cast}
 use native.Mathlib.Omega.{arith}
-use Rattle.agenda.specs.Agenda.{agenda, Room}
-use borrow.Author.Rules.{rules}
 use Rattle.change.proofs.add_nodes.Goals as goal
 
 pub loop-j-init : goal.loop-j-init

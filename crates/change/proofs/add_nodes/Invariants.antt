@@ -1,14 +1,10 @@
 use Rattle.transaction.specs.Places.{view_in}
-use Prim.Native.Nat.{ℕ, ◌+◌, ◌-◌, ◌≤◌}
+use Prim.Native.Nat.{ℕ, ◌≤◌}
 use mathlib.Core.List.{List}
-use mathlib.Core.Path.{◌≡◌}
-use Rattle.spec.specs.Transaction.{view, state_of, ascending}
+use Rattle.spec.specs.Transaction.{ascending}
 use Rattle.agenda.specs.Agenda.{Lists}
 use Rattle.change.specs.Contents.{change_of, content_in, data_stores, node_stores}
-use Rattle.change.proofs.Steps.{nodes-start, node-cast}
-use native.Mathlib.Omega.{arith}
 use Rattle.agenda.specs.Agenda.{agenda, Room}
-use borrow.Author.Rules.{rules}
 use Rattle.change.proofs.add_nodes.Given as goal
 
 -- from the lists of the data blocks, as they came, to those of the nodes from j on

@@ -1,7 +1,4 @@
 use Rattle.change.proofs.Steps.{staged-by, place-taken, place-left}
-use native.Mathlib.Omega.{arith}
-use Rattle.agenda.specs.Agenda.{agenda, Room}
-use borrow.Author.Rules.{rules}
 use Rattle.change.proofs.add_place.Goals as goal
 
 pub insert-requires : goal.insert-requires

@@ -3,11 +3,9 @@ use Rattle.agenda.specs.Agenda.{Lists}
 use Rattle.spec.specs.Transaction.{ascending, insert, put}
 use mathlib.Core.Path.{subst}
 use Prim.Native.Nat.{ℕ}
-use Rattle.spec.specs.Transaction.{view, state_of}
 use Rattle.change.proofs.Steps.{changed-not, changed-is}
 use Rattle.change.proofs.Images.{record-compared}
-use native.Mathlib.Omega.{arith}
-use Rattle.agenda.specs.Agenda.{agenda, Room}
+use Rattle.agenda.specs.Agenda.{agenda}
 use borrow.Author.Rules.{rules}
 use Rattle.change.proofs.add_record.Goals as goal
 

@@ -1,15 +1,8 @@
-use Prim.Native.Nat.{ℕ, ◌+◌, ◌-◌, ◌<◌, ◌≤◌}
+use Prim.Native.Nat.{◌+◌, ◌-◌}
 use mathlib.Core.Path.{◌≡◌}
 use native.Mathlib.Omega.{arith}
-use Rattle.spec.specs.Disk.{Disk}
-use Rattle.spec.specs.Transaction.{ascending}
-use Rattle.agenda.specs.Agenda.{Lists}
-use Rattle.change.specs.Change.{Change}
-use Rattle.change.specs.Contents.{content_in, data_stores, Numbers, IsBlock}
 use Rattle.change.proofs.Outside.{in-gap}
 use Rattle.change.proofs.Steps.{data-cast, data-over, run-gap}
-use Rattle.agenda.specs.Agenda.{agenda, Room}
-use borrow.Author.Rules.{rules}
 use Rattle.change.proofs.add_run.Goals as goal
 
 pub loop-j-init : goal.loop-j-init

@@ -1,15 +1,10 @@
-use Prim.Native.Nat.{ℕ, ◌+◌, ◌-◌, ◌<◌, ◌≤◌}
-use mathlib.Core.Path.{◌≡◌}
-use native.Mathlib.Omega.{arith}
+use Prim.Native.Nat.{ℕ, ◌+◌, ◌<◌, ◌≤◌}
 use Rattle.spec.specs.Disk.{Disk}
 use Rattle.spec.specs.Transaction.{ascending}
 use Rattle.agenda.specs.Agenda.{Lists}
 use Rattle.change.specs.Change.{Change}
 use Rattle.change.specs.Contents.{content_in, data_stores, Numbers, IsBlock}
-use Rattle.change.proofs.Outside.{in-gap}
-use Rattle.change.proofs.Steps.{data-cast, data-over, run-gap}
 use Rattle.agenda.specs.Agenda.{agenda, Room}
-use borrow.Author.Rules.{rules}
 use Rattle.change.proofs.add_run.Given as goal
 
 abbrev pub invariant-loop-j : goal.invariant-loop-j

@@ -1,10 +1,7 @@
 use Rattle.transaction.specs.Places.{view_in}
 use Rattle.change.specs.Contents.{change_of}
-use Rattle.spec.specs.Transaction.{view, state_of}
 use Rattle.change.proofs.Contents.{bitmap-told, record-told}
 use Rattle.change.proofs.Steps.{record-lists, change-lists}
-use Rattle.agenda.specs.Agenda.{agenda, Room}
-use borrow.Author.Rules.{rules}
 use Rattle.change.proofs.agenda_of.Goals as goal
 
 pub add_data-data-requires : goal.add_data-data-requires

@@ -1,12 +1,10 @@
 use mathlib.Core.Path.{refl, ap}
 use native.Mathlib.Omega.{arith}
-use borrow.Author.Tests.{not-true, not-false}
 use Rattle.transaction.specs.Places.{session_of}
 use Rattle.transaction.proofs.Laws.{cells-few}
 use Rattle.checks.proofs.Laws.{told}
 use Rattle.change.specs.Contents.{change_of}
 use Rattle.change.proofs.Staging as staging
-use borrow.Author.Rules.{rules}
 use Rattle.change.proofs.apply.Goals as goal
 
 pub agenda_of-n-requires : goal.agenda_of-n-requires

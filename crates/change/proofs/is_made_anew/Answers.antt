@@ -2,7 +2,6 @@ use Prim.Native.Nat.{◌-◌}
 use native.Mathlib.Omega.{arith}
 use borrow.Author.Tests.{eqb-false, not-true, leb-true}
 use Rattle.change.proofs.Contents.{anew-low, anew-data}
-use borrow.Author.Rules.{rules}
 use Rattle.change.proofs.is_made_anew.Goals as goal
 
 pub returns-then-tag-lt-FIRST_DATA : goal.returns-then-tag-lt-FIRST_DATA

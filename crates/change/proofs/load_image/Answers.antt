@@ -2,11 +2,9 @@ use Prim.Native.Nat.{◌<◌, ◌≤◌}
 use mathlib.Core.Path.{◌≡◌}
 use native.Mathlib.Omega.{arith}
 use lib.ListN.{length}
-use Rattle.spec.specs.Session.{staged_in}
 use Rattle.transaction.specs.Places.{spot}
 use Rattle.transaction.proofs.Laws.{spot-found, spot-absent, spot-new}
 use Rattle.change.proofs.Images.{image-held, image-new}
-use borrow.Author.Rules.{rules}
 use Rattle.change.proofs.load_image.Goals as goal
 
 pub returns-then-k-staged : goal.returns-then-k-staged

@@ -1,7 +1,6 @@
 use mathlib.Core.Path.{refl}
 use native.Mathlib.Omega.{arith}
 use Rattle.change.proofs.Images.{ready-loaded}
-use borrow.Author.Rules.{rules}
 use Rattle.change.proofs.ready_image.Goals as goal
 
 pub returns-then-is_made_anew : goal.returns-then-is_made_anew

@@ -1,7 +1,6 @@
 use Rattle.change.proofs.Images.{part-padded, part-whole}
 use native.Mathlib.Omega.{arith}
 use mathlib.Core.Path.{refl}
-use borrow.Author.Rules.{rules}
 use Rattle.change.proofs.same_at.Goals as goal
 
 pub returns-then-end-block : goal.returns-then-end-block

@@ -1,9 +1,6 @@
-use Prim.Native.Nat.{◌-◌, ◌≤◌}
-use mathlib.Core.Path.{◌≡◌, refl}
-use mathlib.Core.Bool.{◌&&◌}
+use mathlib.Core.Path.{refl}
 use native.Mathlib.Omega.{arith}
-use lib.ListN.{length, drop}
-use Rattle.spec.specs.Bytes.{same}
+use lib.ListN.{length}
 use Rattle.block.proofs.Steps.{compared-more, compared-all}
 use Rattle.change.proofs.same_bytes.Goals as goal
 

@@ -1,19 +1,11 @@
-use mathlib.Core.List.{List}
-use Prim.Native.Nat.{ℕ, ◌-◌, ◌≤◌}
-use mathlib.Core.Path.{◌≡◌, ◌∙◌}
-use lib.ListN.{length, take, drop}
-use Rattle.spec.specs.declared.Phase.{Phase}
+use mathlib.Core.Path.{◌∙◌}
 use Rattle.spec.specs.declared.Phase.TheVariants.{Closed}
 use Rattle.spec.specs.Session.{staged_in}
-use Rattle.spec.specs.Transaction.{State, view, state_of, stage_each, staged_of, with_staging}
 use Rattle.transaction.specs.Places.{session_of}
 use Rattle.transaction.proofs.Laws.{cells-many}
-use Rattle.agenda.specs.Agenda.{stores_by}
-use Rattle.change.specs.Change.{Change}
-use Rattle.change.specs.Contents.{change_of, content_in}
-use Rattle.change.proofs.Staging.{Going, going_start, stage-room, stage-step, stage-end, settled_is}
+use Rattle.change.specs.Contents.{change_of}
+use Rattle.change.proofs.Staging.{going_start, stage-room, stage-step, stage-end, settled_is}
 use native.Mathlib.Omega.{arith}
-use borrow.Author.Rules.{rules}
 use Rattle.change.proofs.stage_all.Goals as goal
 
 pub loop-k-init : goal.loop-k-init

@@ -1,6 +1,6 @@
 use Rattle.change.proofs.Images.{spot-cells, image-cells}
 use Rattle.change.specs.Contents.{change_of, content_of}
-use Rattle.transaction.specs.Places.{spot, session_of}
+use Rattle.transaction.specs.Places.{spot}
 use native.Mathlib.Omega.{arith}
 use mathlib.Core.Path.{◌≡◌, refl}
 use Prim.Native.Nat.{◌<◌}

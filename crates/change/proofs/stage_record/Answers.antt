@@ -1,7 +1,6 @@
 use Rattle.change.proofs.Images.{spot-lent, ready-loaded, image-cells}
 use Rattle.content.specs.Content.{with_record}
 use Rattle.transaction.specs.Places.{spot, session_of}
-use Rattle.spec.specs.Inode.{block_of_inode}
 use Rattle.spec.specs.Transaction.{state_of, with_staging, stage, staged_of, put, view}
 use native.Mathlib.Omega.{arith}
 use mathlib.Core.Path.{◌≡◌, sym, ap, ◌∙◌}

@@ -1,12 +1,9 @@
 use Rattle.lists.specs.Extents.{length-blocks}
-use Prim.Native.Nat.{◌-◌, ◌≤◌}
-use mathlib.Core.Path.{◌≡◌, sym}
+use mathlib.Core.Path.{sym}
 use native.Mathlib.Omega.{arith}
-use borrow.Author.Rules.{rules}
 use mathlib.Core.List.{[]}
 use Rattle.runs.specs.Push.{columns}
 use Rattle.runs.specs.Runs.{listed}
-use Rattle.change.specs.Contents.{place_of}
 use Rattle.change.proofs.Places.{place_none, place-step, place_end, place-room}
 use Rattle.change.proofs.total.Goals as goal
 

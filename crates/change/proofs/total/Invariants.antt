@@ -1,13 +1,8 @@
-use Rattle.lists.specs.Extents.{length-blocks}
 use Prim.Native.Nat.{◌-◌, ◌≤◌}
-use mathlib.Core.Path.{◌≡◌, sym}
-use native.Mathlib.Omega.{arith}
-use borrow.Author.Rules.{rules}
+use mathlib.Core.Path.{◌≡◌}
 use mathlib.Core.List.{[]}
 use Rattle.runs.specs.Push.{columns}
-use Rattle.runs.specs.Runs.{listed}
 use Rattle.change.specs.Contents.{place_of}
-use Rattle.change.proofs.Places.{place_none, place-step, place_end, place-room}
 use Rattle.change.proofs.total.Given as goal
 
 abbrev pub invariant-loop-k : goal.invariant-loop-k

@@ -1,5 +1,4 @@
 use native.Mathlib.Omega.{arith}
-use borrow.Author.Rules.{rules}
 use Rattle.change.proofs.Outside.{outside}
 use Rattle.change.proofs.window_of.Goals as goal
 

@@ -1,7 +1,6 @@
 use Prim.Native.Nat.{◌≤◌, ◌-◌}
 use mathlib.Core.Path.{◌≡◌}
 use lib.ListN.{length}
-use borrow.Author.Rules.{rules}
 use Rattle.changes_main.proofs.in_turn.Given as goal
 
 abbrev pub invariant-loop-i : goal.invariant-loop-i

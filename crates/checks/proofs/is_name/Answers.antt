@@ -1,8 +1,7 @@
-use mathlib.Core.Path.{sym, ap, ◌∙◌}
-use mathlib.Core.Bool.{Bool, not}
+use mathlib.Core.Path.{ap, ◌∙◌}
+use mathlib.Core.Bool.{not}
 use Rattle.block.proofs.Keys.{zero-key}
 use Rattle.checks.proofs.Laws.{other_length, eight-long}
-use borrow.Author.Rules.{rules}
 use Rattle.checks.proofs.is_name.Goals as goal
 
 pub returns-then-name-ne-NAME_SIZE : goal.returns-then-name-ne-NAME_SIZE

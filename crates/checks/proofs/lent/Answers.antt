@@ -1,7 +1,5 @@
-use borrow.Author.Tests.{not-true, not-false}
 use mathlib.Core.Path.{sym, ◌∙◌}
 use Rattle.checks.proofs.Laws.{lent-allowed, lent-device, lent-work, lent-fine}
-use borrow.Author.Rules.{rules}
 use Rattle.checks.proofs.lent.Goals as goal
 
 pub returns-then-not-is_allowed : goal.returns-then-not-is_allowed

@@ -1,8 +1,6 @@
 use mathlib.Core.Path.{sym, ap, ◌∙◌}
-use borrow.Author.Tests.{not-true, not-false}
 use Rattle.checks.specs.Checks.{result_of}
 use Rattle.checks.proofs.Laws.{named-lent, named-bad, named-fine}
-use borrow.Author.Rules.{rules}
 use Rattle.checks.proofs.named.Goals as goal
 
 pub returns-then-not-is_name : goal.returns-then-not-is_name

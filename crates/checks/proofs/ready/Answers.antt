@@ -1,7 +1,6 @@
 use mathlib.Core.Path.{sym, ap, ◌∙◌}
 use Rattle.checks.specs.Checks.{result_of}
 use Rattle.checks.proofs.Laws.{ready-bad, ready-fine}
-use borrow.Author.Rules.{rules}
 use Rattle.checks.proofs.ready.Goals as goal
 
 pub returns-in-Bad : goal.returns-in-Bad

@@ -1,6 +1,5 @@
 use mathlib.Core.Path.{sym, ap}
 use Rattle.checks.specs.Checks.{ready_phase}
-use borrow.Author.Rules.{rules}
 use Rattle.checks.proofs.ready_phase.Goals as goal
 
 pub returns-in-Closed : goal.returns-in-Closed

@@ -1,7 +1,4 @@
-use borrow.Author.Tests.{not-true, not-false}
-use native.Mathlib.Omega.{arith}
 use Rattle.checks.proofs.Laws.{data-large, end_fits}
-use borrow.Author.Rules.{rules}
 use Rattle.checks.proofs.size_fits.Goals as goal
 
 pub returns-then-n-gt-MAX_FILE_SIZE : goal.returns-then-n-gt-MAX_FILE_SIZE

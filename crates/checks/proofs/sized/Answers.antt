@@ -1,8 +1,6 @@
 use mathlib.Core.Path.{sym, ap, ◌∙◌}
-use borrow.Author.Tests.{not-true, not-false}
 use Rattle.checks.specs.Checks.{result_of}
 use Rattle.checks.proofs.Laws.{sized-lent, sized-name, sized-large, sized-fine}
-use borrow.Author.Rules.{rules}
 use Rattle.checks.proofs.sized.Goals as goal
 
 pub returns-then-not-is_name : goal.returns-then-not-is_name

@@ -1,7 +1,7 @@
-use Prim.Native.Nat.{◌+◌, ◌*◌, ◌-◌, ◌≤◌}
+use Prim.Native.Nat.{◌+◌, ◌*◌}
 use mathlib.Core.Path.{◌≡◌, ◌∙◌}
 use Rattle.runs.specs.Push.{columns}
-use Rattle.content.proofs.Record.{counts_from, below_none, below_more, below_all}
+use Rattle.content.proofs.Record.{below_none, below_more, below_all}
 use native.Mathlib.Omega.{arith}
 use Rattle.content.proofs.blocks_below.Goals as goal
 

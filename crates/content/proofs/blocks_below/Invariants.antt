@@ -1,8 +1,6 @@
-use Prim.Native.Nat.{◌+◌, ◌*◌, ◌-◌, ◌≤◌}
-use mathlib.Core.Path.{◌≡◌, ◌∙◌}
-use Rattle.runs.specs.Push.{columns}
-use Rattle.content.proofs.Record.{counts_from, below_none, below_more, below_all}
-use native.Mathlib.Omega.{arith}
+use Prim.Native.Nat.{◌*◌, ◌-◌, ◌≤◌}
+use mathlib.Core.Path.{◌≡◌}
+use Rattle.content.proofs.Record.{counts_from}
 use Rattle.content.proofs.blocks_below.Given as goal
 
 abbrev pub invariant-loop-k : goal.invariant-loop-k

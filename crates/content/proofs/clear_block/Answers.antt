@@ -1,7 +1,6 @@
 use mathlib.Core.Path.{sym, ◌∙◌}
 use native.Mathlib.Omega.{arith}
 use Rattle.content.proofs.Laws.{kept_new, kept-cut, kept_same, cut-none}
-use borrow.Author.Rules.{rules}
 use Rattle.content.proofs.clear_block.Goals as goal
 
 pub returns-then-held-p : goal.returns-then-held-p

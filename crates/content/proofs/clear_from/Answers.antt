@@ -1,9 +1,6 @@
-use Prim.Native.Nat.{◌-◌}
 use mathlib.Core.Path.{sym, ◌∙◌}
 use native.Mathlib.Omega.{arith}
-use lib.ListN.{length}
-use Rattle.content.proofs.Laws.{ClearedTo, clear-start, clear-more, clear-end}
-use borrow.Author.Rules.{rules}
+use Rattle.content.proofs.Laws.{clear-start, clear-more, clear-end}
 use Rattle.content.proofs.clear_from.Goals as goal
 
 pub loop-k-init : goal.loop-k-init

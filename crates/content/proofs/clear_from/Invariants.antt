@@ -1,9 +1,5 @@
 use Prim.Native.Nat.{◌-◌}
-use mathlib.Core.Path.{sym, ◌∙◌}
-use native.Mathlib.Omega.{arith}
-use lib.ListN.{length}
-use Rattle.content.proofs.Laws.{ClearedTo, clear-start, clear-more, clear-end}
-use borrow.Author.Rules.{rules}
+use Rattle.content.proofs.Laws.{ClearedTo}
 use Rattle.content.proofs.clear_from.Given as goal
 
 abbrev pub invariant-loop-k : goal.invariant-loop-k

@@ -1,5 +1,4 @@
 use Rattle.content.proofs.Record.{extent-is, extent-none}
-use native.Mathlib.Omega.{arith}
 use Rattle.runs.specs.Push.{columns}
 use Rattle.content.proofs.extent_at.Goals as goal
 

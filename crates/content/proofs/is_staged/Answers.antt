@@ -1,4 +1,3 @@
-use borrow.Author.Rules.{rules}
 use Rattle.content.proofs.is_staged.Goals as goal
 
 pub returns : goal.returns

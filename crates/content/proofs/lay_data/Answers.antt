@@ -1,6 +1,5 @@
 use mathlib.Core.Path.{sym, ◌∙◌}
 use Rattle.content.proofs.Laws.{Under, under-kept, under-covered}
-use borrow.Author.Rules.{rules}
 use Rattle.content.proofs.lay_data.Goals as goal
 use Rattle.content.proofs.lay_data.Goals.{then-not-is_covered, else-not-is_covered}
 

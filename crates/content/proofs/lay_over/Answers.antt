@@ -1,7 +1,6 @@
 use native.Mathlib.Omega.{arith}
 use lib.ListN.{length}
 use Rattle.content.proofs.Laws.{Reach, reach, over_none, part-even, part-laid}
-use borrow.Author.Rules.{rules}
 use Rattle.content.proofs.lay_over.Goals as goal
 
 -- the part of the block that the data reaches

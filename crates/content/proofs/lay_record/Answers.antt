@@ -1,9 +1,7 @@
-use Prim.Native.Nat.{◌*◌, ◌-◌, ◌%◌, ◌≤◌}
-use mathlib.Core.Path.{◌≡◌, sym, ◌∙◌}
-use lib.ListN.{length, length-set}
-use Rattle.content.proofs.Laws.{laid_to, laid_none, laid_more, laid-all}
+use mathlib.Core.Path.{sym, ◌∙◌}
+use lib.ListN.{length-set}
+use Rattle.content.proofs.Laws.{laid_none, laid_more, laid-all}
 use native.Mathlib.Omega.{arith}
-use borrow.Author.Rules.{rules}
 use Rattle.content.proofs.lay_record.Goals as goal
 
 pub loop-k-init : goal.loop-k-init

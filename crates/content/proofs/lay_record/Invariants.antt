@@ -1,9 +1,7 @@
 use Prim.Native.Nat.{◌*◌, ◌-◌, ◌%◌, ◌≤◌}
-use mathlib.Core.Path.{◌≡◌, sym, ◌∙◌}
-use lib.ListN.{length, length-set}
-use Rattle.content.proofs.Laws.{laid_to, laid_none, laid_more, laid-all}
-use native.Mathlib.Omega.{arith}
-use borrow.Author.Rules.{rules}
+use mathlib.Core.Path.{◌≡◌}
+use lib.ListN.{length}
+use Rattle.content.proofs.Laws.{laid_to}
 use Rattle.content.proofs.lay_record.Given as goal
 
 abbrev pub invariant-loop-k : goal.invariant-loop-k

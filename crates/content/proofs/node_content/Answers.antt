@@ -1,7 +1,4 @@
-use Prim.Native.Nat.{◌-◌, ◌≤◌}
 use mathlib.Core.Path.{◌≡◌, refl, ◌∙◌}
-use Rattle.spec.specs.Inode.{bytes_of_slots}
-use Rattle.runs.specs.Runs.{extents_from}
 use Rattle.runs.specs.Push.{columns}
 use Rattle.content.proofs.Laws.{filled, slots-none, slots-more, slots-all}
 use native.Mathlib.Omega.{arith}

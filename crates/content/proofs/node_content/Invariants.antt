@@ -1,10 +1,8 @@
 use Prim.Native.Nat.{◌-◌, ◌≤◌}
-use mathlib.Core.Path.{◌≡◌, refl, ◌∙◌}
+use mathlib.Core.Path.{◌≡◌}
 use Rattle.spec.specs.Inode.{bytes_of_slots}
 use Rattle.runs.specs.Runs.{extents_from}
-use Rattle.runs.specs.Push.{columns}
-use Rattle.content.proofs.Laws.{filled, slots-none, slots-more, slots-all}
-use native.Mathlib.Omega.{arith}
+use Rattle.content.proofs.Laws.{filled}
 use Rattle.content.proofs.node_content.Given as goal
 
 abbrev pub invariant-loop-k : goal.invariant-loop-k

@@ -1,6 +1,5 @@
 use mathlib.Core.Path.{refl}
 use Rattle.content.specs.Content.{tree_of}
-use borrow.Author.Rules.{rules}
 use Rattle.content.proofs.Record.{record_is}
 use Rattle.content.proofs.record_bytes.Goals as goal
 

@@ -1,6 +1,5 @@
 use mathlib.Core.Path.{refl}
 use Rattle.convertapi.proofs.Laws.{numbers-are}
-use borrow.Author.Rules.{rules}
 use Rattle.convertapi.proofs.numbers_of.Goals as goal
 
 pub returns-in-Length : goal.returns-in-Length

@@ -1,5 +1,4 @@
 use Rattle.convertapi.proofs.Laws.{converts}
-use borrow.Author.Rules.{rules}
 use Rattle.convertapi.proofs.purse_convert_h_v.Goals as goal
 
 pub returns : goal.returns

@@ -1,4 +1,3 @@
-use borrow.Author.Tests.{not-true, not-false}
 use Rattle.converter.proofs.Passes.{end-closed, end-over, end_fits}
 use Rattle.converter.proofs.answer_behind.Goals as goal
 

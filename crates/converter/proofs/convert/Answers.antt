@@ -1,6 +1,5 @@
 use mathlib.Core.Path.{refl}
 use Rattle.converter.proofs.Writes.{all-converted, none-converted, is-output}
-use borrow.Author.Rules.{rules}
 use Rattle.converter.proofs.convert.Goals as goal
 
 pub put_lines-requires : goal.put_lines-requires

@@ -1,5 +1,4 @@
 use native.Mathlib.Omega.{arith}
-use borrow.Author.Tests.{not-true, not-false}
 use Rattle.converter.proofs.Passes.{room-closed, room-over, room_fits}
 use Rattle.converter.proofs.count_more.Goals as goal
 

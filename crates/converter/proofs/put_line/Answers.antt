@@ -1,5 +1,4 @@
 use Rattle.converter.proofs.Writes.{put_all}
-use borrow.Author.Rules.{rules}
 use Rattle.converter.proofs.put_line.Goals as goal
 
 pub returns : goal.returns

@@ -1,10 +1,7 @@
-use Prim.Native.Nat.{◌-◌}
 use mathlib.Core.Path.{sym, ◌∙◌}
 use native.Mathlib.Omega.{arith}
-use lib.ListN.{length}
 use Rattle.converter.proofs.Passes.{line-found, line-none, bytes_fit, number-fit}
-use Rattle.converter.proofs.Writes.{Put, put-none, put-long, put-bad, put-end, put-length, put-more, digits-room}
-use borrow.Author.Rules.{rules}
+use Rattle.converter.proofs.Writes.{put-none, put-long, put-bad, put-end, put-length, put-more, digits-room}
 use Rattle.converter.proofs.put_lines.Goals as goal
 
 pub loop-at-init : goal.loop-at-init

@@ -1,6 +1,5 @@
 use native.Mathlib.Omega.{arith}
-use Rattle.converter.proofs.Writes.{Padding, padding-none, unit-some, padding-more, padding-length, padding-end}
-use borrow.Author.Rules.{rules}
+use Rattle.converter.proofs.Writes.{padding-none, unit-some, padding-more, padding-length, padding-end}
 use Rattle.converter.proofs.put_padded.Goals as goal
 
 pub loop-k-init : goal.loop-k-init

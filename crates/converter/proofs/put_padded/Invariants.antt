@@ -1,6 +1,4 @@
-use native.Mathlib.Omega.{arith}
-use Rattle.converter.proofs.Writes.{Padding, padding-none, unit-some, padding-more, padding-length, padding-end}
-use borrow.Author.Rules.{rules}
+use Rattle.converter.proofs.Writes.{Padding}
 use Rattle.converter.proofs.put_padded.Given as goal
 
 abbrev pub invariant-loop-k : goal.invariant-loop-k

@@ -1,6 +1,5 @@
 use native.Mathlib.Omega.{arith}
 use Rattle.converter.proofs.Writes.{spell-h, spell-four, spell-seven, written-text}
-use borrow.Author.Rules.{rules}
 use Rattle.converter.proofs.put_serial.Goals as goal
 
 pub returns-then-wanted-eq72 : goal.returns-then-wanted-eq72

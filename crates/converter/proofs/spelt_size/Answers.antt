@@ -1,6 +1,5 @@
 use native.Mathlib.Omega.{arith}
 use Rattle.converter.proofs.Passes.{size-h, size-four, size-seven}
-use borrow.Author.Rules.{rules}
 use Rattle.converter.proofs.spelt_size.Goals as goal
 
 pub returns-then-wanted-eq72 : goal.returns-then-wanted-eq72

@@ -1,9 +1,6 @@
-use Prim.Native.Nat.{◌-◌}
 use mathlib.Core.Path.{sym, ◌∙◌}
 use native.Mathlib.Omega.{arith}
-use lib.ListN.{length}
-use Rattle.converter.proofs.Passes.{Tested, tested-none, tested-long, tested-bad, tested-end, tested-same, tested-more, line-found, line-none, bytes_fit, digits-fit}
-use borrow.Author.Rules.{rules}
+use Rattle.converter.proofs.Passes.{tested-none, tested-long, tested-bad, tested-end, tested-same, tested-more, line-found, line-none, bytes_fit, digits-fit}
 use Rattle.converter.proofs.test_lines.Goals as goal
 
 pub loop-at-init : goal.loop-at-init

@@ -1,5 +1,4 @@
 use Prim.Native.Nat.{◌≤◌, ◌-◌, ◌*◌}
-use borrow.Author.Rules.{rules}
 use Rattle.cuts_main.proofs.second_cuts.Given as goal
 
 abbrev pub invariant-loop-j : goal.invariant-loop-j

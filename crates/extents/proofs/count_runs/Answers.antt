@@ -1,11 +1,8 @@
-use Prim.Native.Nat.{◌+◌, ◌≤◌}
-use mathlib.Core.Path.{◌≡◌, ap}
+use mathlib.Core.Path.{ap}
 use native.Mathlib.Omega.{arith}
 use lib.ListN.{length}
 use Rattle.transaction.specs.Places.{view_in}
-use Rattle.extents.specs.Stretches.{Fits, rest_runs}
 use Rattle.extents.proofs.Laws.{BegunIn, begin-in, on-run, on-stop, run-less, run-counted}
-use borrow.Author.Rules.{rules}
 use Rattle.extents.proofs.count_runs.Goals as goal
 
 -- all runs of the stretch are left where the loop begins

@@ -1,11 +1,8 @@
 use Prim.Native.Nat.{◌+◌, ◌≤◌}
-use mathlib.Core.Path.{◌≡◌, ap}
-use native.Mathlib.Omega.{arith}
+use mathlib.Core.Path.{◌≡◌}
 use lib.ListN.{length}
 use Rattle.transaction.specs.Places.{view_in}
 use Rattle.extents.specs.Stretches.{Fits, rest_runs}
-use Rattle.extents.proofs.Laws.{BegunIn, begin-in, on-run, on-stop, run-less, run-counted}
-use borrow.Author.Rules.{rules}
 use Rattle.extents.proofs.count_runs.Given as goal
 
 abbrev pub invariant-loop-then : goal.invariant-loop-then

@@ -1,6 +1,5 @@
 use native.Mathlib.Omega.{arith}
 use Rattle.extents.proofs.Laws.{held_in, held-past, held_none}
-use borrow.Author.Rules.{rules}
 use Rattle.extents.proofs.extent_at.Goals as goal
 
 pub returns-then-place-ge-MAX_FILE_BLOCKS : goal.returns-then-place-ge-MAX_FILE_BLOCKS

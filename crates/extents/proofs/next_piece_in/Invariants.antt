@@ -1,11 +1,9 @@
 use Prim.Native.Nat.{ℕ}
-use mathlib.Core.Path.{◌≡◌, refl, sym, ap, ◌∙◌}
-use native.Mathlib.Omega.{arith}
-use borrow.Author.Rules.{rules}
+use mathlib.Core.Path.{◌≡◌}
 use Rattle.spec.specs.Bytes.{exactly}
 use Rattle.transaction.specs.Places.{view_in}
 use Rattle.inode.specs.Walk.{weight}
-use Rattle.extents.proofs.Laws.{Walked, walked-piece, walked-passed, walked-node, on-slot-piece, on-slot-passed, on-slot-unused, on-node-next, on-node-none, no_room, goes_further}
+use Rattle.extents.proofs.Laws.{Walked}
 use Rattle.extents.proofs.next_piece_in.Given as goal
 
 abbrev pub invariant-loop-at : goal.invariant-loop-at

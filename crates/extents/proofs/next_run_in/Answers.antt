@@ -1,10 +1,6 @@
 use mathlib.Core.Path.{refl}
 use native.Mathlib.Omega.{arith}
-use lib.ListN.{length}
-use Rattle.transaction.specs.Places.{view_in}
-use Rattle.extents.specs.Stretches.{pending}
-use Rattle.extents.proofs.Laws.{on-piece, on-last, Grown, piece-less, grow_first, grow-join, grow-apart, grow-none, grow_last}
-use borrow.Author.Rules.{rules}
+use Rattle.extents.proofs.Laws.{on-piece, on-last, piece-less, grow_first, grow-join, grow-apart, grow-none, grow_last}
 use Rattle.extents.proofs.next_run_in.Goals as goal
 
 pub loop-e-init : goal.loop-e-init

@@ -1,10 +1,7 @@
-use mathlib.Core.Path.{refl}
-use native.Mathlib.Omega.{arith}
 use lib.ListN.{length}
 use Rattle.transaction.specs.Places.{view_in}
 use Rattle.extents.specs.Stretches.{pending}
-use Rattle.extents.proofs.Laws.{on-piece, on-last, Grown, piece-less, grow_first, grow-join, grow-apart, grow-none, grow_last}
-use borrow.Author.Rules.{rules}
+use Rattle.extents.proofs.Laws.{Grown}
 use Rattle.extents.proofs.next_run_in.Given as goal
 
 abbrev pub invariant-loop-e : goal.invariant-loop-e

@@ -1,11 +1,10 @@
 use mathlib.Core.Path.{◌≡◌, refl, ap, ◌∙◌}
 use mathlib.Core.List.{List}
-use lib.ListN.{length, get_elem?}
+use lib.ListN.{get_elem?}
 use Rattle.spec.specs.declared.Extent.{Extent}
 use Rattle.transaction.specs.Places.{view_in}
-use Rattle.extents.specs.Stretches.{Fits, runs_in, rest_runs, run_of}
+use Rattle.extents.specs.Stretches.{runs_in, rest_runs, run_of}
 use Rattle.extents.proofs.Laws.{BegunIn, begin-in, on-run, on-stop, run-less, run-hit, run-miss, run_none}
-use borrow.Author.Rules.{rules}
 use Rattle.extents.proofs.nth_extent.Goals as goal
 
 -- all runs of the stretch are left where the loop begins

@@ -1,11 +1,7 @@
-use mathlib.Core.Path.{◌≡◌, refl, ap, ◌∙◌}
-use mathlib.Core.List.{List}
+use mathlib.Core.Path.{◌≡◌}
 use lib.ListN.{length, get_elem?}
-use Rattle.spec.specs.declared.Extent.{Extent}
 use Rattle.transaction.specs.Places.{view_in}
-use Rattle.extents.specs.Stretches.{Fits, runs_in, rest_runs, run_of}
-use Rattle.extents.proofs.Laws.{BegunIn, begin-in, on-run, on-stop, run-less, run-hit, run-miss, run_none}
-use borrow.Author.Rules.{rules}
+use Rattle.extents.specs.Stretches.{Fits, rest_runs}
 use Rattle.extents.proofs.nth_extent.Given as goal
 
 abbrev pub invariant-loop-e : goal.invariant-loop-e

@@ -1,13 +1,6 @@
-use Prim.Native.Nat.{ℕ, ◌≤◌}
-use mathlib.Core.Path.{◌≡◌}
 use native.Mathlib.Omega.{arith}
-use borrow.Author.Rules.{rules}
-use borrow.Author.Tests.{not-false}
-use lib.ListN.{length}
 use Rattle.spec.specs.Bytes.{exactly}
-use Rattle.spec.specs.Disk.{Disk}
 use Rattle.inode.proofs.Walk.{live-left, live_inside}
-use Rattle.extents.specs.Stretches.{Passes, moved}
 use Rattle.extents.proofs.Laws.{pass-none, pass-more, pass-end}
 use Rattle.extents.proofs.pass_slots.Goals as goal
 

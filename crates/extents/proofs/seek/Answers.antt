@@ -1,9 +1,5 @@
-use mathlib.Core.Path.{◌≡◌, refl}
-use Rattle.spec.specs.Transaction.{view, state_of}
-use Rattle.inode.specs.Walk.{rest, weight}
 use Rattle.inode.proofs.Walk.{on-leaf, on-node, on-end}
-use Rattle.extents.proofs.Laws.{blocks_from, seek_hit, seek-past, seek-node, seek-end}
-use borrow.Author.Rules.{rules}
+use Rattle.extents.proofs.Laws.{seek_hit, seek-past, seek-node, seek-end}
 use Rattle.extents.proofs.seek.Goals as goal
 
 pub returns-then-left-count : goal.returns-then-left-count

@@ -1,9 +1,7 @@
-use mathlib.Core.Path.{◌≡◌, refl}
+use mathlib.Core.Path.{◌≡◌}
 use Rattle.spec.specs.Transaction.{view, state_of}
 use Rattle.inode.specs.Walk.{rest, weight}
-use Rattle.inode.proofs.Walk.{on-leaf, on-node, on-end}
-use Rattle.extents.proofs.Laws.{blocks_from, seek_hit, seek-past, seek-node, seek-end}
-use borrow.Author.Rules.{rules}
+use Rattle.extents.proofs.Laws.{blocks_from}
 use Rattle.extents.proofs.seek.Given as goal
 
 abbrev pub invariant-loop-e : goal.invariant-loop-e

@@ -1,6 +1,5 @@
 use mathlib.Core.Path.{refl}
 use Rattle.extents.proofs.Laws.{stretch-start}
-use borrow.Author.Rules.{rules}
 use Rattle.extents.proofs.stretch_at.Goals as goal
 
 pub returns : goal.returns

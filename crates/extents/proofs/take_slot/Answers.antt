@@ -1,9 +1,7 @@
-use borrow.Author.Tests.{not-true, not-false}
 use mathlib.Core.Path.{refl}
 use native.Mathlib.Omega.{arith}
 use Rattle.inode.proofs.Walk.{live-left, live_inside}
 use Rattle.extents.proofs.Laws.{slot-piece, slot-passed, slot-unused}
-use borrow.Author.Rules.{rules}
 use Rattle.extents.proofs.take_slot.Goals as goal
 
 pub returns-then-not-is_live : goal.returns-then-not-is_live

@@ -1,11 +1,11 @@
-use Prim.Native.Nat.{ℕ, ◌+◌, ◌*◌, ◌-◌, ◌%◌, ◌<◌, ◌≤◌}
+use Prim.Native.Nat.{◌+◌, ◌-◌, ◌%◌, ◌<◌, ◌≤◌}
 use mathlib.Core.Path.{◌≡◌, refl, sym, ◌∙◌}
 use native.Mathlib.Omega.{arith}
 use lib.ListN.{length, take, drop, length-take, length-drop}
 use Rattle.transaction.specs.Places.{view_in}
 use Rattle.transaction.proofs.Laws.{view-in-length}
 use Rattle.file.specs.Bytes.{run_bytes}
-use Rattle.file.proofs.Laws.{landed, landed_none, landed-step, landed-all, part_of, stretch-length, run-next}
+use Rattle.file.proofs.Laws.{landed_none, landed-step, landed-all, part_of, stretch-length, run-next}
 use borrow.Author.Rules.{rules}
 use Rattle.file.proofs.copy_blocks.Goals as goal
 

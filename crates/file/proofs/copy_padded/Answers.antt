@@ -1,12 +1,9 @@
-use Prim.Native.Nat.{◌+◌}
-use Prim.Native.Nat.{◌≤◌, ◌-◌}
-use mathlib.Core.Path.{◌≡◌, ◌∙◌}
+use mathlib.Core.Path.{◌∙◌}
 use native.Mathlib.Omega.{arith}
 use lib.ListN.{length, take, drop, length-set}
 use Rattle.spec.specs.Bytes.{exactly}
 use Rattle.block.proofs.Steps.{placed-more, placed-all}
 use Rattle.file.proofs.Laws.{part_length, part-byte}
-use borrow.Author.Rules.{rules}
 use Rattle.file.proofs.copy_padded.Goals as goal
 
 pub overflow_cast-to : goal.overflow_cast-to

@@ -2,7 +2,6 @@ use mathlib.Core.Path.{◌∙◌}
 use native.Mathlib.Omega.{arith}
 use lib.ListN.{length}
 use Rattle.file.proofs.Laws.{part-whole}
-use borrow.Author.Rules.{rules}
 use Rattle.file.proofs.copy_part.Goals as goal
 
 pub returns-then-end-block : goal.returns-then-end-block

@@ -5,7 +5,6 @@ use lib.Dec.{eqb, leb}
 use lib.ListN.{length}
 use Rattle.lists.specs.Tests.{both_true}
 use Rattle.file.proofs.Laws.{run-direct}
-use borrow.Author.Rules.{rules}
 use Rattle.file.proofs.copy_run.Goals as goal
 
 pub slice_bounds-copy-end : goal.slice_bounds-copy-end

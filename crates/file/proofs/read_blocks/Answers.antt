@@ -1,16 +1,13 @@
 use Prim.Native.Nat.{ℕ, ◌+◌, ◌-◌, ◌≤◌}
 use mathlib.Core.Path.{◌≡◌, refl, sym, ap, ◌∙◌}
 use native.Mathlib.Omega.{arith}
-use borrow.Author.Rules.{rules}
 use lib.ListN.{length, take, drop, length-take, length-drop}
-use Rattle.spec.specs.Bytes.{exactly}
 use Rattle.spec.specs.Inode.{block_of_inode}
 use Rattle.transaction.specs.Places.{view_in}
 use Rattle.transaction.proofs.Laws.{view-in-length}
-use Rattle.inode.specs.Walk.{weight}
 use Rattle.extents.proofs.Laws.{on-slot-piece, on-slot-passed, on-slot-unused, on-node-next, on-node-none, no_room, goes_further}
-use Rattle.file.specs.Bytes.{run_bytes, block_bytes}
-use Rattle.file.proofs.Reading.{Under, under-start, under_next, under-on, under-end, under-full}
+use Rattle.file.specs.Bytes.{run_bytes}
+use Rattle.file.proofs.Reading.{under-start, under_next, under-on, under-end, under-full}
 use Rattle.file.proofs.read_blocks.Goals as goal
 
 pub loop-done-init : goal.loop-done-init

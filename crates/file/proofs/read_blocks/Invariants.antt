@@ -1,16 +1,12 @@
-use Prim.Native.Nat.{ℕ, ◌+◌, ◌-◌, ◌≤◌}
-use mathlib.Core.Path.{◌≡◌, refl, sym, ap, ◌∙◌}
-use native.Mathlib.Omega.{arith}
-use borrow.Author.Rules.{rules}
-use lib.ListN.{length, take, drop, length-take, length-drop}
+use Prim.Native.Nat.{◌≤◌}
+use mathlib.Core.Path.{◌≡◌}
+use lib.ListN.{length, take, drop}
 use Rattle.spec.specs.Bytes.{exactly}
 use Rattle.spec.specs.Inode.{block_of_inode}
 use Rattle.transaction.specs.Places.{view_in}
-use Rattle.transaction.proofs.Laws.{view-in-length}
 use Rattle.inode.specs.Walk.{weight}
-use Rattle.extents.proofs.Laws.{on-slot-piece, on-slot-passed, on-slot-unused, on-node-next, on-node-none, no_room, goes_further}
-use Rattle.file.specs.Bytes.{run_bytes, block_bytes}
-use Rattle.file.proofs.Reading.{Under, under-start, under_next, under-on, under-end, under-full}
+use Rattle.file.specs.Bytes.{block_bytes}
+use Rattle.file.proofs.Reading.{Under}
 use Rattle.file.proofs.read_blocks.Given as goal
 
 abbrev pub invariant-loop-done : goal.invariant-loop-done

@@ -7,7 +7,6 @@ use Rattle.transaction.specs.Places.{view_in}
 use Rattle.inode.proofs.Laws.{inode-at}
 use Rattle.file.specs.Bytes.{block_bytes}
 use Rattle.file.proofs.Reading.{past-size, within-size, front-filled}
-use borrow.Author.Rules.{rules}
 use Rattle.file.proofs.read_file.Goals as goal
 
 pub returns-then-size-from : goal.returns-then-size-from

@@ -1,6 +1,5 @@
 use native.Mathlib.Omega.{arith}
 use Rattle.filecheck.proofs.Shape.{clear_within, clear-past, clear-rest}
-use borrow.Author.Rules.{rules}
 use Rattle.filecheck.proofs.clear_in.Goals as goal
 
 pub returns-then-end-block : goal.returns-then-end-block

@@ -1,5 +1,4 @@
 use Rattle.filecheck.proofs.Shape.{deep-marked}
-use borrow.Author.Rules.{rules}
 use Rattle.filecheck.proofs.deep_sound.Goals as goal
 
 pub returns : goal.returns

@@ -1,7 +1,5 @@
-use borrow.Author.Tests.{not-true, not-false}
 use Rattle.spec.specs.Disk.{blocks_of}
 use Rattle.filecheck.proofs.Shape.{file-off, file-on, size-at, size_in, depth-flat, depth-deep}
-use borrow.Author.Rules.{rules}
 use Rattle.filecheck.proofs.file_sound.Goals as goal
 
 pub limits_hold-requires : goal.limits_hold-requires

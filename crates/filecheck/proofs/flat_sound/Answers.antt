@@ -3,7 +3,6 @@ use native.Mathlib.Omega.{arith}
 use Rattle.tree.specs.declared.Run.{Run}
 use Rattle.tree.proofs.Runs.{over-many}
 use Rattle.filecheck.proofs.Shape.{flat-marked}
-use borrow.Author.Rules.{rules}
 use Rattle.filecheck.proofs.flat_sound.Goals as goal
 
 pub extents_over-r-requires : goal.extents_over-r-requires

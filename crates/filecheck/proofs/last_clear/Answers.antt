@@ -1,5 +1,4 @@
 use Rattle.filecheck.proofs.Shape.{clear_whole, clear-part}
-use borrow.Author.Rules.{rules}
 use Rattle.filecheck.proofs.last_clear.Goals as goal
 
 pub returns-then-over-eq0 : goal.returns-then-over-eq0

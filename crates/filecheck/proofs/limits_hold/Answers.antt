@@ -1,5 +1,4 @@
 use Rattle.filecheck.proofs.Shape.{limits-by}
-use borrow.Author.Rules.{rules}
 use Rattle.filecheck.proofs.limits_hold.Goals as goal
 
 pub returns : goal.returns

@@ -1,5 +1,4 @@
 use Rattle.filecheck.proofs.Shape.{nodes-few, nodes-many}
-use borrow.Author.Rules.{rules}
 use Rattle.filecheck.proofs.nodes_for.Goals as goal
 
 pub returns-then-extents-le-SLOTS_PER_INODE : goal.returns-then-extents-le-SLOTS_PER_INODE

@@ -1,7 +1,6 @@
 use mathlib.Core.Path.{refl}
 use Rattle.marks.proofs.Laws.{disk-fault}
 use Rattle.fsck.proofs.Records.{inode-damaged, block-damaged, nothing-damaged}
-use borrow.Author.Rules.{rules}
 use Rattle.fsck.proofs.find_damage.Goals as goal
 
 pub returns-in-At : goal.returns-in-At

@@ -1,18 +1,10 @@
-use Prim.Native.Nat.{◌-◌, ◌%◌, ◌≤◌}
-use mathlib.Core.Path.{◌≡◌, refl, sym, ◌∙◌}
+use mathlib.Core.Path.{refl, sym, ◌∙◌}
 use native.Mathlib.Omega.{arith}
-use Rattle.spec.specs.Disk.{blocks_of}
-use Rattle.spec.specs.Inode.{reached}
 use Rattle.block.proofs.Laws.{block-length}
-use Rattle.inode.specs.Records.{lowest_to}
 use Rattle.inode.proofs.Laws.{lowest-in, lowest-past, lowest-none}
-use Rattle.marks.specs.Marks.{Kept, reach_to}
 use Rattle.marks.proofs.Laws.{kept-start, kept_on, kept-end, reach-start, reach-on, reach-end}
-use Rattle.fsck.specs.Damage.{unsound}
-use Rattle.fsck.specs.Names.{Names, Seen}
 use Rattle.fsck.proofs.Names.{names-start, seen_start}
 use Rattle.fsck.proofs.Records.{fault-all, found_some}
-use borrow.Author.Rules.{rules}
 use Rattle.fsck.proofs.inode_fault.Goals as goal
 
 pub loop-first-init : goal.loop-first-init

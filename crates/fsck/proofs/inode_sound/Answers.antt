@@ -5,7 +5,6 @@ use Rattle.spec.specs.Disk.{blocks_of}
 use Rattle.block.proofs.Laws.{block-length}
 use Rattle.fsck.proofs.Names.{empty-by, first_off, first_on}
 use Rattle.fsck.proofs.Records.{rest-zero, inode-empty, inode-off, inode-on}
-use borrow.Author.Rules.{rules}
 use Rattle.fsck.proofs.inode_sound.Goals as goal
 
 pub returns-then-numbers-i-eq0 : goal.returns-then-numbers-i-eq0

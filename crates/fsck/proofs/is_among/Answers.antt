@@ -1,9 +1,6 @@
-use Prim.Native.Nat.{◌-◌, ◌≤◌}
-use mathlib.Core.Path.{◌≡◌, refl}
+use mathlib.Core.Path.{refl}
 use native.Mathlib.Omega.{arith}
-use Rattle.fsck.specs.Names.{seen_to}
 use Rattle.fsck.proofs.Names.{seen_first, seen_more, seen_end}
-use borrow.Author.Rules.{rules}
 use Rattle.fsck.proofs.is_among.Goals as goal
 
 pub loop-j-init : goal.loop-j-init

@@ -1,9 +1,6 @@
 use Prim.Native.Nat.{◌-◌, ◌≤◌}
-use mathlib.Core.Path.{◌≡◌, refl}
-use native.Mathlib.Omega.{arith}
+use mathlib.Core.Path.{◌≡◌}
 use Rattle.fsck.specs.Names.{seen_to}
-use Rattle.fsck.proofs.Names.{seen_first, seen_more, seen_end}
-use borrow.Author.Rules.{rules}
 use Rattle.fsck.proofs.is_among.Given as goal
 
 abbrev pub invariant-loop-j : goal.invariant-loop-j

@@ -1,5 +1,4 @@
 use Rattle.fsck.proofs.Names.{seen-new}
-use borrow.Author.Rules.{rules}
 use Rattle.fsck.proofs.is_repeated.Goals as goal
 
 pub returns-then-seen-place-eq0 : goal.returns-then-seen-place-eq0

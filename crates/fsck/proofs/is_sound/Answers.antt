@@ -1,5 +1,4 @@
 use Rattle.fsck.proofs.Records.{inode-unsound, block-unsound, all_sound}
-use borrow.Author.Rules.{rules}
 use Rattle.fsck.proofs.is_sound.Goals as goal
 
 pub returns-in-Inode : goal.returns-in-Inode

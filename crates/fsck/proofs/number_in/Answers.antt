@@ -2,7 +2,6 @@ use lib.ListN.{get_or}
 use mir.Syntax.{w8}
 use mir.Val.{Fits}
 use Rattle.fsck.proofs.Names.{word_at, word_bytes}
-use borrow.Author.Rules.{rules}
 use Rattle.fsck.proofs.number_in.Goals as goal
 
 pub returns : goal.returns

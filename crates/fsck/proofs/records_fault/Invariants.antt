@@ -1,19 +1,10 @@
 use Prim.Native.Nat.{◌+◌, ◌-◌, ◌≤◌}
-use mathlib.Core.Path.{◌≡◌, refl, sym, ap, ◌∙◌}
-use native.Mathlib.Omega.{arith}
-use borrow.Author.Tests.{not-false}
-use lib.Seq.{get_or-set_same}
+use mathlib.Core.Path.{◌≡◌}
 use Rattle.spec.specs.Disk.{blocks_of}
-use Rattle.block.proofs.Laws.{block-length}
 use Rattle.inode.specs.Records.{lowest_to}
-use Rattle.inode.proofs.Laws.{lowest-hit, lowest-miss, lowest-none}
 use Rattle.marks.specs.Marks.{Kept, reach_to}
-use Rattle.marks.proofs.Laws.{kept-start, kept_on, reach-more}
 use Rattle.fsck.specs.Damage.{unsound}
 use Rattle.fsck.specs.Names.{Names, Seen}
-use Rattle.fsck.proofs.Names.{names_more, seen-set, seen-add}
-use Rattle.fsck.proofs.Records.{unsound-by, found_some, zero-fault, zero-passed, table-holds, passed-end}
-use borrow.Author.Rules.{rules}
 use Rattle.fsck.proofs.records_fault.Given as goal
 
 abbrev pub invariant-loop-i : goal.invariant-loop-i

@@ -1,12 +1,6 @@
-use Prim.Native.Nat.{◌-◌, ◌≤◌}
-use mathlib.Core.Path.{◌≡◌, refl}
-use mathlib.Core.Bool.{◌&&◌}
+use mathlib.Core.Path.{refl}
 use native.Mathlib.Omega.{arith}
-use lib.ListN.{length, drop}
-use Rattle.spec.specs.Bytes.{all}
-use Rattle.spec.specs.Disk.{is_target}
 use Rattle.header.proofs.Loops.{inside-more, inside-end}
-use borrow.Author.Rules.{rules}
 use Rattle.header.proofs.are_inside.Goals as goal
 
 pub loop-i-init : goal.loop-i-init

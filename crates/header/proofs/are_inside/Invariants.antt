@@ -1,12 +1,9 @@
 use Prim.Native.Nat.{◌-◌, ◌≤◌}
-use mathlib.Core.Path.{◌≡◌, refl}
+use mathlib.Core.Path.{◌≡◌}
 use mathlib.Core.Bool.{◌&&◌}
-use native.Mathlib.Omega.{arith}
 use lib.ListN.{length, drop}
 use Rattle.spec.specs.Bytes.{all}
 use Rattle.spec.specs.Disk.{is_target}
-use Rattle.header.proofs.Loops.{inside-more, inside-end}
-use borrow.Author.Rules.{rules}
 use Rattle.header.proofs.are_inside.Given as goal
 
 abbrev pub invariant-loop-i : goal.invariant-loop-i

@@ -1,6 +1,5 @@
 use mathlib.Core.Path.{sym, ◌∙◌}
 use Rattle.header.proofs.Ends.{can-list-other}
-use borrow.Author.Rules.{rules}
 use Rattle.header.proofs.can_list.Goals as goal
 
 pub can_list_up-requires : goal.can_list_up-requires

@@ -1,5 +1,4 @@
 use Rattle.header.proofs.Ends.{can-list-none, can-list-up}
-use borrow.Author.Rules.{rules}
 use Rattle.header.proofs.can_list_up.Goals as goal
 
 pub returns-then-n-eq0 : goal.returns-then-n-eq0

@@ -1,8 +1,6 @@
-use Prim.Native.Nat.{◌-◌, ◌≤◌}
-use mathlib.Core.Path.{◌≡◌, refl, sym, ◌∙◌}
+use mathlib.Core.Path.{refl, sym, ◌∙◌}
 use native.Mathlib.Omega.{arith}
-use Rattle.header.proofs.Loops.{fault_from, fault-start, fault-hit, fault-miss, fault-end, fault-zero}
-use borrow.Author.Rules.{rules}
+use Rattle.header.proofs.Loops.{fault-start, fault-hit, fault-miss, fault-end, fault-zero}
 use Rattle.header.proofs.header_fault.Goals as goal
 
 pub returns-then-is_zero : goal.returns-then-is_zero

@@ -1,8 +1,6 @@
 use Prim.Native.Nat.{◌-◌, ◌≤◌}
-use mathlib.Core.Path.{◌≡◌, refl, sym, ◌∙◌}
-use native.Mathlib.Omega.{arith}
-use Rattle.header.proofs.Loops.{fault_from, fault-start, fault-hit, fault-miss, fault-end, fault-zero}
-use borrow.Author.Rules.{rules}
+use mathlib.Core.Path.{◌≡◌}
+use Rattle.header.proofs.Loops.{fault_from}
 use Rattle.header.proofs.header_fault.Given as goal
 
 abbrev pub invariant-loop-i : goal.invariant-loop-i

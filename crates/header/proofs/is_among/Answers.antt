@@ -1,11 +1,6 @@
-use Prim.Native.Nat.{◌-◌, ◌≤◌}
-use mathlib.Core.Path.{◌≡◌, refl}
-use mathlib.Core.Bool.{◌||◌}
+use mathlib.Core.Path.{refl}
 use native.Mathlib.Omega.{arith}
-use lib.ListN.{length, drop}
-use Rattle.spec.specs.Bytes.{member}
 use Rattle.header.proofs.Loops.{among-more, among-end}
-use borrow.Author.Rules.{rules}
 use Rattle.header.proofs.is_among.Goals as goal
 
 pub loop-i-init : goal.loop-i-init

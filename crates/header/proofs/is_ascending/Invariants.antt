@@ -1,11 +1,9 @@
 use Prim.Native.Nat.{◌-◌, ◌≤◌}
 use mathlib.Core.Path.{◌≡◌}
 use mathlib.Core.Bool.{◌&&◌}
-use native.Mathlib.Omega.{arith}
 use lib.ListN.{length}
 use Rattle.header.specs.Header.{ascends}
-use Rattle.header.proofs.Loops.{ascends_from, ascends-start, ascends-more, ascends-end}
-use borrow.Author.Rules.{rules}
+use Rattle.header.proofs.Loops.{ascends_from}
 use Rattle.header.proofs.is_ascending.Given as goal
 
 abbrev pub invariant-loop-i : goal.invariant-loop-i

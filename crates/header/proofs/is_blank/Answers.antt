@@ -1,8 +1,6 @@
-use Prim.Native.Nat.{◌+◌, ◌*◌, ◌-◌, ◌≤◌}
-use mathlib.Core.Path.{◌≡◌, refl, sym, ◌∙◌}
+use mathlib.Core.Path.{refl, sym, ◌∙◌}
 use native.Mathlib.Omega.{arith}
-use Rattle.header.proofs.Loops.{blank_from, blank-start, blank-fail, blank-pass, blank-end}
-use borrow.Author.Rules.{rules}
+use Rattle.header.proofs.Loops.{blank-start, blank-fail, blank-pass, blank-end}
 use Rattle.header.proofs.is_blank.Goals as goal
 
 pub loop-k-init : goal.loop-k-init

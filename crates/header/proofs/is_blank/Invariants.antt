@@ -1,8 +1,6 @@
 use Prim.Native.Nat.{◌+◌, ◌*◌, ◌-◌, ◌≤◌}
-use mathlib.Core.Path.{◌≡◌, refl, sym, ◌∙◌}
-use native.Mathlib.Omega.{arith}
-use Rattle.header.proofs.Loops.{blank_from, blank-start, blank-fail, blank-pass, blank-end}
-use borrow.Author.Rules.{rules}
+use mathlib.Core.Path.{◌≡◌}
+use Rattle.header.proofs.Loops.{blank_from}
 use Rattle.header.proofs.is_blank.Given as goal
 
 abbrev pub invariant-loop-k : goal.invariant-loop-k

@@ -1,10 +1,6 @@
-use Prim.Native.Nat.{◌-◌, ◌≤◌}
-use mathlib.Core.Path.{◌≡◌, refl, sym, ◌∙◌}
+use mathlib.Core.Path.{refl, sym, ◌∙◌}
 use native.Mathlib.Omega.{arith}
-use lib.ListN.{length, drop}
-use Rattle.spec.specs.Bytes.{distinct}
 use Rattle.header.proofs.Loops.{distinct-fail, distinct-pass, distinct-end}
-use borrow.Author.Rules.{rules}
 use Rattle.header.proofs.is_distinct.Goals as goal
 
 pub loop-i-init : goal.loop-i-init

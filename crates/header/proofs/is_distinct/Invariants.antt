@@ -1,10 +1,7 @@
 use Prim.Native.Nat.{◌-◌, ◌≤◌}
-use mathlib.Core.Path.{◌≡◌, refl, sym, ◌∙◌}
-use native.Mathlib.Omega.{arith}
+use mathlib.Core.Path.{◌≡◌}
 use lib.ListN.{length, drop}
 use Rattle.spec.specs.Bytes.{distinct}
-use Rattle.header.proofs.Loops.{distinct-fail, distinct-pass, distinct-end}
-use borrow.Author.Rules.{rules}
 use Rattle.header.proofs.is_distinct.Given as goal
 
 abbrev pub invariant-loop-i : goal.invariant-loop-i

@@ -1,5 +1,4 @@
 use Rattle.header.proofs.Loops.{wrong-by}
-use borrow.Author.Rules.{rules}
 use Rattle.header.proofs.is_record_wrong.Goals as goal
 
 pub returns : goal.returns

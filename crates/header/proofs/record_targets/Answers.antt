@@ -1,9 +1,7 @@
-use Prim.Native.Nat.{◌-◌, ◌≤◌}
-use mathlib.Core.Path.{◌≡◌, refl}
+use mathlib.Core.Path.{refl}
 use native.Mathlib.Omega.{arith}
-use lib.ListN.{length, take, length-set}
+use lib.ListN.{length-set}
 use Rattle.header.proofs.Loops.{records_to, records-more, records-all}
-use borrow.Author.Rules.{rules}
 use Rattle.header.proofs.record_targets.Goals as goal
 
 pub loop-i-init : goal.loop-i-init

@@ -1,9 +1,7 @@
 use Prim.Native.Nat.{◌-◌, ◌≤◌}
-use mathlib.Core.Path.{◌≡◌, refl}
-use native.Mathlib.Omega.{arith}
-use lib.ListN.{length, take, length-set}
-use Rattle.header.proofs.Loops.{records_to, records-more, records-all}
-use borrow.Author.Rules.{rules}
+use mathlib.Core.Path.{◌≡◌}
+use lib.ListN.{length, take}
+use Rattle.header.proofs.Loops.{records_to}
 use Rattle.header.proofs.record_targets.Given as goal
 
 abbrev pub invariant-loop-i : goal.invariant-loop-i

@@ -1,8 +1,6 @@
-use Prim.Native.Nat.{◌-◌, ◌≤◌}
-use mathlib.Core.Path.{◌≡◌, refl, sym, ◌∙◌}
+use mathlib.Core.Path.{refl, sym, ◌∙◌}
 use native.Mathlib.Omega.{arith}
-use lib.ListN.{length}
-use Rattle.header.proofs.Loops.{used_from, used_start, used-stop, used-more, used-end, used-none, holds_by}
+use Rattle.header.proofs.Loops.{used_start, used-stop, used-more, used-end, used-none, holds_by}
 use borrow.Author.Rules.{rules}
 use Rattle.header.proofs.targets_in.Goals as goal
 

@@ -1,9 +1,7 @@
 use Prim.Native.Nat.{◌-◌, ◌≤◌}
-use mathlib.Core.Path.{◌≡◌, refl, sym, ◌∙◌}
-use native.Mathlib.Omega.{arith}
+use mathlib.Core.Path.{◌≡◌}
 use lib.ListN.{length}
-use Rattle.header.proofs.Loops.{used_from, used_start, used-stop, used-more, used-end, used-none, holds_by}
-use borrow.Author.Rules.{rules}
+use Rattle.header.proofs.Loops.{used_from}
 use Rattle.header.proofs.targets_in.Given as goal
 
 abbrev pub invariant-loop-n : goal.invariant-loop-n

@@ -1,5 +1,4 @@
 use Rattle.inode.proofs.Laws.{depth-in}
-use borrow.Author.Rules.{rules}
 use Rattle.inode.proofs.depth_of.Goals as goal
 
 pub returns : goal.returns

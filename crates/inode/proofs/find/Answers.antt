@@ -2,7 +2,6 @@ use mathlib.Core.Path.{ap, ◌∙◌}
 use Rattle.transaction.proofs.Laws.{view-in-length}
 use Rattle.inode.specs.Records.{found_of}
 use Rattle.inode.proofs.Laws.{find-other, find-committed}
-use borrow.Author.Rules.{rules}
 use Rattle.inode.proofs.find.Goals as goal
 
 pub returns-then-name-ne-NAME_SIZE : goal.returns-then-name-ne-NAME_SIZE

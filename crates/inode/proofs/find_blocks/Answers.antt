@@ -1,12 +1,7 @@
-use Prim.Native.Nat.{ℕ, ◌-◌, ◌%◌, ◌≤◌}
-use mathlib.Core.Path.{◌≡◌, refl, sym, ◌∙◌}
-use mathlib.Core.List.{List}
+use mathlib.Core.Path.{refl, sym, ◌∙◌}
 use native.Mathlib.Omega.{arith}
-use Rattle.block.specs.Keys.{key_of, Name}
 use Rattle.transaction.specs.Places.{view_in}
-use Rattle.inode.specs.Records.{lowest_to}
-use Rattle.inode.proofs.Laws.{named_at, find-all, find-hit, find-miss, lowest-none}
-use borrow.Author.Rules.{rules}
+use Rattle.inode.proofs.Laws.{find-all, find-hit, find-miss, lowest-none}
 use Rattle.inode.proofs.find_blocks.Goals as goal
 
 pub loop-first-init : goal.loop-first-init

@@ -1,12 +1,10 @@
 use Prim.Native.Nat.{ℕ, ◌-◌, ◌%◌, ◌≤◌}
-use mathlib.Core.Path.{◌≡◌, refl, sym, ◌∙◌}
+use mathlib.Core.Path.{◌≡◌}
 use mathlib.Core.List.{List}
-use native.Mathlib.Omega.{arith}
 use Rattle.block.specs.Keys.{key_of, Name}
 use Rattle.transaction.specs.Places.{view_in}
 use Rattle.inode.specs.Records.{lowest_to}
-use Rattle.inode.proofs.Laws.{named_at, find-all, find-hit, find-miss, lowest-none}
-use borrow.Author.Rules.{rules}
+use Rattle.inode.proofs.Laws.{named_at}
 use Rattle.inode.proofs.find_blocks.Given as goal
 
 abbrev pub invariant-loop-first : goal.invariant-loop-first

@@ -1,7 +1,6 @@
 use mathlib.Core.Path.{refl}
 use Rattle.transaction.proofs.Laws.{view-in-length}
 use Rattle.inode.proofs.Laws.{find-zeros}
-use borrow.Author.Rules.{rules}
 use Rattle.inode.proofs.find_empty.Goals as goal
 
 pub returns : goal.returns

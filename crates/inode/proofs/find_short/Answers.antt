@@ -1,11 +1,6 @@
-use Prim.Native.Nat.{ℕ, ◌+◌, ◌-◌, ◌≤◌}
-use mathlib.Core.Path.{◌≡◌, refl, sym, ◌∙◌}
-use mathlib.Core.List.{List}
+use mathlib.Core.Path.{refl, sym, ◌∙◌}
 use native.Mathlib.Omega.{arith}
-use Rattle.block.specs.Keys.{key_of, Name}
-use Rattle.inode.specs.Records.{named, lowest_to}
 use Rattle.inode.proofs.Laws.{lowest-hit, lowest-miss, lowest-none, key-hit, key-miss}
-use borrow.Author.Rules.{rules}
 use Rattle.inode.proofs.find_short.Goals as goal
 
 pub loop-i-init : goal.loop-i-init

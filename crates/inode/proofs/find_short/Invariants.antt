@@ -1,11 +1,8 @@
 use Prim.Native.Nat.{ℕ, ◌+◌, ◌-◌, ◌≤◌}
-use mathlib.Core.Path.{◌≡◌, refl, sym, ◌∙◌}
+use mathlib.Core.Path.{◌≡◌}
 use mathlib.Core.List.{List}
-use native.Mathlib.Omega.{arith}
 use Rattle.block.specs.Keys.{key_of, Name}
 use Rattle.inode.specs.Records.{named, lowest_to}
-use Rattle.inode.proofs.Laws.{lowest-hit, lowest-miss, lowest-none, key-hit, key-miss}
-use borrow.Author.Rules.{rules}
 use Rattle.inode.proofs.find_short.Given as goal
 
 abbrev pub invariant-loop-i : goal.invariant-loop-i

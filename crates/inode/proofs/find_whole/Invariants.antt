@@ -1,13 +1,9 @@
-use Rattle.block.proofs.Keys.{key-as}
 use Prim.Native.Nat.{ℕ, ◌+◌, ◌-◌, ◌≤◌}
 use mathlib.Core.List.{List}
-use mathlib.Core.Path.{◌≡◌, refl, sym, ◌∙◌}
-use native.Mathlib.Omega.{arith}
-use borrow.Author.Rules.{rules}
+use mathlib.Core.Path.{◌≡◌}
 use lib.ListN.{length}
 use Rattle.inode.specs.Records.{named, lowest_to}
 use Rattle.block.specs.Keys.{key_of, Name}
-use Rattle.inode.proofs.Laws.{lowest-hit, lowest-miss, lowest-none, name-part, key-hit, key-miss}
 use Rattle.inode.proofs.find_whole.Given as goal
 
 abbrev pub invariant-loop-i : goal.invariant-loop-i

@@ -1,6 +1,5 @@
 use mathlib.Core.Path.{ap, ◌∙◌}
 use Rattle.spec.specs.Transaction.{view, state_of}
-use borrow.Author.Rules.{rules}
 use Rattle.inode.proofs.inode_block.Goals as goal
 
 pub returns : goal.returns

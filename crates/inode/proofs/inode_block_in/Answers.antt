@@ -1,7 +1,6 @@
 use mathlib.Core.Path.{refl, ap, ◌∙◌}
 use Rattle.transaction.specs.Places.{view_in}
 use Rattle.inode.proofs.Laws.{table-lent}
-use borrow.Author.Rules.{rules}
 use Rattle.inode.proofs.inode_block_in.Goals as goal
 
 pub slice_bounds-result-end : goal.slice_bounds-result-end

@@ -1,5 +1,4 @@
 use Rattle.block.proofs.Keys.{zero-key}
-use borrow.Author.Rules.{rules}
 use Rattle.inode.proofs.is_empty.Goals as goal
 
 pub returns : goal.returns

@@ -1,4 +1,3 @@
-use borrow.Author.Rules.{rules}
 use Rattle.inode.proofs.Laws.{table-by}
 use Rattle.inode.proofs.is_table.Goals as goal
 

@@ -1,12 +1,7 @@
 use mathlib.Core.Bool.{true≢false}
-use Prim.Native.Nat.{ℕ, ◌-◌, ◌<◌, ◌≤◌}
-use mathlib.Core.Path.{◌≡◌, sym, ◌∙◌}
-use lib.ListN.{length}
-use Rattle.spec.specs.Bytes.{place}
-use Rattle.transaction.specs.Places.{found_at}
-use Rattle.transaction.proofs.Laws.{place_in, place-start, place-miss, place_end}
+use mathlib.Core.Path.{sym, ◌∙◌}
+use Rattle.transaction.proofs.Laws.{place-start, place-miss, place_end}
 use Rattle.inode.proofs.Laws.{other_block}
-use borrow.Author.Rules.{rules}
 use Rattle.inode.proofs.is_table_committed.Goals as goal
 
 pub loop-i-init : goal.loop-i-init

@@ -1,12 +1,9 @@
-use mathlib.Core.Bool.{true≢false}
 use Prim.Native.Nat.{ℕ, ◌-◌, ◌<◌, ◌≤◌}
-use mathlib.Core.Path.{◌≡◌, sym, ◌∙◌}
+use mathlib.Core.Path.{◌≡◌}
 use lib.ListN.{length}
 use Rattle.spec.specs.Bytes.{place}
 use Rattle.transaction.specs.Places.{found_at}
-use Rattle.transaction.proofs.Laws.{place_in, place-start, place-miss, place_end}
-use Rattle.inode.proofs.Laws.{other_block}
-use borrow.Author.Rules.{rules}
+use Rattle.transaction.proofs.Laws.{place_in}
 use Rattle.inode.proofs.is_table_committed.Given as goal
 
 abbrev pub invariant-loop-i : goal.invariant-loop-i

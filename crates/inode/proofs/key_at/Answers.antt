@@ -1,7 +1,6 @@
 use native.Mathlib.Omega.{arith}
 use Rattle.block.proofs.Keys.{key-as}
 use Rattle.inode.proofs.Laws.{name-part}
-use borrow.Author.Rules.{rules}
 use Rattle.inode.proofs.key_at.Goals as goal
 
 pub returns-then-end-table : goal.returns-then-end-table

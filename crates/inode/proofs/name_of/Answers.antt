@@ -1,5 +1,4 @@
 use Rattle.inode.proofs.Laws.{name-bytes}
-use borrow.Author.Rules.{rules}
 use Rattle.inode.proofs.name_of.Goals as goal
 
 pub returns-then-p-table : goal.returns-then-p-table

@@ -1,6 +1,5 @@
 use native.Mathlib.Omega.{arith}
 use Rattle.inode.proofs.Walk.{live-left, live_inside, step-leaf, no-leaf, step-node, step_end}
-use borrow.Author.Rules.{rules}
 use Rattle.inode.proofs.next.Goals as goal
 
 pub overflow_add-result : goal.overflow_add-result

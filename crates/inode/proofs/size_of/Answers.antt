@@ -1,5 +1,4 @@
 use Rattle.inode.proofs.Laws.{size_in}
-use borrow.Author.Rules.{rules}
 use Rattle.inode.proofs.size_of.Goals as goal
 
 pub returns : goal.returns

@@ -1,6 +1,5 @@
 use native.Mathlib.Omega.{arith}
 use Rattle.inode.proofs.Walk.{slot-past, slot-part, slot-cut}
-use borrow.Author.Rules.{rules}
 use Rattle.inode.proofs.slot_in.Goals as goal
 
 pub returns-then-block-at : goal.returns-then-block-at

@@ -1,7 +1,6 @@
 use mathlib.Core.Path.{ap₂}
 use native.Mathlib.Omega.{arith}
 use Rattle.spec.specs.Inode.{extent}
-use borrow.Author.Rules.{rules}
 use Rattle.inode.proofs.slot_of.Goals as goal
 
 pub returns : goal.returns

@@ -1,4 +1,3 @@
-use borrow.Author.Rules.{rules}
 use Rattle.inode.proofs.start.Goals as goal
 
 pub returns : goal.returns

@@ -1,5 +1,4 @@
 use Rattle.inode.proofs.Walk.{start-flat, start-deep}
-use borrow.Author.Rules.{rules}
 use Rattle.inode.proofs.start_at.Goals as goal
 
 pub returns-then-depth-eq0 : goal.returns-then-depth-eq0

@@ -1,6 +1,4 @@
 use Rattle.inode.specs.Walk.{weight}
-use Rattle.inode.proofs.Walk.{on-leaf, on-node}
-use borrow.Author.Rules.{rules}
 use Rattle.inode_main.proofs.walk_from.Given as goal
 
 abbrev pub invariant-loop-e : goal.invariant-loop-e

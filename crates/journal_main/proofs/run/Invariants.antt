@@ -1,6 +1,5 @@
 use Prim.Native.Nat.{◌≤◌, ◌-◌}
 use mathlib.Core.Path.{◌≡◌}
-use borrow.Author.Rules.{rules}
 use lib.ListN.{length}
 use Rattle.journal_main.proofs.run.Given as goal
 

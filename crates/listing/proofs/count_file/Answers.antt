@@ -1,7 +1,6 @@
 use Rattle.listing.proofs.Laws.{file-none, file-one}
 use Rattle.spec.specs.Transaction.{view, state_of}
 use mathlib.Core.Path.{sym, ◌∙◌}
-use borrow.Author.Rules.{rules}
 use Rattle.listing.proofs.count_file.Goals as goal
 
 pub returns-then-is_empty : goal.returns-then-is_empty

@@ -1,11 +1,6 @@
-use Rattle.listing.specs.Steps.{used_from}
 use Rattle.listing.proofs.Laws.{count-more, count-end, few-files}
 use Rattle.spec.specs.Transaction.{view, state_of}
 use native.Mathlib.Omega.{arith}
-use lib.ListN.{length}
-use Prim.Native.Nat.{◌+◌, ◌-◌}
-use mathlib.Core.Path.{◌≡◌}
-use borrow.Author.Rules.{rules}
 use Rattle.listing.proofs.count_files.Goals as goal
 
 pub overflow_add-n : goal.overflow_add-n

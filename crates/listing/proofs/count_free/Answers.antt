@@ -2,7 +2,6 @@ use Rattle.spec.specs.Bitmap.{bits_of, free_bits}
 use mathlib.Core.List.{List}
 use mathlib.Core.Path.{ap, ◌∙◌}
 use Prim.Native.Nat.{ℕ}
-use borrow.Author.Rules.{rules}
 use Rattle.listing.proofs.count_free.Goals as goal
 
 pub returns : goal.returns

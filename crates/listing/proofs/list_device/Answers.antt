@@ -1,13 +1,5 @@
 use Rattle.listing.proofs.Laws.{text-refused, text-done}
 use Rattle.text.proofs.Laws.{written_as}
-use borrow.Author.Rules.{rules}
-use Rattle.listing.proofs.list_device.Reads as reads
-use Rattle.listing.proofs.list_device.Lts as lts
-use Rattle.listing.proofs.number_of.Reads as number-of-reads
-use Rattle.listing.proofs.put_opened.Reads as put-opened-reads
-use Rattle.listing.proofs.put_refused.Reads as put-refused-reads
-use Rattle.spec.proofs.Session.never_opened.Reads as never-opened-reads
-use Rattle.store.proofs.open_store.Reads as open-store-reads
 use Rattle.listing.proofs.list_device.Goals as goal
 
 -- src/lib.rt:230:1

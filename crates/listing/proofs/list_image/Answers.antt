@@ -1,9 +1,4 @@
 use Rattle.listing.proofs.Laws.{text-long, short-text, listed}
-use borrow.Author.Rules.{rules}
-use Rattle.listing.proofs.list_image.Reads as reads
-use Rattle.listing.proofs.list_image.Lts as lts
-use Rattle.listing.proofs.list_device.Reads as list-device-reads
-use Rattle.listing.proofs.put_refused.Reads as put-refused-reads
 use Rattle.listing.proofs.list_image.Goals as goal
 
 -- src/lib.rt:250:9

@@ -1,6 +1,5 @@
 use Rattle.listing.proofs.Laws.{span-is}
 use Rattle.text.proofs.Laws.{written_then, written_as}
-use borrow.Author.Rules.{rules}
 use Rattle.listing.proofs.put_extent.Goals as goal
 
 pub returns : goal.returns

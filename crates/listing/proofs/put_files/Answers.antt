@@ -1,7 +1,6 @@
 use Rattle.listing.proofs.Laws.{files-are}
 use Rattle.spec.specs.Transaction.{view, state_of}
 use Rattle.text.proofs.Laws.{written_then, written_as}
-use borrow.Author.Rules.{rules}
 use Rattle.listing.proofs.put_files.Goals as goal
 
 pub returns : goal.returns

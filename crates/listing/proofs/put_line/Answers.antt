@@ -2,7 +2,6 @@ use Rattle.listing.proofs.Laws.{line-none, line-is}
 use Rattle.spec.specs.Transaction.{view, state_of}
 use Rattle.text.proofs.Laws.{written_none, written_then, written_as}
 use mathlib.Core.Path.{sym, ◌∙◌}
-use borrow.Author.Rules.{rules}
 use Rattle.listing.proofs.put_line.Goals as goal
 
 pub returns-then-is_empty : goal.returns-then-is_empty

@@ -1,11 +1,7 @@
-use Rattle.listing.specs.Steps.{lines_text}
 use Rattle.listing.proofs.Laws.{lines_more, lines_end}
-use Rattle.spec.specs.Transaction.{view, state_of}
-use Rattle.text.proofs.Laws.{Left, left-start, left_step, left-length, left_end}
+use Rattle.text.proofs.Laws.{left-start, left_step, left-length, left_end}
 use borrow.Author.Count.{falls}
-use Prim.Native.Nat.{◌-◌}
 use mathlib.Core.Path.{refl}
-use borrow.Author.Rules.{rules}
 use Rattle.listing.proofs.put_lines.Goals as goal
 
 pub loop-i-init : goal.loop-i-init

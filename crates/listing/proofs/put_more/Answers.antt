@@ -1,12 +1,7 @@
-use Rattle.listing.specs.Steps.{more_text}
 use Rattle.listing.proofs.Laws.{more-run, more-end}
-use Rattle.spec.specs.Transaction.{view, state_of}
-use Rattle.extents.specs.Stretches.{Fits, rest_runs}
 use Rattle.extents.proofs.Laws.{on-run, on-stop, run-less}
-use Rattle.text.proofs.Laws.{Left, left-start, left_step, left-length, left_end, written_then}
-use lib.ListN.{length}
+use Rattle.text.proofs.Laws.{left-start, left_step, left-length, left_end, written_then}
 use mathlib.Core.Path.{refl}
-use borrow.Author.Rules.{rules}
 use Rattle.listing.proofs.put_more.Goals as goal
 
 pub loop-e-init : goal.loop-e-init

@@ -1,12 +1,8 @@
 use Rattle.listing.specs.Steps.{more_text}
-use Rattle.listing.proofs.Laws.{more-run, more-end}
 use Rattle.spec.specs.Transaction.{view, state_of}
 use Rattle.extents.specs.Stretches.{Fits, rest_runs}
-use Rattle.extents.proofs.Laws.{on-run, on-stop, run-less}
-use Rattle.text.proofs.Laws.{Left, left-start, left_step, left-length, left_end, written_then}
+use Rattle.text.proofs.Laws.{Left}
 use lib.ListN.{length}
-use mathlib.Core.Path.{refl}
-use borrow.Author.Rules.{rules}
 use Rattle.listing.proofs.put_more.Given as goal
 
 abbrev pub invariant-loop-e : goal.invariant-loop-e

@@ -1,6 +1,5 @@
 use Rattle.listing.proofs.Laws.{opened-closed, opened-ready, opened-committing, opened-recovering}
 use Rattle.text.proofs.Laws.{written_none, written_as}
-use borrow.Author.Rules.{rules}
 use Rattle.listing.proofs.put_opened.Goals as goal
 
 pub returns-in-Closed : goal.returns-in-Closed

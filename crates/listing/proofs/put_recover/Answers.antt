@@ -2,7 +2,6 @@ use Rattle.listing.proofs.Laws.{recover-is}
 use Rattle.spec.specs.Disk.{blocks_of}
 use Rattle.header.proofs.Loops.{recovers}
 use Rattle.text.proofs.Laws.{written_as}
-use borrow.Author.Rules.{rules}
 use Rattle.listing.proofs.put_recover.Goals as goal
 
 pub returns : goal.returns

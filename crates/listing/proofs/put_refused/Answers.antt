@@ -1,6 +1,5 @@
 use Rattle.listing.proofs.Laws.{refused-is}
 use Rattle.text.proofs.Laws.{written_as}
-use borrow.Author.Rules.{rules}
 use Rattle.listing.proofs.put_refused.Goals as goal
 
 pub returns : goal.returns

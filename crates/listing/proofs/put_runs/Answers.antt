@@ -2,7 +2,6 @@ use Rattle.listing.proofs.Laws.{text-run, text-none}
 use Rattle.spec.specs.Transaction.{state_of}
 use Rattle.extents.proofs.Laws.{begin, on-run, on-stop}
 use Rattle.text.proofs.Laws.{written_then, written_as}
-use borrow.Author.Rules.{rules}
 use Rattle.listing.proofs.put_runs.Goals as goal
 
 pub next_run-requires : goal.next_run-requires

@@ -1,6 +1,5 @@
 use Rattle.listing.proofs.Laws.{told_is}
 use Rattle.text.proofs.Laws.{written_then, written_as}
-use borrow.Author.Rules.{rules}
 use Rattle.listing.proofs.put_told.Goals as goal
 
 pub returns : goal.returns

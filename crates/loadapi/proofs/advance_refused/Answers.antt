@@ -1,5 +1,4 @@
 use Rattle.loadapi.proofs.Laws.{left-stored}
-use borrow.Author.Rules.{rules}
 use Rattle.loadapi.proofs.advance_refused.Goals as goal
 
 pub returns-in-Refused : goal.returns-in-Refused

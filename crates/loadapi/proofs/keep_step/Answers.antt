@@ -1,7 +1,6 @@
 use mathlib.Core.Path.{sym, ap, ◌∙◌}
 use Rattle.mirror.specs.Mirror.{numbers_of}
 use Rattle.loadapi.proofs.Laws.{stays, moves}
-use borrow.Author.Rules.{rules}
 use Rattle.loadapi.proofs.keep_step.Goals as goal
 
 pub returns-then-leaves_all : goal.returns-then-leaves_all

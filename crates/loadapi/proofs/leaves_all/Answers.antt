@@ -1,5 +1,4 @@
 use Rattle.loadapi.proofs.Laws.{left-refused, left-line}
-use borrow.Author.Rules.{rules}
 use Rattle.loadapi.proofs.leaves_all.Goals as goal
 
 pub returns-in-Refused : goal.returns-in-Refused

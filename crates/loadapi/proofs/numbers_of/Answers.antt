@@ -1,7 +1,6 @@
 use mathlib.Core.Path.{◌∙◌}
 use Rattle.loader.specs.Load.{loaded_of}
 use Rattle.loadapi.proofs.Laws.{by_answer, plain-told, taken-told, none_told}
-use borrow.Author.Rules.{rules}
 use Rattle.loadapi.proofs.numbers_of.Goals as goal
 
 pub returns-in-Refused : goal.returns-in-Refused

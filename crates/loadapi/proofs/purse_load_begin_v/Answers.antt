@@ -5,7 +5,6 @@ use Rattle.spec.specs.Calls.{Outcome}
 use Rattle.mirror.specs.declared.Head.{Head}
 use Rattle.mirror.specs.Mirror.{decode, finished_of}
 use Rattle.loader.specs.Load.{begin}
-use borrow.Author.Rules.{rules}
 use Rattle.loadapi.proofs.purse_load_begin_v.Goals as goal
 
 pub returns : goal.returns

@@ -5,7 +5,6 @@ use Rattle.mirror.specs.declared.Head.{Head}
 use Rattle.mirror.specs.Mirror.{decode}
 use Rattle.loader.specs.Load.{load_step}
 use Rattle.loadapi.proofs.Laws.{step-leaves}
-use borrow.Author.Rules.{rules}
 use Rattle.loadapi.proofs.purse_load_step_v.Goals as goal
 
 pub returns : goal.returns

@@ -1,6 +1,5 @@
 use mathlib.Core.Path.{◌∙◌}
 use Rattle.loadapi.proofs.Laws.{line-told}
-use borrow.Author.Rules.{rules}
 use Rattle.loadapi.proofs.refused_line.Goals as goal
 
 pub returns : goal.returns

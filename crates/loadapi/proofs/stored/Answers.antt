@@ -2,7 +2,6 @@ use Rattle.spec.specs.declared.Stored.{Stored}
 use Rattle.spec.specs.Answers.{stored_of}
 use Rattle.loader.specs.Load.{answered}
 use Rattle.loadapi.proofs.Laws.{by_answer, stored-told, idle-told}
-use borrow.Author.Rules.{rules}
 use Rattle.loadapi.proofs.stored.Goals as goal
 
 pub returns-in-Refused : goal.returns-in-Refused

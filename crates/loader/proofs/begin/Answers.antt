@@ -1,5 +1,4 @@
 use Rattle.loader.proofs.Laws.{begin-refused, begin-fine, begin-busy}
-use borrow.Author.Rules.{rules}
 use Rattle.loader.proofs.begin.Goals as goal
 
 pub returns-then-n-eq0 : goal.returns-then-n-eq0

@@ -1,11 +1,6 @@
-use mathlib.Core.Path.{sym}
-use lib.ListN.{get_or}
 use Prim.Native.Nat.{◌≤◌, ◌-◌}
-use mathlib.Core.Path.{◌≡◌, refl, ◌∙◌}
-use native.Mathlib.Omega.{arith}
-use lib.ListN.{length, take, length-set}
-use Rattle.promises.specs.Images.{placed-more, placed-all}
-use borrow.Author.Rules.{rules}
+use mathlib.Core.Path.{◌≡◌}
+use lib.ListN.{length, take}
 use Rattle.loader.proofs.copy.Given as goal
 
 abbrev pub invariant-loop-k : goal.invariant-loop-k

@@ -1,5 +1,4 @@
 use Rattle.loader.proofs.Laws.{write-stops, write-goes-on}
-use borrow.Author.Rules.{rules}
 use Rattle.loader.proofs.finish_line.Goals as goal
 
 pub returns-in-Refused : goal.returns-in-Refused

@@ -1,6 +1,5 @@
 use native.Mathlib.Omega.{arith}
 use Rattle.promises.specs.Images.{image-is}
-use borrow.Author.Rules.{rules}
 use Rattle.loader.proofs.first_image.Goals as goal
 
 pub returns : goal.returns

@@ -6,7 +6,6 @@ use Rattle.spec.specs.Transaction.{state_of}
 use Rattle.spec.specs.Calls.{left}
 use Rattle.promises.specs.Restored.{lent-work}
 use Rattle.loader.proofs.Laws.{told-load, may-begin, next-stops, next-goes}
-use borrow.Author.Rules.{rules}
 use Rattle.loader.proofs.next_line.Goals as goal
 
 pub take_line-requires : goal.take_line-requires

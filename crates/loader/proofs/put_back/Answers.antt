@@ -1,6 +1,5 @@
 use native.Mathlib.Omega.{arith}
 use Rattle.promises.specs.Images.{image-stored}
-use borrow.Author.Rules.{rules}
 use Rattle.loader.proofs.put_back.Goals as goal
 
 pub returns : goal.returns

@@ -2,7 +2,6 @@ use Rattle.loader.proofs.Laws.{told-load, step-closed, step-ready, step-recoveri
 use Rattle.loader.specs.Load.{advancing}
 use Rattle.spec.specs.Transaction.{state_of}
 use mathlib.Core.Path.{ap}
-use borrow.Author.Rules.{rules}
 use Rattle.loader.proofs.step.Goals as goal
 
 pub returns-in-Committing : goal.returns-in-Committing

@@ -1,5 +1,4 @@
 use Rattle.loader.proofs.Laws.{line-stops, line-goes-on}
-use borrow.Author.Rules.{rules}
 use Rattle.loader.proofs.store_line.Goals as goal
 
 pub returns-in-Refused : goal.returns-in-Refused

@@ -3,7 +3,6 @@ use Rattle.spec.specs.Transaction.{state_of}
 use Rattle.loader.specs.declared.Loaded.TheVariants.{LineRefused}
 use Rattle.loader.specs.Load.{store_line}
 use Rattle.loader.proofs.Laws.{told-load, take-refused, take-started}
-use borrow.Author.Rules.{rules}
 use Rattle.loader.proofs.take_card.Goals as goal
 
 pub returns-in-Refused : goal.returns-in-Refused

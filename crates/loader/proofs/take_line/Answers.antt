@@ -2,7 +2,6 @@ use mathlib.Core.Path.{ap, ◌∙◌}
 use Rattle.spec.specs.Transaction.{state_of}
 use Rattle.loader.specs.declared.Loaded.TheVariants.{TooLong, Malformed}
 use Rattle.loader.proofs.Laws.{told-load, take_long, take-bad, take_none, take_found}
-use borrow.Author.Rules.{rules}
 use Rattle.loader.proofs.take_line.Goals as goal
 
 pub returns-in-TooLong : goal.returns-in-TooLong

@@ -6,7 +6,6 @@ use Rattle.inode.specs.Records.{found_of}
 use Rattle.inode.proofs.Laws.{find-empty-low}
 use Rattle.transaction.proofs.Laws.{view_of}
 use Rattle.lookup.proofs.Laws.{empty-at, empty-nothing}
-use borrow.Author.Rules.{rules}
 use Rattle.lookup.proofs.empty_inode.Goals as goal
 
 pub returns-in-At : goal.returns-in-At

@@ -7,7 +7,6 @@ use Rattle.transaction.specs.Places.{view_in}
 use Rattle.inode.specs.Records.{found_of}
 use Rattle.inode.proofs.Laws.{find-low}
 use Rattle.lookup.proofs.Laws.{whole, found_of_lem, known_at, known-nothing}
-use borrow.Author.Rules.{rules}
 use Rattle.lookup.proofs.known.Goals as goal
 
 -- what was found, of the slices as they came

@@ -3,7 +3,6 @@ use mathlib.Core.Path.{sym, ap, ◌∙◌}
 use mathlib.Core.Bool.{true}
 use Rattle.checks.specs.Checks.{result_of}
 use Rattle.lookup.proofs.Laws.{look-bad, look-fine}
-use borrow.Author.Rules.{rules}
 use Rattle.lookup.proofs.look_up.Goals as goal
 
 pub known-requires : goal.known-requires

@@ -2,7 +2,6 @@ use mathlib.Core.Path.{sym, ap, ◌∙◌}
 use mathlib.Core.Bool.{true}
 use Rattle.checks.specs.Checks.{result_of}
 use Rattle.lookup.proofs.Laws.{found_of_lem, new-bad, new-taken, new-fine}
-use borrow.Author.Rules.{rules}
 use Rattle.lookup.proofs.look_up_new.Goals as goal
 
 pub returns-in-Bad : goal.returns-in-Bad

@@ -2,7 +2,6 @@ use mathlib.Core.Path.{sym, ap, ◌∙◌}
 use mathlib.Core.Bool.{true}
 use Rattle.checks.specs.Checks.{result_of}
 use Rattle.lookup.proofs.Laws.{rename-bad, rename-fine}
-use borrow.Author.Rules.{rules}
 use Rattle.lookup.proofs.look_up_pair.Goals as goal
 
 pub returns-in-Bad : goal.returns-in-Bad

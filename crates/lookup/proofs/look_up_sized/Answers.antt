@@ -4,7 +4,6 @@ use mathlib.Core.Bool.{true}
 use Rattle.checks.specs.Checks.{result_of}
 use Prim.Native.Nat.{◌+◌}
 use Rattle.lookup.proofs.Laws.{sized-bad, sized-fine}
-use borrow.Author.Rules.{rules}
 use Rattle.lookup.proofs.look_up_sized.Goals as goal
 
 pub known-requires : goal.known-requires

@@ -1,7 +1,6 @@
 use mathlib.Core.Path.{sym, ◌∙◌}
 use Rattle.inode.proofs.Laws.{find-low}
 use Rattle.lookup.proofs.Laws.{found_of_lem, pair-unknown, pair-taken, pair-fine}
-use borrow.Author.Rules.{rules}
 use Rattle.lookup.proofs.renamed.Goals as goal
 
 pub returns-in-Nothing : goal.returns-in-Nothing

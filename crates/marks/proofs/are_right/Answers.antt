@@ -1,9 +1,6 @@
-use Prim.Native.Nat.{◌-◌, ◌≤◌}
-use mathlib.Core.Path.{◌≡◌, refl}
+use mathlib.Core.Path.{refl}
 use native.Mathlib.Omega.{arith}
-use Rattle.marks.specs.Marks.{right_to}
 use Rattle.marks.proofs.Laws.{right-none, right-more, right_end}
-use borrow.Author.Rules.{rules}
 use Rattle.marks.proofs.are_right.Goals as goal
 
 pub loop-k-init : goal.loop-k-init

@@ -1,9 +1,6 @@
 use Prim.Native.Nat.{◌-◌, ◌≤◌}
-use mathlib.Core.Path.{◌≡◌, refl}
-use native.Mathlib.Omega.{arith}
+use mathlib.Core.Path.{◌≡◌}
 use Rattle.marks.specs.Marks.{right_to}
-use Rattle.marks.proofs.Laws.{right-none, right-more, right_end}
-use borrow.Author.Rules.{rules}
 use Rattle.marks.proofs.are_right.Given as goal
 
 abbrev pub invariant-loop-k : goal.invariant-loop-k

@@ -1,5 +1,4 @@
 use Rattle.marks.proofs.Laws.{bit-read}
-use borrow.Author.Rules.{rules}
 use Rattle.marks.proofs.bit_is.Goals as goal
 
 pub returns : goal.returns

@@ -1,6 +1,5 @@
 use mathlib.Core.Path.{refl}
 use Rattle.marks.proofs.Laws.{area-low, area-data}
-use borrow.Author.Rules.{rules}
 use Rattle.marks.proofs.data_from.Goals as goal
 
 pub returns-in-Header : goal.returns-in-Header

@@ -1,5 +1,4 @@
 use Rattle.marks.specs.Marks.{wrong}
-use borrow.Author.Rules.{rules}
 use Rattle.marks.proofs.is_wrong.Goals as goal
 
 pub returns : goal.returns

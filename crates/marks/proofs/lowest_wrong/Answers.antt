@@ -1,11 +1,8 @@
-use Prim.Native.Nat.{◌-◌, ◌≤◌}
-use mathlib.Core.Path.{◌≡◌, refl, sym, ap, ◌∙◌}
+use mathlib.Core.Path.{refl, sym, ap, ◌∙◌}
 use native.Mathlib.Omega.{arith}
-use Rattle.inode.specs.Records.{lowest_to}
 use Rattle.inode.proofs.Laws.{lowest-hit, lowest-miss, lowest-none}
-use Rattle.marks.specs.Marks.{wrong, block_found}
+use Rattle.marks.specs.Marks.{block_found}
 use Rattle.marks.proofs.Laws.{all_right}
-use borrow.Author.Rules.{rules}
 use Rattle.marks.proofs.lowest_wrong.Goals as goal
 
 pub returns-then-are_right : goal.returns-then-are_right

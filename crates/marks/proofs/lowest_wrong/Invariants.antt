@@ -1,11 +1,7 @@
 use Prim.Native.Nat.{◌-◌, ◌≤◌}
-use mathlib.Core.Path.{◌≡◌, refl, sym, ap, ◌∙◌}
-use native.Mathlib.Omega.{arith}
+use mathlib.Core.Path.{◌≡◌}
 use Rattle.inode.specs.Records.{lowest_to}
-use Rattle.inode.proofs.Laws.{lowest-hit, lowest-miss, lowest-none}
-use Rattle.marks.specs.Marks.{wrong, block_found}
-use Rattle.marks.proofs.Laws.{all_right}
-use borrow.Author.Rules.{rules}
+use Rattle.marks.specs.Marks.{wrong}
 use Rattle.marks.proofs.lowest_wrong.Given as goal
 
 abbrev pub invariant-loop-b : goal.invariant-loop-b

@@ -2,7 +2,6 @@ use mathlib.Core.Path.{sym, ap, ◌∙◌}
 use mathlib.Core.Bool.{not}
 use native.Mathlib.Omega.{arith}
 use Rattle.marks.proofs.Laws.{data-low, mark-out}
-use borrow.Author.Rules.{rules}
 use Rattle.marks.proofs.mark.Goals as goal
 
 pub returns-then-not-in_data : goal.returns-then-not-in_data

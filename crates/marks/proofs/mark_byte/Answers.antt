@@ -1,7 +1,5 @@
 use mathlib.Core.Path.{refl}
-use native.Mathlib.Omega.{arith}
 use Rattle.marks.proofs.Laws.{mask, byte-marked}
-use borrow.Author.Rules.{rules}
 use Rattle.marks.proofs.mark_byte.Goals as goal
 
 pub returns : goal.returns

@@ -1,10 +1,6 @@
 use Prim.Native.Nat.{◌-◌, ◌≤◌}
-use mathlib.Core.Path.{refl}
-use native.Mathlib.Omega.{arith}
 use Rattle.spec.specs.Bytes.{up_from}
 use Rattle.marks.specs.Marks.{Kept}
-use Rattle.marks.proofs.Laws.{run-start, run_more, run_end, kept_on, kept-end}
-use borrow.Author.Rules.{rules}
 use Rattle.marks.proofs.mark_run.Given as goal
 
 abbrev pub invariant-loop-b : goal.invariant-loop-b

@@ -1,5 +1,4 @@
 use Rattle.mkfs.proofs.Laws.{cleared-on}
-use borrow.Author.Rules.{rules}
 use Rattle.marks.proofs.no_marks.Goals as goal
 
 pub returns : goal.returns

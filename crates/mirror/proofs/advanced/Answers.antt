@@ -3,7 +3,6 @@ use Rattle.spec.specs.declared.Stored.{Stored}
 use Rattle.spec.specs.Answers.{stored_of}
 use Rattle.mirror.specs.Mirror.{advanced_of}
 use Rattle.mirror.proofs.Laws.{advanced-refused, advanced-stored, advanced-idle}
-use borrow.Author.Rules.{rules}
 use Rattle.mirror.proofs.advanced.Goals as goal
 
 pub returns-in-Refused : goal.returns-in-Refused

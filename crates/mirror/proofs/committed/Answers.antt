@@ -3,7 +3,6 @@ use Rattle.spec.specs.declared.Started.{Started}
 use Rattle.spec.specs.Answers.{started_of}
 use Rattle.mirror.specs.Mirror.{committed_of}
 use Rattle.mirror.proofs.Laws.{committed-refused, committed-started}
-use borrow.Author.Rules.{rules}
 use Rattle.mirror.proofs.committed.Goals as goal
 
 pub returns-in-Refused : goal.returns-in-Refused

@@ -3,7 +3,6 @@ use mathlib.Core.Path.{sym, ap, ◌∙◌}
 use Rattle.spec.specs.declared.Counted.{Counted}
 use Rattle.mirror.specs.Mirror.{counted_of}
 use Rattle.mirror.proofs.Laws.{counted-refused, counted-count}
-use borrow.Author.Rules.{rules}
 use Rattle.mirror.proofs.counted.Goals as goal
 
 pub returns-in-Refused : goal.returns-in-Refused

@@ -1,7 +1,6 @@
 use mathlib.Core.Path.{ap, ◌∙◌}
 use Rattle.spec.specs.declared.Phase.{Phase}
 use Rattle.spec.specs.Session.{with_cells}
-use borrow.Author.Rules.{rules}
 use Rattle.mirror.proofs.decode.Goals as goal
 
 pub returns : goal.returns

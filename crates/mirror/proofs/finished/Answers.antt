@@ -3,7 +3,6 @@ use Rattle.spec.specs.declared.Done.{Done}
 use Rattle.spec.specs.Answers.{done_of}
 use Rattle.mirror.specs.Mirror.{finished_of}
 use Rattle.mirror.proofs.Laws.{finished-refused, finished-done}
-use borrow.Author.Rules.{rules}
 use Rattle.mirror.proofs.finished.Goals as goal
 
 pub returns-in-Refused : goal.returns-in-Refused

@@ -1,4 +1,3 @@
-use borrow.Author.Rules.{rules}
 use Rattle.mirror.proofs.head_of.Goals as goal
 
 pub returns : goal.returns

@@ -2,7 +2,6 @@ use mathlib.Core.Path.{ap}
 use Rattle.spec.specs.declared.Recorded.{Recorded}
 use Rattle.spec.specs.Answers.{recorded_of as file_of}
 use Rattle.mirror.proofs.Laws.{recorded-refused, recorded-file, recorded-none}
-use borrow.Author.Rules.{rules}
 use Rattle.mirror.proofs.recorded.Goals as goal
 
 pub returns-in-Refused : goal.returns-in-Refused

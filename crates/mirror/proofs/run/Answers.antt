@@ -3,7 +3,6 @@ use mathlib.Core.Path.{sym, ap, ◌∙◌}
 use Rattle.spec.specs.declared.Run.{Run}
 use Rattle.mirror.specs.Mirror.{run_of}
 use Rattle.mirror.proofs.Laws.{run-refused, run-extent, run_none}
-use borrow.Author.Rules.{rules}
 use Rattle.mirror.proofs.run.Goals as goal
 
 pub returns-in-Refused : goal.returns-in-Refused

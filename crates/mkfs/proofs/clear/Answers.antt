@@ -1,9 +1,7 @@
-use Prim.Native.Nat.{◌≤◌, ◌-◌}
-use mathlib.Core.Path.{◌≡◌, ◌∙◌}
+use mathlib.Core.Path.{◌∙◌}
 use native.Mathlib.Omega.{arith}
-use lib.ListN.{length, take, replicate, length-set}
+use lib.ListN.{length-set}
 use Rattle.mkfs.proofs.Laws.{cleared_more, cleared-all}
-use borrow.Author.Rules.{rules}
 use Rattle.mkfs.proofs.clear.Goals as goal
 
 pub loop-k-preserved : goal.loop-k-preserved

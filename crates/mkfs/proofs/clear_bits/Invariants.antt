@@ -1,8 +1,5 @@
 use Prim.Native.Nat.{◌-◌, ◌≤◌}
-use native.Mathlib.Omega.{arith}
 use Rattle.mkfs.specs.Table.{Cleared}
-use Rattle.mkfs.proofs.Laws.{cleared-bit, cleared-on}
-use borrow.Author.Rules.{rules}
 use Rattle.mkfs.proofs.clear_bits.Given as goal
 
 abbrev pub invariant-loop-b : goal.invariant-loop-b

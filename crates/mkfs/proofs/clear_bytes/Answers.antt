@@ -1,8 +1,5 @@
-use Prim.Native.Nat.{◌-◌, ◌*◌, ◌≤◌}
 use native.Mathlib.Omega.{arith}
-use Rattle.mkfs.specs.Table.{Cleared}
 use Rattle.mkfs.proofs.Laws.{cleared-byte, cleared-on}
-use borrow.Author.Rules.{rules}
 use Rattle.mkfs.proofs.clear_bytes.Goals as goal
 
 pub loop-i-init : goal.loop-i-init

@@ -1,6 +1,5 @@
 use native.Mathlib.Omega.{arith}
 use Rattle.mkfs.proofs.Laws.{cleared-start, cleared-table}
-use borrow.Author.Rules.{rules}
 use Rattle.mkfs.proofs.empty_table.Goals as goal
 
 pub clear_bits-requires : goal.clear_bits-requires

@@ -4,7 +4,6 @@ use native.Mathlib.Omega.{arith}
 use lib.ListN.{length, length-replicate}
 use Rattle.block.proofs.Laws.{allowed-says}
 use Rattle.mkfs.proofs.Laws.{made}
-use borrow.Author.Rules.{rules}
 use Rattle.mkfs.proofs.make_empty.Goals as goal
 
 pub overflow_cast-n : goal.overflow_cast-n

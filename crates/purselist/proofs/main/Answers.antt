@@ -1,5 +1,4 @@
 use Rattle.listing.proofs.Laws.{listed-count}
-use borrow.Author.Rules.{rules}
 use Rattle.purselist.proofs.main.Goals as goal
 
 pub slice_bounds-write_all-end : goal.slice_bounds-write_all-end

@@ -1,4 +1,3 @@
-use borrow.Author.Rules.{rules}
 use Rattle.query.proofs.nth_extent.Goals as goal
 
 pub returns : goal.returns

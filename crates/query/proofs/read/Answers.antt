@@ -1,4 +1,3 @@
-use borrow.Author.Rules.{rules}
 use Rattle.query.proofs.read.Goals as goal
 
 pub returns : goal.returns

@@ -1,7 +1,6 @@
 use mathlib.Core.Path.{◌∙◌}
 use Rattle.block.proofs.Laws.{exactly-all}
 use Rattle.query.proofs.Laws.{none_told, record-empty, record-file, own-blank, own-used, own-bytes}
-use borrow.Author.Rules.{rules}
 use Rattle.query.proofs.record_of.Goals as goal
 
 pub returns-then-key_of-eq0 : goal.returns-then-key_of-eq0

@@ -1,8 +1,6 @@
 use mathlib.Core.Path.{◌≡◌, sym, ap, ◌∙◌, subst}
 use native.Mathlib.Omega.{arith}
-use mathlib.Core.List.{List}
-use lib.ListN.{length, get_elem?}
-use Rattle.spec.specs.declared.Extent.{Extent}
+use lib.ListN.{length}
 use Rattle.lookup.specs.Looks.{looked_of, InTable}
 use Rattle.lookup.proofs.Laws.{seen-lent}
 use Rattle.transaction.proofs.Laws.{lent-few}

@@ -1,4 +1,4 @@
-use Rattle.std.proofs.Common.{◌≡◌, ◌≤◌, ◌<◌, ◌+◌, ℕ, suc, List, length, sym, ap, ◌∙◌, arith, add-one}
+use Rattle.std.proofs.Common.{◌≡◌, ℕ, List, sym, ap, ◌∙◌, arith, add-one}
 use Rattle.spec.specs.declared.Extent.{Extent}
 use Rattle.spec.specs.Answers.{counted_of}
 use Rattle.spec.specs.Transaction.{state_of}

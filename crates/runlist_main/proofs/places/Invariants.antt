@@ -1,7 +1,6 @@
 use Prim.Native.Nat.{◌≤◌, ◌-◌}
 use mathlib.Core.Path.{◌≡◌}
 use lib.ListN.{length}
-use borrow.Author.Rules.{rules}
 use Rattle.runlist_main.proofs.places.Given as goal
 
 abbrev pub invariant-loop-i : goal.invariant-loop-i

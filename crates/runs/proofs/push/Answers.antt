@@ -1,10 +1,6 @@
 use Prim.Native.Nat.{◌<◌}
 use mathlib.Core.Path.{◌≡◌}
-use mathlib.Core.Logic.{⊎_elim}
 use native.Mathlib.Omega.{arith}
-use borrow.Author.Tests.{eqb-true, eqb-false}
-use borrow.Author.Rules.{rules}
-use Rattle.runs.specs.Tree.{Runs}
 use Rattle.runs.specs.Push.{columns}
 use Rattle.runs.proofs.Laws.{push-joined, push-joined-over, push-another, push-another-over, small-joined, small-over, small-another, small-another-over}
 use Rattle.runs.proofs.push.Goals as goal

@@ -3,7 +3,6 @@ use Rattle.checks.specs.Checks.{result_of}
 use Rattle.checks.proofs.Laws.{told}
 use Rattle.store.proofs.Laws.{abort-bad, abort-fine}
 use mathlib.Core.Path.{refl}
-use borrow.Author.Rules.{rules}
 use Rattle.store.proofs.abort.Goals as goal
 
 pub returns-in-Bad : goal.returns-in-Bad

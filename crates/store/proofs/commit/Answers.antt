@@ -3,7 +3,6 @@ use Rattle.spec.specs.declared.Session.{Session}
 use Rattle.spec.specs.Session.{in_phase}
 use Rattle.spec.specs.Answers.{started_of}
 use Rattle.spec.specs.Calls.{left}
-use borrow.Author.Rules.{rules}
 use Rattle.store.proofs.commit.Goals as goal
 
 pub returns : goal.returns

@@ -1,8 +1,6 @@
 use mathlib.Core.Path.{sym, ◌∙◌}
-use borrow.Author.Tests.{not-true, not-false}
 use Rattle.checks.proofs.Laws.{told}
 use Rattle.store.proofs.Laws.{format-bad, format-done}
-use borrow.Author.Rules.{rules}
 use Rattle.store.proofs.format.Goals as goal
 
 pub returns-then-not-is_allowed : goal.returns-then-not-is_allowed

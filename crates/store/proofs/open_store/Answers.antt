@@ -1,10 +1,7 @@
-use native.Mathlib.Omega.{arith}
 use mathlib.Core.Path.{sym, ◌∙◌}
-use borrow.Author.Tests.{not-true, not-false}
 use Rattle.block.proofs.Laws.{allowed-says}
 use Rattle.checks.proofs.Laws.{told}
 use Rattle.store.proofs.Laws.{fault-at, no-fault, counted, open-device, open-header, open-log, open-unsound, open-ready}
-use borrow.Author.Rules.{rules}
 use Rattle.store.proofs.open_store.Goals as goal
 
 pub returns-then-not-is_allowed : goal.returns-then-not-is_allowed

@@ -1,7 +1,6 @@
 use Rattle.text.proofs.Laws.{hex-low, hex-high}
 use native.Mathlib.Omega.{arith}
 use mathlib.Core.Path.{refl}
-use borrow.Author.Rules.{rules}
 use Rattle.text.proofs.hex_digit.Goals as goal
 
 pub returns-then-n-lt10 : goal.returns-then-n-lt10

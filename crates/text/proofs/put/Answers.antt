@@ -1,6 +1,5 @@
 use Rattle.text.proofs.Laws.{written_byte, written-past}
 use native.Mathlib.Omega.{arith}
-use borrow.Author.Rules.{rules}
 use Rattle.text.proofs.put.Goals as goal
 
 pub returns-then-at-out : goal.returns-then-at-out

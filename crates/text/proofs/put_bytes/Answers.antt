@@ -1,9 +1,6 @@
-use Rattle.text.proofs.Laws.{Left, left-start, left_step, left-length, left_end, next-byte, no_byte}
+use Rattle.text.proofs.Laws.{left-start, left_step, left-length, left_end, next-byte, no_byte}
 use borrow.Author.Count.{falls}
 use mathlib.Core.Path.{refl}
-use Prim.Native.Nat.{◌-◌}
-use lib.ListN.{length, drop}
-use borrow.Author.Rules.{rules}
 use Rattle.text.proofs.put_bytes.Goals as goal
 
 pub loop-k-init : goal.loop-k-init

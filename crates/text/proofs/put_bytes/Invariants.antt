@@ -1,9 +1,6 @@
-use Rattle.text.proofs.Laws.{Left, left-start, left_step, left-length, left_end, next-byte, no_byte}
-use borrow.Author.Count.{falls}
-use mathlib.Core.Path.{refl}
+use Rattle.text.proofs.Laws.{Left}
 use Prim.Native.Nat.{◌-◌}
 use lib.ListN.{length, drop}
-use borrow.Author.Rules.{rules}
 use Rattle.text.proofs.put_bytes.Given as goal
 
 abbrev pub invariant-loop-k : goal.invariant-loop-k

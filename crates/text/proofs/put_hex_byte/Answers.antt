@@ -2,7 +2,6 @@ use Rattle.text.proofs.Laws.{written_then, written_as}
 use mathlib.Core.Path.{ap₂}
 use mathlib.Core.List.{[], ◌∷◌}
 use Prim.Native.Nat.{ℕ}
-use borrow.Author.Rules.{rules}
 use Rattle.text.proofs.put_hex_byte.Goals as goal
 
 pub returns : goal.returns

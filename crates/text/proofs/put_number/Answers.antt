@@ -1,5 +1,4 @@
 use Rattle.text.specs.Written.{number}
-use borrow.Author.Rules.{rules}
 use Rattle.text.proofs.put_number.Goals as goal
 
 pub returns : goal.returns

@@ -1,9 +1,6 @@
-use Prim.Native.Nat.{◌≤◌, ◌-◌}
-use mathlib.Core.Path.{◌≡◌, refl, sym, ◌∙◌}
+use mathlib.Core.Path.{refl, sym, ◌∙◌}
 use native.Mathlib.Omega.{arith}
-use borrow.Author.Rules.{rules}
-use lib.ListN.{length}
-use Rattle.transaction.proofs.Laws.{place_in, place-start, place-hit, place-miss, place_end}
+use Rattle.transaction.proofs.Laws.{place-start, place-hit, place-miss, place_end}
 use Rattle.transaction.proofs.place_in.Goals as goal
 
 pub loop-i-init : goal.loop-i-init

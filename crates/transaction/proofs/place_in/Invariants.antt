@@ -1,9 +1,7 @@
 use Prim.Native.Nat.{◌≤◌, ◌-◌}
-use mathlib.Core.Path.{◌≡◌, refl, sym, ◌∙◌}
-use native.Mathlib.Omega.{arith}
-use borrow.Author.Rules.{rules}
+use mathlib.Core.Path.{◌≡◌}
 use lib.ListN.{length}
-use Rattle.transaction.proofs.Laws.{place_in, place-start, place-hit, place-miss, place_end}
+use Rattle.transaction.proofs.Laws.{place_in}
 use Rattle.transaction.proofs.place_in.Given as goal
 
 abbrev pub invariant-loop-i : goal.invariant-loop-i

@@ -1,6 +1,5 @@
 use mathlib.Core.Path.{sym, ◌∙◌}
 use Rattle.transaction.proofs.Laws.{spot-at, spot-new}
-use borrow.Author.Rules.{rules}
 use Rattle.transaction.proofs.spot.Goals as goal
 
 pub returns-in-At : goal.returns-in-At

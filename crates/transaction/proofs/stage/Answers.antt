@@ -2,7 +2,7 @@ use Prim.Native.Nat.{ℕ}
 use mathlib.Core.Path.{◌≡◌, ap, ◌∙◌}
 use mathlib.Core.List.{List}
 use native.Mathlib.Omega.{arith}
-use lib.ListN.{length, take}
+use lib.ListN.{length}
 use Rattle.spec.specs.Session.{staged_in}
 use Rattle.transaction.specs.Places.{spot}
 use Rattle.transaction.proofs.Laws.{staged-lent, stage-leaves}

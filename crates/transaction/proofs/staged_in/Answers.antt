@@ -1,5 +1,4 @@
 use native.Mathlib.Omega.{arith}
-use borrow.Author.Rules.{rules}
 use Rattle.transaction.proofs.staged_in.Goals as goal
 
 pub returns-then-count-lt-LOG_LENGTH : goal.returns-then-count-lt-LOG_LENGTH

@@ -1,9 +1,8 @@
-use mathlib.Core.Path.{◌≡◌, ap, sym, ◌∙◌}
+use mathlib.Core.Path.{ap, sym, ◌∙◌}
 use native.Mathlib.Omega.{arith}
 use Rattle.spec.specs.Bytes.{exactly}
 use Rattle.block.proofs.Laws.{block-is}
 use Rattle.transaction.proofs.Laws.{at_lt, view-at, view-new, part-few}
-use borrow.Author.Rules.{rules}
 use Rattle.transaction.proofs.view_in.Goals as goal
 
 pub overflow_cast-i : goal.overflow_cast-i

@@ -2,7 +2,6 @@ use mathlib.Core.Path.{◌∙◌}
 use native.Mathlib.Omega.{arith}
 use lib.ListN.{length-set}
 use Rattle.transaction.proofs.Laws.{with-cells-at, with-cells-new}
-use borrow.Author.Rules.{rules}
 use Rattle.transaction.proofs.with_block.Goals as goal
 
 pub returns-then-i-n : goal.returns-then-i-n

@@ -1,14 +1,11 @@
 use Prim.Native.Nat.{◌+◌, ◌*◌, ◌-◌, ◌≤◌}
 use mathlib.Core.Path.{◌≡◌}
 use mathlib.Core.Bool.{◌&&◌}
-use native.Mathlib.Omega.{arith}
 use lib.ListN.{drop}
 use Rattle.spec.specs.Bytes.{exactly, all}
 use Rattle.spec.specs.Inode.{slots_in}
 use Rattle.spec.specs.Sound.{slots_packed}
 use Rattle.tree.specs.Reached.{is_unused}
-use Rattle.tree.proofs.Slots.{unused-start, unused-more, unused-end}
-use borrow.Author.Rules.{rules}
 use Rattle.tree.proofs.are_packed.Given as goal
 
 abbrev pub invariant-loop-j : goal.invariant-loop-j

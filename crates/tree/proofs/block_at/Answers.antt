@@ -1,7 +1,6 @@
 use mathlib.Core.Path.{ap, sym, ◌∙◌}
 use Rattle.spec.specs.Bytes.{exactly}
 use Rattle.block.proofs.Laws.{block-is}
-use borrow.Author.Rules.{rules}
 use Rattle.tree.proofs.block_at.Goals as goal
 
 pub returns : goal.returns

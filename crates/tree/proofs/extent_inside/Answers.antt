@@ -1,4 +1,3 @@
-use borrow.Author.Rules.{rules}
 use Rattle.tree.proofs.extent_inside.Goals as goal
 
 pub returns : goal.returns

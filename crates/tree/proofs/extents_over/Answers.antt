@@ -1,9 +1,5 @@
 use native.Mathlib.Omega.{arith}
-use lib.ListN.{drop}
-use Rattle.spec.specs.Bytes.{exactly}
-use Rattle.spec.specs.Inode.{slots_in}
-use Rattle.tree.proofs.Walks.{Going, going_start, going_more, going-out, going_end}
-use borrow.Author.Rules.{rules}
+use Rattle.tree.proofs.Walks.{going_start, going_more, going-out, going_end}
 use Rattle.tree.proofs.extents_over.Goals as goal
 
 pub loop-left-init : goal.loop-left-init

@@ -1,9 +1,7 @@
-use native.Mathlib.Omega.{arith}
 use lib.ListN.{drop}
 use Rattle.spec.specs.Bytes.{exactly}
 use Rattle.spec.specs.Inode.{slots_in}
-use Rattle.tree.proofs.Walks.{Going, going_start, going_more, going-out, going_end}
-use borrow.Author.Rules.{rules}
+use Rattle.tree.proofs.Walks.{Going}
 use Rattle.tree.proofs.extents_over.Given as goal
 
 abbrev pub invariant-loop-left : goal.invariant-loop-left

@@ -1,4 +1,3 @@
-use borrow.Author.Rules.{rules}
 use Rattle.tree.proofs.no_nodes.Goals as goal
 
 pub returns : goal.returns

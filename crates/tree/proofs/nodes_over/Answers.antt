@@ -1,10 +1,5 @@
 use native.Mathlib.Omega.{arith}
-use lib.ListN.{drop}
-use Rattle.spec.specs.Bytes.{exactly}
-use Rattle.spec.specs.Disk.{blocks_of}
-use Rattle.spec.specs.Inode.{slots_in}
-use Rattle.tree.proofs.Walks.{Noding, noding-start, noding-more, noding-end}
-use borrow.Author.Rules.{rules}
+use Rattle.tree.proofs.Walks.{noding-start, noding-more, noding-end}
 use Rattle.tree.proofs.nodes_over.Goals as goal
 
 pub loop-left-init : goal.loop-left-init

@@ -1,5 +1,4 @@
 use Rattle.tree.proofs.Slots.{slot_read}
-use borrow.Author.Rules.{rules}
 use Rattle.tree.proofs.slot_in.Goals as goal
 
 pub returns : goal.returns

@@ -1,7 +1,6 @@
 use mathlib.Core.Path.{refl}
 use native.Mathlib.Omega.{arith}
 use Rattle.tree.proofs.Runs.{tail_within, tail-in, tail-out}
-use borrow.Author.Rules.{rules}
 use Rattle.tree.proofs.tail_at.Goals as goal
 
 pub overflow_sub-result : goal.overflow_sub-result

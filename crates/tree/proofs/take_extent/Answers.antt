@@ -1,7 +1,6 @@
 use mathlib.Core.Path.{refl}
 use Rattle.marks.proofs.Laws.{kept-end}
 use Rattle.tree.proofs.Walks.{blocks-one}
-use borrow.Author.Rules.{rules}
 use Rattle.tree.proofs.take_extent.Goals as goal
 
 pub with_extent-requires : goal.with_extent-requires

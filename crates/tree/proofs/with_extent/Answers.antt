@@ -1,5 +1,4 @@
 use Rattle.tree.specs.Runs.{with_extent}
-use borrow.Author.Rules.{rules}
 use Rattle.tree.proofs.with_extent.Goals as goal
 
 pub returns : goal.returns

@@ -1,7 +1,6 @@
 use Rattle.spec.specs.Disk.{blocks_of}
 use native.Mathlib.Omega.{arith}
 use Rattle.tree.proofs.Walks.{node-off, node-used, node-count, node-many, node-on, node-marks}
-use borrow.Author.Rules.{rules}
 use Rattle.tree.proofs.with_node.Goals as goal
 
 pub returns-then-more-e : goal.returns-then-more-e

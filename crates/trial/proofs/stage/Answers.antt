@@ -1,7 +1,6 @@
 use native.Mathlib.Omega.{arith}
 use Rattle.spec.specs.Session.{staged_in}
 use Rattle.transaction.proofs.Laws.{spot-le}
-use borrow.Author.Rules.{rules}
 use Rattle.trial.proofs.stage.Goals as goal
 
 pub stage-requires : goal.stage-requires

@@ -6,7 +6,6 @@ use Rattle.transaction.specs.Places.{spot, session_of}
 use Rattle.checks.proofs.Laws.{told}
 use Rattle.change.proofs.Images.{spot-cells}
 use Rattle.update.proofs.OneBlock.{cells-full, cells-staged}
-use borrow.Author.Rules.{rules}
 use Rattle.update.proofs.change_record.Goals as goal
 use Rattle.update.proofs.change_record.Lts as lts
 use Rattle.update.proofs.change_record.Reads as reads

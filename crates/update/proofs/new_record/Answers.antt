@@ -1,9 +1,6 @@
-use Prim.Native.Nat.{◌-◌, ◌≤◌}
-use mathlib.Core.Path.{◌≡◌, refl}
+use mathlib.Core.Path.{refl}
 use native.Mathlib.Omega.{arith}
-use lib.ListN.{length}
-use Rattle.update.proofs.Records.{filled, filled_more, filled-all}
-use borrow.Author.Rules.{rules}
+use Rattle.update.proofs.Records.{filled_more, filled-all}
 use Rattle.update.proofs.new_record.Goals as goal
 
 pub loop-k-init : goal.loop-k-init

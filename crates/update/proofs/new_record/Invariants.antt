@@ -1,9 +1,7 @@
 use Prim.Native.Nat.{◌-◌, ◌≤◌}
-use mathlib.Core.Path.{◌≡◌, refl}
-use native.Mathlib.Omega.{arith}
+use mathlib.Core.Path.{◌≡◌}
 use lib.ListN.{length}
-use Rattle.update.proofs.Records.{filled, filled_more, filled-all}
-use borrow.Author.Rules.{rules}
+use Rattle.update.proofs.Records.{filled}
 use Rattle.update.proofs.new_record.Given as goal
 
 abbrev pub invariant-loop-k : goal.invariant-loop-k

@@ -6,9 +6,9 @@ use Rattle.spec.specs.Transaction.{view, state_of}
 use Rattle.transaction.specs.Places.{session_of}
 use Rattle.lookup.specs.Looks.{looked_of, InTable}
 use Rattle.checks.proofs.Laws.{told}
-use Prim.Native.Nat.{◌-◌, ◌<◌}
+use Prim.Native.Nat.{◌<◌}
 use mathlib.Core.Path.{refl}
-use mathlib.Core.List.{List, []}
+use mathlib.Core.List.{[]}
 use Rattle.spec.specs.Disk.{Disk}
 use Rattle.spec.specs.Calls.{file_ok, outcome, settle, staging}
 use Rattle.runs.specs.Runs.{Bounded}

@@ -1,4 +1,3 @@
-use native.Mathlib.Omega.{arith}
 use Prim.Native.Nat.{ℕ, ◌-◌, ◌<◌}
 use mathlib.Core.Path.{◌≡◌, refl, sym, ap, subst, ◌∙◌}
 use mathlib.Core.List.{List}
@@ -23,7 +22,6 @@ use Rattle.transaction.proofs.Laws.{cells-few, cells-view}
 use Rattle.update.proofs.Records.{kept_record, kept-size}
 use Rattle.update.proofs.Stores.{rewrite-stores}
 use Rattle.update.proofs.Laws.{rewrite-bad, rewrite-fine}
-use borrow.Author.Rules.{rules}
 use Rattle.update.proofs.resize.Goals as goal
 use Rattle.update.proofs.resize.Lts as lts
 use Rattle.update.proofs.resize.Reads as reads

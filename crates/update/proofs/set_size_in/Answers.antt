@@ -2,7 +2,7 @@ use native.Mathlib.Omega.{arith}
 use mathlib.Core.Path.{◌≡◌, sym, ap, subst, ◌∙◌}
 use lib.ListN.{length}
 use Rattle.spec.specs.declared.Session.{Session}
-use Rattle.spec.specs.Transaction.{view, state_of}
+use Rattle.spec.specs.Transaction.{state_of}
 use Rattle.transaction.specs.Places.{session_of}
 use Rattle.lookup.specs.Looks.{looked_of, InTable}
 use Rattle.checks.proofs.Laws.{told}

@@ -1,5 +1,4 @@
 use Rattle.checks.proofs.Laws.{told}
-use borrow.Author.Rules.{rules}
 use Rattle.update.proofs.write.Goals as goal
 
 pub returns : goal.returns

@@ -1,11 +1,6 @@
-use Prim.Native.Nat.{◌-◌, ◌≤◌}
-use mathlib.Core.Path.{◌≡◌, refl}
-use mathlib.Core.Bool.{◌&&◌}
+use mathlib.Core.Path.{refl}
 use native.Mathlib.Omega.{arith}
-use lib.ListN.{length, drop}
-use Rattle.spec.specs.Bytes.{all_zero}
 use Rattle.zeros.proofs.Laws.{zero_more, zero-all}
-use borrow.Author.Rules.{rules}
 use Rattle.zeros.proofs.is_zero.Goals as goal
 
 pub loop-k-init : goal.loop-k-init

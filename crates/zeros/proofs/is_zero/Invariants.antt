@@ -1,11 +1,8 @@
 use Prim.Native.Nat.{◌-◌, ◌≤◌}
-use mathlib.Core.Path.{◌≡◌, refl}
+use mathlib.Core.Path.{◌≡◌}
 use mathlib.Core.Bool.{◌&&◌}
-use native.Mathlib.Omega.{arith}
 use lib.ListN.{length, drop}
 use Rattle.spec.specs.Bytes.{all_zero}
-use Rattle.zeros.proofs.Laws.{zero_more, zero-all}
-use borrow.Author.Rules.{rules}
 use Rattle.zeros.proofs.is_zero.Given as goal
 
 abbrev pub invariant-loop-k : goal.invariant-loop-k

@@ -16,20 +16,24 @@ use Rattle.spec.specs.declared.DiskBlock.{DiskBlock}
 use Rattle.spec.specs.declared.Extent.{Extent}
 use Rattle.spec.specs.Inode.{data_of, block_of_inode, runs, slots_in}
 use Rattle.block.proofs.Laws.{lt-or-le}
-use Rattle.bitmap.specs.declared.Found.TheVariants.{At, Nothing}
+use Rattle.std.specs.Prelude.{Some, Option as Returned}
+use Rattle.std.specs.Option.{is_some}
 use Rattle.bitmap.specs.Words.{Table, found_of}
-use Rattle.bitmap.proofs.Laws.{length-bits, none_free, found_nothing, next-free}
+use Rattle.bitmap.proofs.Laws.{length-bits, none_free, next-free}
+use mathlib.Core.Option.{Option, none, some}
 use Rattle.inode.specs.declared.Cursor.{Cursor}
 use Rattle.inode.specs.Walk.{Slot, live, leaf, rest_nodes, start_of}
 use Rattle.inode.proofs.Walk.{live-left, nodes-start, weight-start, step-node, step_end}
 use Rattle.extents.specs.declared.Scan.{Scan}
-use Rattle.extents.specs.Stretches.{pending, Starts, NextPiece, GoesOn}
+use Rattle.extents.specs.Stretches.{pending, Starts, NextPiece}
 use Rattle.extents.proofs.Laws.{length_up}
-use Rattle.runs.specs.Tree.{Runs}
+use Rattle.runs.specs.declared.ExtentList.{ExtentList}
 use Rattle.runs.specs.Push.{Holds, Small, Pushed}
 use Rattle.runs.proofs.Laws.{pushed-blocks}
 use Rattle.lists.specs.Bits.{mark-append}
-use Rattle.alloc.specs.declared.Nodes.{Nodes}
+use Rattle.runs.specs.declared.Nodes.{Nodes}
+use Rattle.alloc.specs.declared.walk.Walk.{Walk}
+use Rattle.alloc.specs.Walk.{Goes}
 use Rattle.alloc.specs.Parts.{data_at, nodes_at, Picked, KeptOf, GaveBack, HeldNodes, TookNodes}
 
 -- ---- picks and marks
@@ -49,7 +53,7 @@ mark-none v bits = refl
 
 -- ---- one block
 
-pub picked : (t u : List ℕ) (b : DiskBlock) → Table t → At b ≡ found_of (place 0 (bits_of t)) → bits_of u ≡ set (bits_of t) b.0 1 → Picked t u b.0
+pub picked : (t u : List ℕ) (b : DiskBlock) → Table t → Some b ≡ found_of (place 0 (bits_of t)) → bits_of u ≡ set (bits_of t) b.0 1 → Picked t u b.0
 unfolding pick
 picked t u b table e q =
     let n = next-free t b table e in
@@ -61,8 +65,12 @@ picked t u b table e q =
       below = rw q n.below;
     }
 
-pub none-picked : (t u : List ℕ) (b : ℕ) → 0 < free_bits (bits_of t) → Nothing ≡ found_of (place 0 (bits_of t)) → Picked t u b
-none-picked t u b h e = absurd (omega (arith, h, none_free (bits_of t) (found_nothing (place 0 (bits_of t)) e)))
+pub some-free : (t : List ℕ) (r : Returned DiskBlock) → 0 < free_bits (bits_of t) → r ≡ found_of (place 0 (bits_of t)) → is_some r ≡ true
+some-free t r h e = rw e (go (place 0 (bits_of t)) refl)
+  where
+    go : (o : Option ℕ) → place 0 (bits_of t) ≡ o → is_some (found_of o) ≡ true
+    go none q = absurd (omega (arith, h, none_free (bits_of t) q))
+    go (some i) q = refl
 
 pub past-table : (t : List ℕ) (b : ℕ) → Table t → 4096 ≤ b → bits_of t ≡ set (bits_of t) b 0
 past-table t b table h = sym (set_out (bits_of t) b 0 (omega (arith, length-bits t, table.full)))
@@ -115,10 +123,6 @@ pub record Passed (v : Disk) (tb : ℕ) (all : List ℕ) (scan : Scan) (n : ℕ)
 pub pass-start : (v : Disk) (tb i from n : ℕ) (c : Scan) → tb ≡ block_of_inode i → Starts v i from n c → Passed v tb (take n (drop from (data_at v i))) c 0
 pass-start v tb i from n c t s = record { within = omega arith; rest = rw t s.blocks; room = omega (arith, s.room) }
 
--- slots passed, or the next node
-pub pass_on : (v : Disk) (tb : ℕ) (all : List ℕ) (c : Scan) (n : ℕ) → Passed v tb all c n → (d : Scan) → GoesOn v tb c d → Passed v tb all d n
-pass_on v tb all c n p d g = record { within = p.within; rest = sym g.blocks ∙ p.rest; room = omega (arith, p.room, g.room) }
-
 -- a front that goes on
 record Split (all xs ys : List ℕ) (n m : ℕ) : Type 0 where
   front : take m all ≡ take n all ++ xs
@@ -160,20 +164,28 @@ module _ (v : Disk) (tb : ℕ) (all : List ℕ) (c : Scan) (n : ℕ) (p : Passed
     pub pass_all : take n all ≡ all
     pass_all = take_all n all (omega (arith, pass-count))
 
+-- what a step of a walk tells of its stretch
+module _ (v : Disk) (tb : ℕ) (w : Walk) (file : w.record.0 ≡ tb) where
+  pub walk-piece : (e : Extent) (u : Walk) → Goes v w e u → NextPiece v tb w.scan e u.scan
+  walk-piece e u g = rw (← file) g.piece
+
+  pub walk-done : pending v w.record.0 w.scan ≡ [] → pending v tb w.scan ≡ []
+  walk-done h = rw (← file) h
+
 -- ---- blocks kept
 
-pub record Keeping (v : Disk) (tb : ℕ) (all : List ℕ) (scan : Scan) (q : Runs) (n : ℕ) : Type 0 where
+pub record Keeping (v : Disk) (tb : ℕ) (all : List ℕ) (scan : Scan) (q : ExtentList) (n : ℕ) : Type 0 where
   pub passed : Passed v tb all scan n
   pub holds : Holds q (runs (take n all))
   pub small : Small q n
 
-pub keep-start : (v : Disk) (tb i wanted : ℕ) (c : Scan) (q : Runs) → tb ≡ block_of_inode i → Starts v i 0 wanted c → Holds q [] → Small q 0
+pub keep-start : (v : Disk) (tb i wanted : ℕ) (c : Scan) (q : ExtentList) → tb ≡ block_of_inode i → Starts v i 0 wanted c → Holds q [] → Small q 0
     → Keeping v tb (take wanted (data_at v i)) c q 0
 unfolding runs
 keep-start v tb i wanted c q t s h k = record { passed = pass-start v tb i 0 wanted c t s; holds = h; small = k }
 
-pub keep-more : (v : Disk) (tb : ℕ) (all : List ℕ) (c : Scan) (q : Runs) (n : ℕ) → Keeping v tb all c q n
-    → (e : Extent) (d : Scan) → NextPiece v tb c e d → (u : Runs) → Pushed q e.first e.count u → Keeping v tb all d u (n + e.count)
+pub keep-more : (v : Disk) (tb : ℕ) (all : List ℕ) (c : Scan) (q : ExtentList) (n : ℕ) → Keeping v tb all c q n
+    → (e : Extent) (d : Scan) → NextPiece v tb c e d → (u : ExtentList) → Pushed q e.first e.count u → Keeping v tb all d u (n + e.count)
 keep-more v tb all c q n k e d s u p =
     record {
       passed = pass-more v tb all c n k.passed e d s;
@@ -181,10 +193,7 @@ keep-more v tb all c q n k e d s u p =
       small = p.small n k.small s.first s.some;
     }
 
-pub keep-on : (v : Disk) (tb : ℕ) (all : List ℕ) (c : Scan) (q : Runs) (n : ℕ) → Keeping v tb all c q n → (d : Scan) → GoesOn v tb c d → Keeping v tb all d q n
-keep-on v tb all c q n k d g = record { passed = pass_on v tb all c n k.passed d g; holds = k.holds; small = k.small }
-
-pub keep-end : (v : Disk) (tb wanted : ℕ) (blocks : List ℕ) (c : Scan) (q : Runs) (n : ℕ) → Keeping v tb (take wanted blocks) c q n → pending v tb c ≡ [] → KeptOf blocks wanted q n
+pub keep-end : (v : Disk) (tb wanted : ℕ) (blocks : List ℕ) (c : Scan) (q : ExtentList) (n : ℕ) → Keeping v tb (take wanted blocks) c q n → pending v tb c ≡ [] → KeptOf blocks wanted q n
 keep-end v tb wanted blocks c q n k e =
     record {
       holds = rw (← pass_all v tb (take wanted blocks) c n k.passed e) k.holds;
@@ -224,7 +233,7 @@ back_end v tb i from n c p e before after h =
 
 -- ---- blocks taken
 
-pub record Taking (t₀ t : List ℕ) (q₀ q : Runs) (from n k : ℕ) : Type 0 where
+pub record Taking (t₀ t : List ℕ) (q₀ q : ExtentList) (from n k : ℕ) : Type 0 where
   pub within : k ≤ n
   pub bits : bits_of t ≡ mark 1 (picks (bits_of t₀) k) (bits_of t₀)
   pub free : free_bits (bits_of t) + k ≡ free_bits (bits_of t₀)
@@ -232,7 +241,7 @@ pub record Taking (t₀ t : List ℕ) (q₀ q : Runs) (from n k : ℕ) : Type 0 
   pub holds : (blocks : List ℕ) → Holds q₀ (runs blocks) → Holds q (runs (blocks ++ picks (bits_of t₀) k))
   pub small : (m : ℕ) → Small q₀ m → Small q (m + k)
 
-pub take-start : (t : List ℕ) (q : Runs) (n : ℕ) → Taking t t q q 0 n 0
+pub take-start : (t : List ℕ) (q : ExtentList) (n : ℕ) → Taking t t q q 0 n 0
 unfolding picks mark
 take-start t q n =
     record {
@@ -251,8 +260,8 @@ picked_more t₀ t k b e p = rw (picks_more (bits_of t₀) k, p, e)
 marked_more : (t₀ t u : List ℕ) (k b : ℕ) → bits_of t ≡ mark 1 (picks (bits_of t₀) k) (bits_of t₀) → Picked t u b → bits_of u ≡ mark 1 (picks (bits_of t₀) (suc k)) (bits_of t₀)
 marked_more t₀ t u k b e p = p.bits ∙ rw (picked_more t₀ t k b e p.is, mark-more 1 (picks (bits_of t₀) k) b (bits_of t₀), e)
 
-pub take_more : (t₀ t : List ℕ) (q₀ q : Runs) (from n k : ℕ) → Taking t₀ t q₀ q from n k → k < n
-    → (u : List ℕ) (b : ℕ) (r : Runs) → Picked t u b → Pushed q b 1 r → Taking t₀ u q₀ r (b / 64) n (k + 1)
+pub take_more : (t₀ t : List ℕ) (q₀ q : ExtentList) (from n k : ℕ) → Taking t₀ t q₀ q from n k → k < n
+    → (u : List ℕ) (b : ℕ) (r : ExtentList) → Picked t u b → Pushed q b 1 r → Taking t₀ u q₀ r (b / 64) n (k + 1)
 take_more t₀ t q₀ q from n k s l u b r p h =
     rw (add-one k)
     (record {

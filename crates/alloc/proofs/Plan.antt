@@ -1,6 +1,6 @@
 -- Laws of the plan of a change. Assumes nothing.
 use Prim.Native.Nat.{ℕ, zero, suc, ◌+◌, ◌*◌, ◌-◌, ◌/◌, ◌<◌, ◌≤◌}
-use mathlib.Core.Path.{◌≡◌, refl, sym, ap, ◌∙◌}
+use mathlib.Core.Path.{◌≡◌, refl, sym, ap, subst, ◌∙◌}
 use mathlib.Core.Bool.{Bool, true, cond}
 use mathlib.Core.List.{List, [], ◌∷◌, ◌++◌, append-nil}
 use mathlib.Core.Logic.{◌⊎◌, inl, inr}
@@ -21,17 +21,18 @@ use Rattle.spec.specs.Plan.{lowest_level, dealt, lacking, surplus, resized, fits
 use Rattle.block.proofs.Laws.{lt-or-le}
 use Rattle.bitmap.specs.Words.{Table}
 use Rattle.bitmap.proofs.Laws.{bytes_bits}
-use Rattle.checks.specs.declared.Checked.TheVariants.{Fine, Bad}
-use Rattle.runs.specs.Tree.{Runs, Tree}
+use Rattle.std.specs.Prelude.{Ok, Err}
+use Rattle.runs.specs.Tree.{Tree}
+use Rattle.runs.specs.declared.ExtentList.{ExtentList}
 use Rattle.runs.specs.Runs.{listed, nodes_in, levels_in, Bounded}
 use Rattle.runs.specs.Push.{Holds}
 use Rattle.lists.specs.Bits.{length-picks, mark-append}
 use Rattle.lists.specs.Extents.{runs-counts}
 use Rattle.runs.proofs.Laws.{listed-is}
 use Rattle.alloc.specs.declared.Draft.{Draft}
-use Rattle.alloc.specs.declared.Nodes.{Nodes}
+use Rattle.runs.specs.declared.Nodes.{Nodes}
 use Rattle.alloc.specs.Parts.{data_at, nodes_at, KeptOf, TookData, HeldNodes, TookNodes, GaveBack, nodes_held}
-use Rattle.alloc.specs.Draft.{resized_at, table_of, Drafted}
+use Rattle.alloc.specs.Draft.{resized_at, table_of, Built, Drafted, tree_in}
 
 -- ---- at most one level
 
@@ -128,30 +129,24 @@ module _ (v : Disk) (i wanted : ℕ) where
   unfolding fits resized_at
   fits-is = refl
 
-  refused_as : (table first count : List ℕ) (d : Draft) (r : Refusal) → d.verdict ≡ Bad r
-      → fits (bits_of (v 33)) (data_of v (inode_at v i)) (levels_of v (inode_at v i)) wanted ≡ refuse r → Drafted v i wanted table first count d
-  refused_as table first count d r e f = record { verdict = rw e f; tree = λ q. absurd (not-fine r (sym e ∙ q)) }
-    where
-      not-fine : (r : Refusal) → Bad r ≡ Fine → ⊥
-      not-fine r q = let z : ◌≡◌ {A = ℕ} 0 1 = cc in omega arith
+  refused_as : (table : List ℕ) (extents : ExtentList) (r : Refusal)
+      → fits (bits_of (v 33)) (data_of v (inode_at v i)) (levels_of v (inode_at v i)) wanted ≡ refuse r → Drafted v i wanted table extents (Err r)
+  refused_as table extents r f = record { verdict = f; tree = λ d q. cc }
 
 -- ---- the plan, as far as it has come
-
-pub kept-few : (blocks : List ℕ) (wanted : ℕ) (q : Runs) (m : ℕ) → KeptOf blocks wanted q m → m ≤ wanted
-kept-few blocks wanted q m k = omega (arith, k.count, length-take wanted blocks)
 
 few-data : (v : Disk) (i : ℕ) → length (data_at v i) ≤ 2048
 unfolding data_of
 few-data v i = simp length-take (omega arith)
 
-all_held : (blocks : List ℕ) (wanted : ℕ) (kept : Runs) (m : ℕ) (t u : List ℕ) (n : ℕ) → KeptOf blocks wanted kept m → GaveBack (drop wanted blocks) t u n → m + n ≡ length blocks
+all_held : (blocks : List ℕ) (wanted : ℕ) (kept : ExtentList) (m : ℕ) (t u : List ℕ) (n : ℕ) → KeptOf blocks wanted kept m → GaveBack (drop wanted blocks) t u n → m + n ≡ length blocks
 all_held blocks wanted kept m t u n k g = omega (arith, k.count, g.many, length-take wanted blocks, length-drop wanted blocks)
 
-pub held-few : (v : Disk) (i wanted : ℕ) (kept : Runs) (m : ℕ) (t u : List ℕ) (n : ℕ) → KeptOf (data_at v i) wanted kept m → GaveBack (drop wanted (data_at v i)) t u n → m + n ≤ 2048
+pub held-few : (v : Disk) (i wanted : ℕ) (kept : ExtentList) (m : ℕ) (t u : List ℕ) (n : ℕ) → KeptOf (data_at v i) wanted kept m → GaveBack (drop wanted (data_at v i)) t u n → m + n ≤ 2048
 held-few v i wanted kept m t u n k g = omega (arith, all_held (data_at v i) wanted kept m t u n k g, few-data v i)
 
 -- the table as it was, what is free, what the file keeps (m blocks), what it takes
-pub record Begun (v : Disk) (i wanted : ℕ) (t₀ : List ℕ) (free : ℕ) (kept : Runs) (m fresh : ℕ) : Type 0 where
+pub record Begun (v : Disk) (i wanted : ℕ) (t₀ : List ℕ) (free : ℕ) (kept : ExtentList) (m fresh : ℕ) : Type 0 where
   pub table : t₀ ≡ v 33
   pub is_free : free ≡ free_bits (bits_of t₀)
   pub few : free ≤ 4096
@@ -159,7 +154,7 @@ pub record Begun (v : Disk) (i wanted : ℕ) (t₀ : List ℕ) (free : ℕ) (kep
   pub is_fresh : fresh ≡ wanted - m
 
 -- data blocks taken, nodes counted
-pub record Chosen (v : Disk) (i : ℕ) (t₀ : List ℕ) (free : ℕ) (kept : Runs) (m fresh : ℕ) (t₁ : List ℕ) (q : Runs) (held : Nodes) (nodes lack : ℕ) : Type 0 where
+pub record Chosen (v : Disk) (i : ℕ) (t₀ : List ℕ) (free : ℕ) (kept : ExtentList) (m fresh : ℕ) (t₁ : List ℕ) (q : ExtentList) (held : Nodes) (nodes lack : ℕ) : Type 0 where
   pub fit : fresh ≤ free
   pub took : TookData t₀ t₁ kept m fresh q
   pub holds : HeldNodes (nodes_at v i) held
@@ -167,7 +162,16 @@ pub record Chosen (v : Disk) (i : ℕ) (t₀ : List ℕ) (free : ℕ) (kept : Ru
   pub most : 128 * nodes ≤ q.len + 127
   pub is_lack : lack ≡ nodes - held.len
 
-module _ (v : Disk) (i wanted : ℕ) (t₀ : List ℕ) (free : ℕ) (kept : Runs) (m fresh : ℕ) (b : Begun v i wanted t₀ free kept m fresh) where
+-- the same, from what the code's calls ensure
+pub plan-begun : (v : Disk) (i wanted : ℕ) (t₀ : List ℕ) (free : ℕ) (kept : ExtentList) (m : ℕ) → t₀ ≡ v 33 → (free ≡ free_bits (bits_of t₀)) × (free ≤ 4096) → KeptOf (data_at v i) wanted kept m
+    → Begun v i wanted t₀ free kept m (wanted - m)
+plan-begun v i wanted t₀ free kept m e f k = record { table = e; is_free = f.0; few = f.1; keeps = k; is_fresh = refl }
+
+pub plan-chosen : (v : Disk) (i : ℕ) (t₀ : List ℕ) (free : ℕ) (kept : ExtentList) (m fresh : ℕ) (t₁ : List ℕ) (q : ExtentList) (held : Nodes) (nodes lack : ℕ)
+    → fresh ≤ free → TookData t₀ t₁ kept m fresh q → HeldNodes (nodes_at v i) held → (nodes ≡ nodes_for q.len) × (128 * nodes ≤ q.len + 127) → lack ≡ nodes - held.len → Chosen v i t₀ free kept m fresh t₁ q held nodes lack
+plan-chosen v i t₀ free kept m fresh t₁ q held nodes lack f t h n l = record { fit = f; took = t; holds = h; is_nodes = n.0; most = n.1; is_lack = l }
+
+module _ (v : Disk) (i wanted : ℕ) (t₀ : List ℕ) (free : ℕ) (kept : ExtentList) (m fresh : ℕ) (b : Begun v i wanted t₀ free kept m fresh) where
   newly : wanted - length (data_at v i) ≡ fresh
   newly = omega (arith, b.is_fresh, b.keeps.count, length-take wanted (data_at v i))
 
@@ -175,12 +179,12 @@ module _ (v : Disk) (i wanted : ℕ) (t₀ : List ℕ) (free : ℕ) (kept : Runs
   free-is = sym (b.is_free ∙ ap (λ (t : List ℕ). free_bits (bits_of t)) b.table)
 
   -- 16 by the data blocks alone
-  pub no-space : free < fresh → (table first count : List ℕ) (d : Draft) → d.verdict ≡ Bad NoSpace → Drafted v i wanted table first count d
-  no-space h table first count d e =
-      refused_as v i wanted table first count d NoSpace e
+  pub no-space : free < fresh → (table : List ℕ) (extents : ExtentList) → Drafted v i wanted table extents (Err NoSpace)
+  no-space h table extents =
+      refused_as v i wanted table extents NoSpace
       (fits-is v i wanted ∙ rw (lt-leb (wanted - length (data_at v i)) (free_bits (bits_of (v 33))) (omega (arith, newly, free-is))))
 
-  module _ (t₁ : List ℕ) (q : Runs) (held : Nodes) (nodes lack : ℕ) (s : Chosen v i t₀ free kept m fresh t₁ q held nodes lack) where
+  module _ (t₁ : List ℕ) (q : ExtentList) (held : Nodes) (nodes lack : ℕ) (s : Chosen v i t₀ free kept m fresh t₁ q held nodes lack) where
     data_is : (resized_at v i wanted).new_data ≡ picks (bits_of t₀) fresh
     data_is = new-data v i wanted ∙ rw (newly, ← b.table)
 
@@ -209,9 +213,9 @@ module _ (v : Disk) (i wanted : ℕ) (t₀ : List ℕ) (free : ℕ) (kept : Runs
     both = rw (data_is, nodes-are, length-picks (bits_of t₀) fresh, length-picks (bits_of t₁) lack)
 
     -- 16 by data blocks and extent blocks
-    pub no-space-nodes : free < fresh + lack → (table first count : List ℕ) (d : Draft) → d.verdict ≡ Bad NoSpace → Drafted v i wanted table first count d
-    no-space-nodes h table first count d e =
-        refused_as v i wanted table first count d NoSpace e
+    pub no-space-nodes : free < fresh + lack → (table : List ℕ) (extents : ExtentList) → Drafted v i wanted table extents (Err NoSpace)
+    no-space-nodes h table extents =
+        refused_as v i wanted table extents NoSpace
         (fits-is v i wanted ∙ rw (first-test, both, free-is, lt-leb (fresh + lack) free h))
 
     module _ (room : fresh + lack ≤ free) where
@@ -219,9 +223,9 @@ module _ (v : Disk) (i wanted : ℕ) (t₀ : List ℕ) (free : ℕ) (kept : Runs
       second-test = rw (both, free-is) (le-leb (fresh + lack) free room)
 
       -- 17
-      pub too_many : 512 < q.len → (table first count : List ℕ) (d : Draft) → d.verdict ≡ Bad TooManyExtents → Drafted v i wanted table first count d
-      too_many h table first count d e =
-          refused_as v i wanted table first count d TooManyExtents e
+      pub too_many : 512 < q.len → (table : List ℕ) (extents : ExtentList) → Drafted v i wanted table extents (Err TooManyExtents)
+      too_many h table extents =
+          refused_as v i wanted table extents TooManyExtents
           (fits-is v i wanted ∙ rw (first-test, second-test, len_is, lt-leb q.len 512 h))
 
       module _ (low : q.len ≤ 512) (node t₂ t₃ t₄ : List ℕ) (adds : TookNodes t₁ t₂ held nodes node) (dropped : ℕ)
@@ -295,18 +299,22 @@ module _ (v : Disk) (i wanted : ℕ) (t₀ : List ℕ) (free : ℕ) (kept : Runs
               held = omega (arith, all-data, few-data v i);
             }
 
-        pub drafted : Drafted v i wanted t₄ q.first q.count
-            (record { verdict = Fine; end = record { len = q.len; next = q.next }; node = node; nodes = nodes; before = held.len; held = m + dropped })
+        built : Built v i wanted tree
+        built =
+            record {
+              extents = extents-listed;
+              levels = levels-built;
+              table = table-built;
+              before = s.holds.many ∙ sym (ap length (lowest-is (levels_of v (inode_at v i)) (nodes_at v i) shape));
+              held = all-data;
+              bounded = small-tree;
+            }
+
+        pub drafted : Drafted v i wanted t₄ q (Ok (record { nodes = record { node = node; len = nodes }; before = held.len; held = m + dropped }))
         drafted =
             record {
               verdict = fits-is v i wanted ∙ rw (first-test, second-test, len_is, le-leb q.len 512 low);
-              tree = λ e.
-                  record {
-                    extents = extents-listed;
-                    levels = levels-built;
-                    table = table-built;
-                    before = s.holds.many ∙ sym (ap length (lowest-is (levels_of v (inode_at v i)) (nodes_at v i) shape));
-                    held = all-data;
-                    bounded = small-tree;
-                  };
+              tree = λ d e.
+                  let z : record { nodes = record { node = node; len = nodes }; before = held.len; held = m + dropped } ≡ d = cc in
+                  subst (λ (d : Draft). Built v i wanted (tree_in t₄ q d)) z built;
             }

@@ -6,11 +6,12 @@ use Rattle.spec.specs.Inode.{inode_at, data_of, levels_of}
 use Rattle.spec.specs.Answers.{Result, refuse, accept}
 use Rattle.spec.specs.Plan as plan
 use Rattle.spec.specs.Plan.{lowest_level, resized, fits}
-use Rattle.checks.specs.declared.Checked.{Checked}
-use Rattle.checks.specs.declared.Checked.TheVariants.{Fine, Bad}
+use Rattle.std.specs.Prelude.{Ok, Err}
+use Rattle.std.specs.Prelude.{Result as Returned}
+use Rattle.spec.specs.declared.Refusal.{Refusal}
 use Rattle.runs.specs.Tree.{Tree}
 use Rattle.runs.specs.Runs.{listed, levels_in, Bounded}
-use Rattle.runs.specs.Push.{columns}
+use Rattle.runs.specs.declared.ExtentList.{ExtentList}
 pub use Rattle.alloc.specs.declared.Draft.{Draft}
 
 -- the tree of record i with so many data blocks
@@ -30,15 +31,15 @@ pub record Built (v : Disk) (i wanted : ℕ) (q : Tree) : Type 0 where
   pub held : q.held ≡ length (data_of v (inode_at v i))
   pub bounded : Bounded q
 
-abbrev pub result_with : Checked → plan.Tree → Result plan.Tree
-result_with Fine t = accept t
-result_with (Bad r) t = refuse r
+abbrev pub result_with : Returned Draft Refusal → plan.Tree → Result plan.Tree
+result_with (Ok d) t = accept t
+result_with (Err r) t = refuse r
 
--- the tree of a draft, its bitmap and its extents in lent columns
-abbrev pub tree_in : List ℕ → List ℕ → List ℕ → Draft → Tree
-tree_in table first count d =
-    record { table = table; runs = columns first count d.end; node = d.node; nodes = d.nodes; before = d.before; held = d.held }
+-- the tree of a draft, its bitmap and its extents in what was lent
+abbrev pub tree_in : List ℕ → ExtentList → Draft → Tree
+tree_in table extents d =
+    record { table = table; runs = extents; node = d.nodes.node; nodes = d.nodes.len; before = d.before; held = d.held }
 
-pub record Drafted (v : Disk) (i wanted : ℕ) (table first count : List ℕ) (d : Draft) : Type 0 where
-  pub verdict : fits (bits_of (v 33)) (data_of v (inode_at v i)) (levels_of v (inode_at v i)) wanted ≡ result_with d.verdict (resized_at v i wanted)
-  pub tree : d.verdict ≡ Fine → Built v i wanted (tree_in table first count d)
+pub record Drafted (v : Disk) (i wanted : ℕ) (table : List ℕ) (extents : ExtentList) (r : Returned Draft Refusal) : Type 0 where
+  pub verdict : fits (bits_of (v 33)) (data_of v (inode_at v i)) (levels_of v (inode_at v i)) wanted ≡ result_with r (resized_at v i wanted)
+  pub tree : (d : Draft) → r ≡ Ok d → Built v i wanted (tree_in table extents d)

@@ -3,9 +3,9 @@ use Rattle.std.specs.Prelude.{ℕ, ◌+◌, ◌*◌, ◌-◌, ◌/◌, ◌<◌, 
 use Rattle.spec.specs.Disk.{Disk}
 use Rattle.spec.specs.Bitmap.{bits_of, free_bits, mark, pick, picks}
 use Rattle.spec.specs.Inode.{inode_at, data_of, nodes_of, runs}
-use Rattle.runs.specs.Tree.{Runs}
+use Rattle.runs.specs.declared.ExtentList.{ExtentList}
 use Rattle.runs.specs.Push.{Holds, Small}
-use Rattle.alloc.specs.declared.Nodes.{Nodes}
+use Rattle.runs.specs.declared.Nodes.{Nodes}
 
 -- the data blocks and the nodes of record i
 abbrev pub data_at : Disk → ℕ → List ℕ
@@ -23,7 +23,7 @@ pub record Picked (before after : List ℕ) (b : ℕ) : Type 0 where
   pub below : free_bits (take (64 * (b / 64)) (bits_of after)) ≡ 0
 
 -- the extents of the first `wanted` of some blocks, and how many blocks they are
-pub record KeptOf (blocks : List ℕ) (wanted : ℕ) (q : Runs) (n : ℕ) : Type 0 where
+pub record KeptOf (blocks : List ℕ) (wanted : ℕ) (q : ExtentList) (n : ℕ) : Type 0 where
   pub holds : Holds q (runs (take wanted blocks))
   pub count : n ≡ length (take wanted blocks)
   pub few : n ≤ 2048
@@ -35,7 +35,7 @@ pub record GaveBack (blocks before after : List ℕ) (n : ℕ) : Type 0 where
   pub bits : bits_of after ≡ mark 0 blocks (bits_of before)
 
 -- n picks behind m blocks kept
-pub record TookData (before after : List ℕ) (kept : Runs) (m n : ℕ) (q : Runs) : Type 0 where
+pub record TookData (before after : List ℕ) (kept : ExtentList) (m n : ℕ) (q : ExtentList) : Type 0 where
   pub bits : bits_of after ≡ mark 1 (picks (bits_of before) n) (bits_of before)
   pub free : free_bits (bits_of after) + n ≡ free_bits (bits_of before)
   pub holds : (blocks : List ℕ) → Holds kept (runs blocks) → Holds q (runs (blocks ++ picks (bits_of before) n))

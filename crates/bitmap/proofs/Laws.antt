@@ -7,7 +7,7 @@ use mathlib.Core.Option.{Option, none, some}
 use native.Mathlib.Nat.{add-zero}
 use native.Mathlib.Omega.{arith}
 use native.Mathlib.Decide.{dec_lt}
-use borrow.Author.Tests.{eqb-true, eqb-false, eq-eqb, ne_eqb}
+use borrow.Author.Tests.{eqb-true, eqb-false, eq-eqb}
 use lib.Dec.{eqb}
 use lib.ListN.{length, take, drop, get_or, set, length-drop, take-append-drop, get_or-append, get_or-eq_default}
 use lib.Seq.{length-take-le, get_or-drop, take-set-le, take-take}
@@ -15,7 +15,7 @@ use Rattle.spec.specs.Bytes.{occurs, place, place_from, pieces}
 use Rattle.spec.specs.declared.DiskBlock.{DiskBlock}
 use Rattle.spec.specs.Disk.{disk_block}
 use Rattle.spec.specs.Bitmap.{bits_of_byte, bits_of, byte_of, bytes_of, free_bits}
-use Rattle.bitmap.specs.declared.Found.TheVariants.{At, Nothing}
+use Rattle.std.specs.Prelude.{Some, None}
 use Rattle.bitmap.specs.Words.{Below, Table, found_of}
 use Rattle.bitmap.proofs.Numbers.{low_bits, byte_low, low_bit, byte-of-low, low-byte-of}
 
@@ -105,16 +105,11 @@ free-le (x ∷ xs) = go (eqb x 0) (free-le xs)
     go true h = omega arith
     go false h = omega arith
 
--- a zero bit set, a one bit cleared
+-- a zero bit set
 pub free-set : (bits : List ℕ) (b : ℕ) → b < length bits → get_or bits b 0 ≡ 0 → free_bits (set bits b 1) + 1 ≡ free_bits bits
 free-set [] b h z = absurd (omega arith)
 free-set (x ∷ xs) zero h z = rw (eq-eqb x 0 z) (omega arith)
 free-set (x ∷ xs) (suc b) h z = omega (arith, free-set xs b (omega arith) z)
-
-pub free-clear : (bits : List ℕ) (b : ℕ) → get_or bits b 0 ≡ 1 → free_bits (set bits b 0) ≡ free_bits bits + 1
-free-clear [] b z = absurd (omega arith)
-free-clear (x ∷ xs) zero z = rw (ne_eqb x 0 (λ e. omega arith)) (omega arith)
-free-clear (x ∷ xs) (suc b) z = omega (arith, free-clear xs b z)
 
 -- ---- the lowest zero bit
 
@@ -189,11 +184,11 @@ taken-below bits b e =
     fewer k xs h = omega (arith, occurs-append 0 (take k xs) (drop k xs), ap free_bits (take-append-drop k xs))
 
 -- the code's answer tells the place
-pub found_at : (o : Option ℕ) (b : DiskBlock) → At b ≡ found_of o → o ≡ some b.0
+pub found_at : (o : Option ℕ) (b : DiskBlock) → Some b ≡ found_of o → o ≡ some b.0
 found_at none b e = cc
 found_at (some a) b e = let q : disk_block a ≡ b = cc in ap (λ (x : DiskBlock). some x.0) q
 
-pub found_nothing : (o : Option ℕ) → Nothing ≡ found_of o → o ≡ none
+pub found_nothing : (o : Option ℕ) → None ≡ found_of o → o ≡ none
 found_nothing none e = refl
 found_nothing (some a) e = cc
 
@@ -204,7 +199,7 @@ pub record Next (bits : List ℕ) (b : ℕ) : Type 0 where
   pub fewer : free_bits (set bits b 1) + 1 ≡ free_bits bits
   pub below : free_bits (take (64 * (b / 64)) (set bits b 1)) ≡ 0
 
-pub next-free : (t : List ℕ) (found : DiskBlock) → Table t → At found ≡ found_of (place 0 (bits_of t)) → Next (bits_of t) found.0
+pub next-free : (t : List ℕ) (found : DiskBlock) → Table t → Some found ≡ found_of (place 0 (bits_of t)) → Next (bits_of t) found.0
 next-free t found table e =
     let b = found.0 in
     let p = found_at (place 0 (bits_of t)) found e in

@@ -94,19 +94,6 @@ module _ (t : List ℕ) (full : length t ≡ 512) (w x : ℕ) (inside : w < 64) 
             ∙ ap₂ (λ (n : ℕ) (bits : List ℕ). place_from n 0 bits) (zero-add _ ∙ l) word-bits ∙ low-place 64 x (64 * w) _ word_lt ne;
       }
 
--- eight bytes, one by one
-pub eight-bytes : (t : List ℕ) (w : ℕ) → get_or t (8 * w) 0 < 256 → get_or t (8 * w + 1) 0 < 256 → get_or t (8 * w + 2) 0 < 256 → get_or t (8 * w + 3) 0 < 256
-    → get_or t (8 * w + 4) 0 < 256 → get_or t (8 * w + 5) 0 < 256 → get_or t (8 * w + 6) 0 < 256 → get_or t (8 * w + 7) 0 < 256 → Bytes t w
-eight-bytes t w b0 b1 b2 b3 b4 b5 b6 b7 zero l = let z : 8 * w + 0 ≡ 8 * w = omega arith in rw z b0
-eight-bytes t w b0 b1 b2 b3 b4 b5 b6 b7 (suc zero) l = b1
-eight-bytes t w b0 b1 b2 b3 b4 b5 b6 b7 (suc (suc zero)) l = b2
-eight-bytes t w b0 b1 b2 b3 b4 b5 b6 b7 (suc (suc (suc zero))) l = b3
-eight-bytes t w b0 b1 b2 b3 b4 b5 b6 b7 (suc (suc (suc (suc zero)))) l = b4
-eight-bytes t w b0 b1 b2 b3 b4 b5 b6 b7 (suc (suc (suc (suc (suc zero))))) l = b5
-eight-bytes t w b0 b1 b2 b3 b4 b5 b6 b7 (suc (suc (suc (suc (suc (suc zero)))))) l = b6
-eight-bytes t w b0 b1 b2 b3 b4 b5 b6 b7 (suc (suc (suc (suc (suc (suc (suc zero))))))) l = b7
-eight-bytes t w b0 b1 b2 b3 b4 b5 b6 b7 (suc (suc (suc (suc (suc (suc (suc (suc j)))))))) l = absurd (omega arith)
-
 -- a word of which no bit is 0
 pub full-word : (t : List ℕ) (w x : ℕ) → Word t w x → 2 ^ 64 - 1 - x ≡ 0 → free_bits (take (64 * (w + 1)) (bits_of t)) ≡ free_bits (take (64 * w) (bits_of t))
 full-word t w x word z =

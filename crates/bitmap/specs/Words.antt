@@ -1,9 +1,9 @@
 -- The bitmap by whole words, for the contracts of this crate.
-use Rattle.std.specs.Prelude.{ℕ, ◌+◌, ◌*◌, ◌<◌, ◌≡◌, List, length, get_or}
-use Rattle.std.proofs.Math.Option.{Option, none, some}
+use Rattle.std.specs.Prelude.{ℕ, ◌+◌, ◌*◌, ◌<◌, ◌≡◌, List, Option, Some, None, length, get_or}
+use Rattle.std.proofs.Math.Option as math
+use Rattle.std.proofs.Math.Option.{none, some}
+use Rattle.spec.specs.declared.DiskBlock.{DiskBlock}
 use Rattle.spec.specs.Disk.{disk_block}
-use Rattle.bitmap.specs.declared.Found.{Found}
-use Rattle.bitmap.specs.declared.Found.TheVariants.{At, Nothing}
 
 -- each entry is below n
 abbrev pub Below : ℕ → List ℕ → Type 0
@@ -25,6 +25,6 @@ abbrev pub Bytes : List ℕ → ℕ → Type 0
 Bytes t w = (j : ℕ) → j < 8 → get_or t (8 * w + j) 0 < 256
 
 -- a place as the code tells it
-abbrev pub found_of : Option ℕ → Found
-found_of none = Nothing
-found_of (some b) = At (disk_block b)
+abbrev pub found_of : math.Option ℕ → Option DiskBlock
+found_of none = None
+found_of (some b) = Some (disk_block b)

@@ -8,22 +8,10 @@ ghost use Rattle.bitmap.specs.Words.{Table, Bytes, word_of, found_of};
 
 use spec::{DiskBlock, Limits};
 
-#[derive(Clone, Copy)]
-pub enum Found {
-    At(DiskBlock),
-    Nothing,
-}
-
 // What owning a table tells and borrowing one does not: it has 512 entries, each a byte. The copy is never read, so the compiler drops it.
 pub fn known(t: [u8; Limits::BLOCK_SIZE])
     ensures { Table t }
 {}
-
-fn wide(x: u8) -> u64
-    ensures { (result ≡ x) × (result < 256) }
-{
-    x as u64
-}
 
 // Word w of a table: the bytes 8w to 8w+7, little-endian.
 fn word_in(t: &[u8], w: usize) -> u64
@@ -31,23 +19,16 @@ fn word_in(t: &[u8], w: usize) -> u64
     ensures { (result ≡ word_of t.now w) × Bytes t.now w }
 {
     let i = 8 * w;
-    let a7 = wide(t[i + 7]);
-    let a6 = a7 * 256 + wide(t[i + 6]);
-    let a5 = a6 * 256 + wide(t[i + 5]);
-    let a4 = a5 * 256 + wide(t[i + 4]);
-    let a3 = a4 * 256 + wide(t[i + 3]);
-    let a2 = a3 * 256 + wide(t[i + 2]);
-    let a1 = a2 * 256 + wide(t[i + 1]);
-    a1 * 256 + wide(t[i])
-}
-
-// The same of an array.
-fn word_at(t: &[u8; Limits::BLOCK_SIZE], w: usize) -> u64
-    requires { w < 64 }
-    ensures { (result ≡ word_of t.now w) × Bytes t.now w }
-{
-    let bytes: &[u8] = t;
-    word_in(bytes, w)
+    u64::from_le_bytes([
+        t[i],
+        t[i + 1],
+        t[i + 2],
+        t[i + 3],
+        t[i + 4],
+        t[i + 5],
+        t[i + 6],
+        t[i + 7],
+    ])
 }
 
 // How many bits of a table are 0: "Count of ones gives free blocks".
@@ -56,46 +37,27 @@ pub fn free_in(t: &[u8]) -> usize
     ensures { (result ≡ free_bits (bits_of t.now)) × (result ≤ 4096) }
 {
     let mut n: usize = 0;
-    let mut w: usize = 0;
-    while w < 64 {
+    for w in 0..64 {
         let x = word_in(t, w);
-        n += (64 - u64::count_ones(x)) as usize;
-        w += 1;
+        n += (64 - x.count_ones()) as usize;
     }
     n
 }
 
-// The same of an array.
-pub fn free_count(t: &[u8; Limits::BLOCK_SIZE]) -> usize
-    ensures { (result ≡ free_bits (bits_of t.now)) × (result ≤ 4096) }
-{
-    let bytes: &[u8] = t;
-    free_in(bytes)
-}
-
 // The lowest bit that is 0, where no bit below word `from` is: "trailing zeros of the complemented word".
-pub fn lowest_free_from(t: &[u8; Limits::BLOCK_SIZE], from: usize) -> Found
+pub fn lowest_free_from(t: &[u8; Limits::BLOCK_SIZE], from: usize) -> Option<DiskBlock>
     requires { free_bits (take (64 * from) (bits_of t.now)) ≡ 0 }
     ensures { (result ≡ found_of (place 0 (bits_of t.now))) × Table t.now }
 {
     known(*t);
-    let mut at = from;
-    while at < 64 {
-        let x = !word_at(t, at);
+    for at in from..64 {
+        let x = !word_in(t, at);
         if x != 0 {
-            let b = 64 * (at as u32) + u64::trailing_zeros(x);
-            return Found::At(DiskBlock(b));
+            let b = 64 * (at as u32) + x.trailing_zeros();
+            return Some(DiskBlock(b));
         }
-        at += 1;
     }
-    Found::Nothing
-}
-
-// The lowest bit that is 0.
-pub fn lowest_free(t: &[u8; Limits::BLOCK_SIZE]) -> Found
-    ensures { (result ≡ found_of (place 0 (bits_of t.now))) × Table t.now }
-{
-    lowest_free_from(t, 0)
+    None
 }
 
 // The bit of block b becomes 1.

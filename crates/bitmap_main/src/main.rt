@@ -4,21 +4,21 @@
 ghost use Rattle.std.specs.Prelude.{◌≡◌, ◌<◌};
 ghost use Rattle.spec.specs.Bitmap.{bits_of, free_bits};
 
-use bitmap::Found;
 use spec::{DiskBlock, Limits};
+use std::fmt::Display;
 use std::io;
 
-fn number(rt: &impl Print, n: u64) -> io::Result<()> {
+fn number<D: Display + Drop>(rt: &impl Print, n: D) -> io::Result<()> {
     rt.write_all(b" ")?;
     rt.print(n)
 }
 
 fn show(rt: &impl Print, name: &[u8], t: &[u8; Limits::BLOCK_SIZE]) -> io::Result<()> {
     rt.write_all(name)?;
-    number(rt, bitmap::free_count(t) as u64)?;
-    match bitmap::lowest_free(t) {
-        Found::At(b) => number(rt, b.0 as u64)?,
-        Found::Nothing => {
+    number(rt, bitmap::free_in(t))?;
+    match bitmap::lowest_free_from(t, 0) {
+        Some(b) => number(rt, b.0)?,
+        None => {
             rt.write_all(b" none")?;
         }
     }
@@ -32,18 +32,12 @@ fn take_all(table: [u8; Limits::BLOCK_SIZE]) -> usize
     let mut t = table;
     let mut from: usize = 0;
     let mut n: usize = 0;
-    loop {
-        match bitmap::lowest_free_from(&t, from) {
-            Found::At(b) => {
-                bitmap::set_bit(&mut t, b);
-                from = (b.0 / 64) as usize;
-                n += 1;
-            }
-            Found::Nothing => {
-                return n;
-            }
-        }
+    while let Some(b) = bitmap::lowest_free_from(&t, from) {
+        bitmap::set_bit(&mut t, b);
+        from = (b.0 / 64) as usize;
+        n += 1;
     }
+    n
 }
 
 // Two neighbouring bits of a full table cleared, then the lower one set again.
@@ -71,8 +65,8 @@ fn main(rt: HostRuntime) -> io::Result<()> {
     t[7] = 0;
     show(&rt, b"formatted 64", &t)?;
     rt.write_all(b"taken")?;
-    number(&rt, take_all(t) as u64)?;
-    number(&rt, take_all(empty) as u64)?;
+    number(&rt, take_all(t))?;
+    number(&rt, take_all(empty))?;
     rt.write_all(b"\n")?;
     border(&rt, b"byte", 7)?;
     border(&rt, b"word", 63)

@@ -7,6 +7,7 @@ use native.Mathlib.Omega.{arith}
 use borrow.Author.Tests.{eqb-true, eqb-false, eq-eqb, ne_eqb}
 use lib.Dec.{eqb}
 use lib.ListN.{length, get_or}
+use Rattle.std.specs.Int.{w64, from_le_bytes}
 use Rattle.spec.specs.Bytes.{same, all_zero}
 use Rattle.block.specs.Keys.{key_of, Name}
 
@@ -24,13 +25,12 @@ eight (a ∷ b ∷ c ∷ d ∷ e ∷ f ∷ g ∷ []) h = absurd (omega arith)
 eight (a ∷ b ∷ c ∷ d ∷ e ∷ f ∷ g ∷ x ∷ []) h = refl
 eight (a ∷ b ∷ c ∷ d ∷ e ∷ f ∷ g ∷ x ∷ y ∷ xs) h = absurd (omega arith)
 
--- the number of eight bytes, as the code computes it
-pub key-is : (xs : List ℕ) (low high : ℕ) → length xs ≡ 8
-    → low ≡ get_or xs 0 0 + 256 * (get_or xs 1 0 + 256 * (get_or xs 2 0 + 256 * get_or xs 3 0))
-    → high ≡ get_or xs 4 0 + 256 * (get_or xs 5 0 + 256 * (get_or xs 6 0 + 256 * get_or xs 7 0))
-    → low + 4294967296 * high ≡ key_of xs
+-- the number of eight bytes, as std has it
+pub key-is : (xs : List ℕ) (k : ℕ) → length xs ≡ 8
+    → k ≡ from_le_bytes w64 (get_or xs 0 0 ∷ get_or xs 1 0 ∷ get_or xs 2 0 ∷ get_or xs 3 0 ∷ get_or xs 4 0 ∷ get_or xs 5 0 ∷ get_or xs 6 0 ∷ get_or xs 7 0 ∷ [])
+    → k ≡ key_of xs
 unfolding key_of
-key-is xs low high l e f = sym (ap key_of (eight xs l) ∙ omega (arith, e, f))
+key-is xs k l e = sym (ap key_of (eight xs l) ∙ omega (arith, e))
 
 -- bytes are equal where their numbers are
 pub same_key : (xs ys : List ℕ) → length xs ≡ length ys → ((i : ℕ) → get_or xs i 0 < 256) → ((i : ℕ) → get_or ys i 0 < 256) → same xs ys ≡ eqb (key_of xs) (key_of ys)

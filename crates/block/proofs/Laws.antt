@@ -2,14 +2,14 @@
 use Prim.Native.Nat.{ℕ, zero, suc, ◌+◌, ◌*◌, ◌-◌, ◌/◌, ◌%◌, ◌<◌, ◌≤◌}
 use mathlib.Core.Path.{◌≡◌, refl, sym, ap, ◌∙◌, fun_ext}
 use mathlib.Core.Bool.{Bool, true, false, cond, ◌&&◌, true≢false}
-use mathlib.Core.List.{List, [], ◌∷◌, ◌++◌, append_assoc}
+use mathlib.Core.List.{List, [], ◌∷◌, ◌++◌}
 use mathlib.Core.Logic.{◌⊎◌, inl, inr, ⊎_elim}
 use native.Mathlib.Decide.{dec_lt}
 use native.Mathlib.Omega.{arith}
 use borrow.Author.Tests.{eqb-true, eqb-false, eq-eqb, ne_eqb, leb-true}
 use lib.Dec.{eqb, leb}
 use lib.ListN.{length, take, drop, get_or, length-append, length-take, length-drop, get_or-append, get_or-eq_default}
-use lib.Seq.{ext_get_or, take-nil, take-append_seam, drop-append-add, drop-drop, get_or-take, get_or-drop, get_or-append-add}
+use lib.Seq.{ext_get_or, take-nil, get_or-take, get_or-drop, get_or-append-add}
 use Rattle.spec.specs.Bytes.{zeros, exactly, patch, number2, number4, bytes2, bytes4, same}
 use Rattle.spec.specs.Disk.{Disk, Slice, blocks_of, with_block, slice_of, is_allowed}
 
@@ -42,6 +42,11 @@ exactly-is n xs ys l h =
 
 pub exactly-all : (n : ℕ) (xs : List ℕ) → length xs ≡ n → exactly n xs ≡ xs
 exactly-all n xs l = exactly-is n xs xs l (λ i h. refl)
+
+-- the first n of enough
+pub exactly-first : (n : ℕ) (xs ys : List ℕ) → n ≤ length xs → ys ≡ take n xs → ys ≡ exactly n xs
+exactly-first n xs ys h e =
+    e ∙ sym (exactly-is n xs (take n xs) (length-take n xs ∙ omega arith) (λ i k. sym (get_or-take n xs i 0 k)))
 
 pub exactly-take : (n m : ℕ) (xs : List ℕ) → n ≤ m → exactly n (take m xs) ≡ exactly n xs
 exactly-take n m xs h =
@@ -136,17 +141,6 @@ module _ (at : ℕ) (x w : List ℕ) (fits : at + length x ≤ length w) where
       ∙ get_or-append-add x (drop (at + length x) w) k 0
       ∙ get_or-drop (at + length x) w k 0
       ∙ ap (λ (m : ℕ). get_or w m 0) q
-
--- a patch made by two
-pub patch-join : (at : ℕ) (x y w : List ℕ) → at + length x + length y ≤ length w → patch (at + length x) y (patch at x w) ≡ patch at (x ++ y) w
-patch-join at x y w fits =
-    let p : List ℕ = take at w ++ x in
-    let l : length p ≡ at + length x = simp (length-append, length-take) (omega arith) in
-    let e : patch at x w ≡ p ++ drop (at + length x) w = sym (append_assoc (take at w) x (drop (at + length x) w)) in
-    let n : length p + length y ≡ at + length (x ++ y) = omega (arith, length-append x y) in
-    let d : drop (length p + length y) (p ++ drop (length p) w) ≡ drop (at + length (x ++ y)) w =
-    drop-append-add p (drop (length p) w) (length y) ∙ drop-drop (length y) (length p) w ∙ rw n in
-    rw (e, ← l, take-append_seam p (drop (length p) w), d) (simp append_assoc)
 
 -- a block laid over
 pub blocks-patch : (b : ℕ) (x w : List ℕ) → length x ≡ 512 → 512 * b + 512 ≤ length w → blocks_of (patch (512 * b) x w) ≡ with_block b x (blocks_of w)

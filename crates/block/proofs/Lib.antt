@@ -1,3 +1,5 @@
-pub mod Laws
-pub mod Steps
 pub mod Keys
+pub mod Laws
+pub mod Lists
+pub mod Places
+pub mod Steps

@@ -1,21 +1,21 @@
 -- What the functions of this crate leave to prove. Assumes nothing.
 use Prim.Native.Nat.{ℕ, zero, suc, ◌+◌, ◌*◌, ◌-◌, ◌<◌, ◌≤◌, min}
 use mathlib.Core.Path.{◌≡◌, refl, sym, ap, ◌∙◌}
-use mathlib.Core.Bool.{Bool, true, false, ◌&&◌, and-true}
-use mathlib.Core.List.{List, [], ◌∷◌, ◌++◌, append_assoc}
+use mathlib.Core.Bool.{Bool, true, false, cond}
+use mathlib.Core.List.{List, [], ◌∷◌, ◌++◌}
 use mathlib.Core.Logic.{⊎_elim}
 use native.Mathlib.Numerals.{add-one}
 use native.Mathlib.Omega.{arith}
-use borrow.Author.Tests.{lt-ltb, le-ltb}
-use lib.Dec.{eqb, ltb}
-use lib.ListN.{length, take, drop, get_or, set, length-drop, drop_of_length-le}
-use lib.Seq.{length-take-le, take-suc, take-suc-set, take_all, drop-drop, drop-cons, sets-eq}
-use Rattle.spec.specs.Bytes.{exactly, patch, same}
-use Rattle.spec.specs.Disk.{slice_of, area_of, is_data_area, is_target_area, in_data, is_target}
-use Rattle.spec.specs.declared.Area.{Area}
-use Rattle.spec.specs.declared.Area.TheVariants.{Log, Inodes, Data}
+use borrow.Author.Tests.{lt-ltb, le-ltb, le-leb, lt-leb}
+use lib.Dec.{leb, ltb}
+use Rattle.std.proofs.lemmas.List.{drop-replicate}
+use lib.ListN.{length, take, drop, get_or, set, replicate, length-drop, drop_of_length-le}
+use lib.Seq.{take-suc, take-suc-set, take-nil, take_all, drop-drop}
+use Rattle.spec.specs.Bytes.{exactly}
+use Rattle.spec.specs.Disk.{slice_of, area_of, is_data_area, is_target_area}
+use Rattle.spec.specs.declared.Area.TheVariants.{Header, Log, Bitmap, Inodes, Data}
 use Rattle.block.specs.Stores.{stored_in}
-use Rattle.block.proofs.Laws.{lt-or-le, exactly-take, length-patch, blocks-patch}
+use Rattle.block.proofs.Laws.{lt-or-le, length-patch, blocks-patch}
 
 -- ---- areas
 
@@ -31,23 +31,43 @@ pub area-data : (b : ℕ) → 42 ≤ b → Data ≡ area_of b
 unfolding area_of
 area-data b g = simp (le-ltb b 1 (omega arith), le-ltb b 33 (omega arith), le-ltb b 34 (omega arith), le-ltb b 42 (omega arith))
 
--- a test of the area and of the place on the device
-by-area : (f : Area → Bool) (t : Bool) (b : ℕ) (x a : Area) → x ≡ area_of b → x ≡ a → f a && t ≡ f (area_of b) && t
-by-area f t b x a e q = rw (← e, q)
+-- the areas of data blocks and of targets are the last ones
+pub data-area : (b : ℕ) → leb 42 b ≡ is_data_area (area_of b)
+unfolding area_of
+data-area b = ⊎_elim below above (lt-or-le b 42)
+  where
+    below : b < 42 → leb 42 b ≡ is_data_area (area_of b)
+    below h = rw (lt-leb 42 b h, lt-ltb b 42 h) (go (ltb b 1) (ltb b 33) (ltb b 34))
+      where
+        go : (t u v : Bool) → false ≡ is_data_area (cond t Header (cond u Log (cond v Bitmap Inodes)))
+        go true u v = refl
+        go false true v = refl
+        go false false true = refl
+        go false false false = refl
 
-pub data-by : (n b : ℕ) (x a : Area) → x ≡ area_of b → x ≡ a → is_data_area a && ltb b n ≡ in_data n b
-unfolding in_data
-data-by n b x a e q = by-area is_data_area (ltb b n) b x a e q
+    above : 42 ≤ b → leb 42 b ≡ is_data_area (area_of b)
+    above h = rw (le-leb 42 b h, ← area-data b h)
 
-pub target-by : (n b : ℕ) (x a : Area) → x ≡ area_of b → x ≡ a → is_target_area a && ltb b n ≡ is_target n b
-unfolding is_target
-target-by n b x a e q = by-area is_target_area (ltb b n) b x a e q
+pub target-area : (b : ℕ) → leb 33 b ≡ is_target_area (area_of b)
+unfolding area_of
+target-area b = ⊎_elim below above (lt-or-le b 33)
+  where
+    below : b < 33 → leb 33 b ≡ is_target_area (area_of b)
+    below h = rw (lt-leb 33 b h, lt-ltb b 33 h) (go (ltb b 1))
+      where
+        go : (t : Bool) → false ≡ is_target_area (cond t Header Log)
+        go true = refl
+        go false = refl
+
+    above : 33 ≤ b → leb 33 b ≡ is_target_area (area_of b)
+    above h = rw (le-leb 33 b h, le-ltb b 1 (omega arith), le-ltb b 33 h) (go (ltb b 34) (ltb b 42))
+      where
+        go : (u v : Bool) → true ≡ is_target_area (cond u Bitmap (cond v Inodes Data))
+        go true v = refl
+        go false true = refl
+        go false false = refl
 
 -- ---- stores
-
--- two bytes stored
-pub patch-two : (at a b : ℕ) (w : List ℕ) → at + 2 ≤ length w → set (set w at a) (at + 1) b ≡ patch at (a ∷ b ∷ []) w
-patch-two at a b w h = rw (add-one, sets-eq (a ∷ b ∷ []) w at h) (append_assoc (take at w) (a ∷ b ∷ []) (drop (at + 2) w))
 
 -- the part that is block b, lent and given back with x in it
 pub slice-stored : (b : ℕ) (x y w : List ℕ) → y ≡ x → length x ≡ 512 → 512 * b + 512 ≤ length w
@@ -57,32 +77,7 @@ slice-stored b x y w e full fits =
     let k : 512 * b + 512 - 512 * b ≡ length x = omega arith in
     rw (e, k, drop-drop (length x) (512 * b) w, length-patch (512 * b) x w f, blocks-patch b x w full fits)
 
--- the first k bytes of x stored
-pub placed-more : (k x : ℕ) (to from : List ℕ) → take k to ≡ take k from → k < length to → k < length from → x ≡ get_or from k 0
-    → take (k + 1) (set to k x) ≡ take (k + 1) from
-placed-more k x to from e h m q =
-    rw (add-one k) (take-suc-set to k x h ∙ ap (λ (l : List ℕ). l ++ (x ∷ [])) e ∙ ap (λ (y : ℕ). take k from ++ (y ∷ [])) q ∙ sym (take-suc from k 0 m))
-
-pub placed-all : (k n : ℕ) (to from : List ℕ) → take k to ≡ take k from → length to ≡ n → length from ≡ n → n ≤ k → to ≡ from
-placed-all k n to from e a b h = sym (take_all k to (omega arith)) ∙ e ∙ take_all k from (omega arith)
-
 -- ---- blocks read
-
--- a byte stored behind those copied so far
-pub set-exactly : (n : ℕ) (xs : List ℕ) (a : ℕ) → set (exactly n xs) (length xs) a ≡ exactly n (xs ++ (a ∷ []))
-set-exactly zero xs a = refl
-set-exactly (suc n) [] a = refl
-set-exactly (suc n) (x ∷ xs) a = ap (λ (l : List ℕ). x ∷ l) (set-exactly n xs a)
-
--- the first k of some bytes copied over zeros
-unfoldable pub fetched : ℕ → List ℕ → List ℕ
-fetched k xs = exactly 512 (take k xs)
-
-pub fetched-more : (k : ℕ) (xs out : List ℕ) → out ≡ fetched k xs → k < length xs → set out k (get_or xs k 0) ≡ fetched (k + 1) xs
-unfolding fetched
-fetched-more k xs out e h =
-    let l : k ≡ length (take k xs) = sym (length-take-le k xs (omega arith)) in
-    rw (e, add-one, take-suc xs k 0 h) (ap (λ (m : ℕ). set (exactly 512 (take k xs)) m (get_or xs k 0)) l ∙ set-exactly 512 (take k xs) (get_or xs k 0))
 
 -- as many as there are
 take_within : (n k : ℕ) (xs : List ℕ) → k ≡ min n (length xs) → take k xs ≡ take n xs
@@ -91,26 +86,39 @@ take_within n k xs h =
     (λ (g : length xs ≤ n). take_all k xs (omega arith) ∙ sym (take_all n xs g))
     (lt-or-le n (length xs))
 
-pub fetched-all : (k : ℕ) (xs out : List ℕ) → out ≡ fetched k xs → k ≡ min 512 (length xs) → out ≡ exactly 512 xs
-unfolding fetched
-fetched-all k xs out e h = e ∙ ap (exactly 512) (take_within 512 k xs h) ∙ exactly-take 512 512 xs (omega arith)
+-- the first n of some bytes over zeros
+pub filled : (n : ℕ) (xs ys : List ℕ) → n ≡ min 512 (length xs) → ys ≡ take n xs → ys ++ drop n (replicate 512 0) ≡ exactly 512 xs
+filled n xs ys h e =
+    rw (e, take_within 512 n xs h, drop-replicate {X = ℕ} n 512 0) (ap (λ k. take 512 xs ++ replicate k 0) (omega arith) ∙ over 512 xs)
+  where
+    over : (m : ℕ) (zs : List ℕ) → take m zs ++ replicate (m - length zs) 0 ≡ exactly m zs
+    over zero zs = let z : 0 - length zs ≡ 0 = omega arith in rw z
+    over (suc m) [] =
+        let n : suc m - 0 ≡ suc (m - 0) = omega arith in
+        rw n (ap (λ ys. 0 ∷ ys) (ap (λ ys. ys ++ replicate (m - 0) 0) (sym (take-nil {A = ℕ} m)) ∙ over m []))
+    over (suc m) (z ∷ zs) =
+        let n : suc m - suc (length zs) ≡ m - length zs = omega arith in
+        rw n (ap (λ ys. z ∷ ys) (over m zs))
 
--- the part of some bytes that is block b
-pub part-past : (xs : List ℕ) (b : ℕ) → length xs ≤ 512 * b → [] ≡ take 512 (drop (512 * b) xs)
-part-past xs b h = rw (drop_of_length-le xs h)
+-- a part of some bytes, as far as they reach
+pub part_in : (xs : List ℕ) (n m from end : ℕ) → from ≡ min (length xs) n → end ≡ min (length xs) (n + m) → take (end - from) (drop from xs) ≡ take m (drop n xs)
+part_in xs n m from end e f = ⊎_elim past inside (lt-or-le (length xs) n)
+  where
+    past : length xs < n → take (end - from) (drop from xs) ≡ take m (drop n xs)
+    past h = rw (drop_of_length-le xs {i = n} (omega arith), drop_of_length-le xs {i = from} (omega arith), take-nil {A = ℕ} m, take-nil {A = ℕ} (end - from))
 
-pub part_in : (xs : List ℕ) (b n : ℕ) → n ≡ min 512 (length xs - 512 * b) → take (512 * b + n - 512 * b) (drop (512 * b) xs) ≡ take 512 (drop (512 * b) xs)
-part_in xs b n h =
-    take_within 512 (512 * b + n - 512 * b) (drop (512 * b) xs) (rw length-drop (omega arith))
+    inside : n ≤ length xs → take (end - from) (drop from xs) ≡ take m (drop n xs)
+    inside h =
+        let z : from ≡ n = omega arith in
+        rw z (take_within m (end - n) (drop n xs) (rw length-drop (omega arith)))
 
--- the first k bytes of two lists compared
-pub compared-more : (k : ℕ) (x y : List ℕ) (t : Bool) → same x y ≡ t && same (drop k x) (drop k y) → k < length x → k < length y
-    → same x y ≡ t && eqb (get_or x k 0) (get_or y k 0) && same (drop (k + 1) x) (drop (k + 1) y)
-compared-more k x y false e hx hy = e
-compared-more k x y true e hx hy = e ∙ rw (add-one, drop-cons x k 0 hx, drop-cons y k 0 hy)
+-- ---- for loops that store byte by byte
 
-pub compared-all : (n k : ℕ) (x y : List ℕ) (t : Bool) → same x y ≡ t && same (drop k x) (drop k y) → length x ≡ n → length y ≡ n → n ≤ k → t ≡ same x y
-compared-all n k x y t e lx ly h =
-    let dx : drop k x ≡ [] = drop_of_length-le x {i = k} (omega arith) in
-    let dy : drop k y ≡ [] = drop_of_length-le y {i = k} (omega arith) in
-    sym (e ∙ rw (dx, dy) (and-true t))
+-- the first k bytes of x stored
+pub placed-more : (k x : ℕ) (to from : List ℕ) → take k to ≡ take k from → k < length to → k < length from → x ≡ get_or from k 0
+    → take (k + 1) (set to k x) ≡ take (k + 1) from
+placed-more k x to from e h m q =
+    rw (add-one k) (take-suc-set to k x h ∙ ap (λ (l : List ℕ). l ++ (x ∷ [])) e ∙ ap (λ (y : ℕ). take k from ++ (y ∷ [])) q ∙ sym (take-suc from k 0 m))
+
+pub placed-all : (k n : ℕ) (to from : List ℕ) → take k to ≡ take k from → length to ≡ n → length from ≡ n → n ≤ k → to ≡ from
+placed-all k n to from e a b h = sym (take_all k to (omega arith)) ∙ e ∙ take_all k from (omega arith)

@@ -1,2 +1,3 @@
-pub mod Stores
 pub mod Keys
+pub mod Places
+pub mod Stores

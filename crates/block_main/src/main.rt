@@ -86,14 +86,14 @@ fn blocks(rt: &impl Print) -> io::Result<()> {
     block::store_block(&mut image, DiskBlock(1), &x);
     show_ends(rt, &image)?;
     let y = block::copy_of(block::block_in(&image, DiskBlock(1)));
-    show_bool(rt, block::same_block(&x, &y))?;
+    show_bool(rt, x == y)?;
     end_line(rt)?;
     block::clear_block(&mut image, DiskBlock(1));
     show_ends(rt, &image)?;
     let z = block::copy_of(block::block_in(&image, DiskBlock(1)));
-    show_bool(rt, block::same_block(&x, &z))?;
+    show_bool(rt, x == z)?;
     let past = block::copy_of(block::block_in(&image, DiskBlock(4294967295)));
-    show_bool(rt, block::same_block(&past, &z))?;
+    show_bool(rt, past == z)?;
     end_line(rt)
 }
 

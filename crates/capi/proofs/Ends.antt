@@ -3,31 +3,27 @@ use Prim.Native.Nat.{ℕ}
 use mathlib.Core.Path.{◌≡◌, refl, sym, ap, ap₂, ◌∙◌, subst}
 use mathlib.Core.Bool.{Bool, true, false, cond}
 use mathlib.Core.List.{List}
-use Rattle.spec.specs.declared.Phase.{Phase}
+use Rattle.std.specs.Prelude.{Ok, Err, is_ok}
+use Rattle.std.specs.Prelude.{Result as Returned}
 use Rattle.spec.specs.declared.Session.{Session}
 use Rattle.spec.specs.declared.Refusal.{Refusal}
 use Rattle.spec.specs.declared.Refusal.TheVariants.{DeviceSize, WorkSize, BadName, TooLarge, BadHeader, Unsound, NotReady, Unknown, Taken, NoInode, NoSpace, TooManyExtents, TooManyStaged, ListShort}
-use Rattle.spec.specs.declared.Done.{Done}
-use Rattle.spec.specs.declared.Done.TheVariants as done-cases
-use Rattle.spec.specs.declared.Started.{Started}
-use Rattle.spec.specs.declared.Started.TheVariants as started-cases
-use Rattle.spec.specs.declared.Stored.{Stored}
-use Rattle.spec.specs.declared.Stored.TheVariants as stored-cases
-use Rattle.spec.specs.Answers.{Answer, is_refused, refusal_of, done_of, started_of, stored_of}
+use Rattle.spec.specs.Answers.{Answer, is_refused, refusal_of, started_of}
 use Rattle.spec.specs.Transaction.{State, state_of}
 use Rattle.spec.specs.Calls.{Outcome, outcome, left}
 use Rattle.block.proofs.Laws.{slice-bytes}
 use Rattle.transaction.specs.Places.{session_of}
-use Rattle.journal.specs.Entries.{behind}
-use Rattle.mirror.specs.declared.Head.{Head}
+use Rattle.checks.specs.Checks.{changed_of, in_use}
+use Rattle.capi.specs.declared.Parts.{Parts}
+use Rattle.capi.specs.Cells.{parts_in}
 use Rattle.mirror.specs.declared.CFinished.{CFinished}
-use Rattle.mirror.specs.Mirror.{phase_of, head_in, numbers_of, head_of, encode, decode, finished_of, Lent, lent, state_in, unless_refused, Leaves, Ends}
+use Rattle.mirror.specs.Mirror.{head_in, numbers_of, head_of, encode, decode, finished_of, Lent, lent, state_in, unless_refused, Leaves, Ends}
 use Rattle.mirror.proofs.Laws.{decode-encode}
-use Rattle.capi.proofs.Kept.{Still}
+use Rattle.capi.proofs.Kept.{true≢false, Still}
 
 -- ---- what a function that writes only behind an accepted call leaves
 
-refused-told : (r : Refusal) → is_refused (refusal_of r) ≡ true
+pub refused-told : (r : Refusal) → is_refused (refusal_of r) ≡ true
 refused-told DeviceSize = refl
 refused-told WorkSize = refl
 refused-told BadName = refl
@@ -43,14 +39,13 @@ refused-told TooManyExtents = refl
 refused-told TooManyStaged = refl
 refused-told ListShort = refl
 
-pub done_refused : (x : Done) (r : Refusal) → x ≡ done-cases.Refused r → is_refused (done_of x) ≡ true
-done_refused x r e = ap (λ (y : Done). is_refused (done_of y)) e ∙ refused-told r
+pub started-ok : (x : Returned ℕ Refusal) → is_ok x ≡ true → is_refused (started_of x) ≡ false
+started-ok (Ok n) e = refl
+started-ok (Err r) e = absurd (true≢false (sym e))
 
-pub started-refused : (x : Started) (r : Refusal) → x ≡ started-cases.Refused r → is_refused (started_of x) ≡ true
-started-refused x r e = ap (λ (y : Started). is_refused (started_of y)) e ∙ refused-told r
-
-pub stored_refused : (x : Stored) (r : Refusal) → x ≡ stored-cases.Refused r → is_refused (stored_of x) ≡ true
-stored_refused x r e = ap (λ (y : Stored). is_refused (stored_of y)) e ∙ refused-told r
+pub started-err : (x : Returned ℕ Refusal) → is_ok x ≡ false → is_refused (started_of x) ≡ true
+started-err (Ok n) e = absurd (true≢false e)
+started-err (Err r) e = refused-told r
 
 module _ (a : Answer) (before after : List ℕ) where
   pub stays : is_refused a ≡ true → before ≡ unless_refused a before after
@@ -64,12 +59,11 @@ module _ (a : Answer) (before after : List ℕ) where
   pub becomes : (now : List ℕ) → is_refused a ≡ false → now ≡ after → now ≡ unless_refused a before after
   becomes now t e = e ∙ moves t
 
--- the numbers behind an advance that finds nothing under way
-pub head-same : (h : Head) (p : Phase) (l : List ℕ) → p ≡ phase_of h.phase h.place → (a : Stored) → behind p (decode h l) a ≡ decode h l
-    → head_of h.blocks p h.count ≡ encode (behind p (decode h l) a)
-head-same h p l e a f = rw f (ap (λ (q : Phase). head_of h.blocks q h.count) e)
-
 -- ---- all that is lent
+
+-- the session of lent numbers and cells, in the parts in which it is handed on
+pub lent-session : (s : Parts) (ns cells : List ℕ) → s ≡ parts_in ns → session_of s.blocks s.phase cells s.count ≡ decode (head_in ns) cells
+lent-session s ns cells is = ap (λ (x : Parts). session_of x.blocks x.phase cells x.count) is
 
 same-lent : (ns ms cells l d e w v : List ℕ) → ns ≡ ms → cells ≡ l → d ≡ e → w ≡ v → lent ns cells d w ≡ lent ms l e v
 same-lent ns ms cells l d e w v a b c x = ap₂ (λ (i j : List ℕ). lent i j d w) a b ∙ ap₂ (λ (i j : List ℕ). lent ms l i j) c x
@@ -119,12 +113,12 @@ module _ (b : Lent) (o : Outcome) (k : Still (outcome (state_in b)) o) (s : Sess
         subst (λ (x : Outcome). Leaves m r b (lent ns l d w) x) e
         (record { answer = g; refusal = kept; state = state-left; head = numbers-new })
 
--- a call f on lent numbers and cells, in the parts in which it was handed on
-module _ (f : State → Outcome) (k : (s : State) → Still (outcome s) (f s)) (ns cells device work : List ℕ) (h : Head) (is : h ≡ head_in ns) where
-  module _ {R : Type 0} (m : Answer → R) (s : Session) (d w : List ℕ) (a : Answer) (q : left s d w a ≡ f (state_of (decode h cells) device work)) (r : R) (g : r ≡ m a) (after l : List ℕ)
+-- a call f on lent numbers and cells, handed on as session b
+module _ (f : State → Outcome) (k : (s : State) → Still (outcome s) (f s)) (ns cells device work : List ℕ) (b : Session) (is : b ≡ decode (head_in ns) cells) where
+  module _ {R : Type 0} (m : Answer → R) (s : Session) (d w : List ℕ) (a : Answer) (q : left s d w a ≡ f (state_of b device work)) (r : R) (g : r ≡ m a) (after l : List ℕ)
       (n : after ≡ unless_refused a ns (numbers_of (encode s))) where
     at-lent : left s d w a ≡ f (state_of (decode (head_in ns) cells) device work)
-    at-lent = q ∙ ap (λ (x : Head). f (state_of (decode x cells) device work)) is
+    at-lent = q ∙ ap (λ (x : Session). f (state_of x device work)) is
 
     pub ends_of : l ≡ s.staged → Ends m r (lent ns cells device work) (lent after l d w) f
     ends_of c = leaves (lent ns cells device work) (f (state_of (decode (head_in ns) cells) device work)) (k (state_of (decode (head_in ns) cells) device work)) s d w a at-lent after l n c m r g
@@ -133,10 +127,12 @@ module _ (f : State → Outcome) (k : (s : State) → Still (outcome s) (f s)) (
     pub ends-settled : l ≡ unless_refused a cells s.staged → Ends m r (lent ns cells device work) (lent after l d w) f
     ends-settled c = ends_of (c ∙ cells_left (lent ns cells device work) (f (state_of (decode (head_in ns) cells) device work)) (k (state_of (decode (head_in ns) cells) device work)) s d w a at-lent)
 
-  -- a call that is lent the cells
-  pub ends-in : (p : Phase) (left-cells : List ℕ) (count : ℕ) (d w : List ℕ) (a : Answer) → p ≡ phase_of h.phase h.place
-      → left (session_of h.blocks p left-cells count) d w a ≡ f (state_of (session_of h.blocks p cells h.count) device work)
-      → (r : CFinished) (after : List ℕ) → (r ≡ finished_of a) × (after ≡ unless_refused a ns (numbers_of (head_of h.blocks p count)))
+-- a call that is lent the cells
+module _ (f : State → Outcome) (k : (s : State) → Still (outcome s) (f s)) (ns cells device work : List ℕ) (s : Parts) (is : s ≡ parts_in ns) where
+  pub ends-in : (c : Returned ℕ Refusal) (left-cells d w : List ℕ)
+      → left (session_of s.blocks s.phase left-cells (in_use s.count c)) d w (changed_of c) ≡ f (state_of (session_of s.blocks s.phase cells s.count) device work)
+      → (r : CFinished) (after : List ℕ) → (r ≡ finished_of (changed_of c)) × (after ≡ unless_refused (changed_of c) ns (numbers_of (head_of s.blocks s.phase (in_use s.count c))))
       → Ends finished_of r (lent ns cells device work) (lent after left-cells d w) f
-  ends-in p left-cells count d w a e q r after g =
-      ends_of finished_of (session_of h.blocks p left-cells count) d w a (q ∙ ap (λ (x : Phase). f (state_of (session_of h.blocks x cells h.count) device work)) e) r g.0 after left-cells g.1 refl
+  ends-in c left-cells d w q r after g =
+      ends_of f k ns cells device work (session_of s.blocks s.phase cells s.count) (lent-session s ns cells is) finished_of (session_of s.blocks s.phase left-cells (in_use s.count c)) d w
+      (changed_of c) q r g.0 after left-cells g.1 refl

@@ -5,17 +5,16 @@ use native.Mathlib.Numerals.{add-one}
 use mathlib.Core.Path.{◌≡◌, refl, sym, ap, ◌∙◌, subst}
 use mathlib.Core.Bool.{Bool, true, false}
 use mathlib.Core.List.{List, [], ◌∷◌, ◌++◌}
+use Rattle.std.specs.Prelude.{Ok, Err}
+use Rattle.std.specs.Prelude.{Result as Returned}
 use mathlib.Core.Logic.{◌⊎◌, inl, inr}
 use borrow.Author.Tests.{eqb-true, eqb-false}
 use lib.Dec.{eqb}
 use lib.ListN.{length, take, drop, get_or, length-take, length-drop, length-set}
 use lib.Seq.{take-length, take_all}
 use Rattle.spec.specs.declared.Extent.{Extent}
-use Rattle.spec.specs.declared.Counted.{Counted}
-use Rattle.spec.specs.declared.Counted.TheVariants.{Refused, Count}
 use Rattle.spec.specs.declared.Refusal.{Refusal}
 use Rattle.spec.specs.declared.Refusal.TheVariants.{ListShort}
-use Rattle.spec.specs.declared.Phase.{Phase}
 use Rattle.spec.specs.Inode.{extent}
 use Rattle.spec.specs.Answers.{refuse, accept, counted_of as answer_of}
 use Rattle.spec.specs.Transaction.{State}
@@ -29,12 +28,7 @@ use Rattle.extents.proofs.Laws.{BegunIn, Grown, grow-none, grow_last}
 use Rattle.runlist.specs.Lists.{counts_of, count_ok, named_runs, many_of, filled}
 use Rattle.runlist.proofs.Laws.{Told, told, count-bad, count-fine, count-short}
 use Rattle.mirror.specs.declared.CCounted.{CCounted}
-use Rattle.mirror.specs.declared.Head.{Head}
-use Rattle.mirror.specs.Mirror.{phase_of, head_in, decode, counted_of, Stays, Lists, extents_of, with_extents}
-use Rattle.checks.specs.Checks.{Seen}
-use Rattle.transaction.specs.Places.{session_of}
-use Rattle.lookup.proofs.Laws.{seen-lent}
-use Rattle.transaction.proofs.Laws.{length-staged, lent-few}
+use Rattle.mirror.specs.Mirror.{counted_of, Stays, Lists, extents_of, with_extents}
 use Rattle.capi.specs.Cells.{put_at, Put, Last, Listed}
 use Rattle.capi.proofs.Kept.{true≢false}
 use Rattle.mirror.proofs.Cells.{length-extents, with_none, with-next, with_rest}
@@ -179,7 +173,7 @@ listed-all es fs before after r l e h =
 -- ---- what is answered and left in the cells
 
 module _ (s : State) (name : List ℕ) (from n : ℕ) (cells : List ℕ) where
-  module _ (a : Counted) (e : counts_of a ≡ count_ok s name from n (length cells / 2)) where
+  module _ (a : Returned ℕ Refusal) (e : counts_of a ≡ count_ok s name from n (length cells / 2)) where
     told_in : Told s (length (extents_of cells)) (named_runs s name from n) (extents_of cells) a (run_list s name from n (extents_of cells))
     told_in = told s name from n (extents_of cells) a (e ∙ ap (count_ok s name from n) (sym (length-extents cells)))
 
@@ -197,8 +191,8 @@ module _ (s : State) (name : List ℕ) (from n : ℕ) (cells : List ℕ) where
         → Lists (counted_of (answer_of a)) cells after (run_list s name from n (extents_of cells))
     listed after g k = subst (λ (o : Outcome). Lists (counted_of (answer_of a)) cells after o) told_in.outcome (refl, g ∙ rest, k)
 
-  pub list-bad : (r : Refusal) → refuse r ≡ file_ok s name → Lists (counted_of (answer_of (Refused r))) cells cells (run_list s name from n (extents_of cells))
-  list-bad r e = listed (Refused r) (count-bad s name from n (length cells / 2) r e) cells (sym (with_none cells)) (λ t. refl)
+  pub list-bad : (r : Refusal) → refuse r ≡ file_ok s name → Lists (counted_of (answer_of (Err r))) cells cells (run_list s name from n (extents_of cells))
+  list-bad r e = listed (Err r) (count-bad s name from n (length cells / 2) r e) cells (sym (with_none cells)) (λ t. refl)
 
   module _ (i count : ℕ) (e : accept i ≡ file_ok s name) (c : count ≡ length (runs_of s i from n)) where
     all_runs : runs_of s i from n ≡ take count (named_runs s name from n)
@@ -206,27 +200,16 @@ module _ (s : State) (name : List ℕ) (from n : ℕ) (cells : List ℕ) where
     all_runs = rw (← e, c) (sym (take-length (runs_of s i from n)))
 
     pub list-fine : (after : List ℕ) → count ≤ length cells / 2 → after ≡ with_extents cells (runs_of s i from n)
-        → Lists (counted_of (answer_of (Count count))) cells after (run_list s name from n (extents_of cells))
-    list-fine after h g = listed (Count count) (count-fine s name from n (length cells / 2) i count e c h) after (g ∙ ap (with_extents cells) all_runs) (λ t. absurd (true≢false (sym t)))
+        → Lists (counted_of (answer_of (Ok count))) cells after (run_list s name from n (extents_of cells))
+    list-fine after h g = listed (Ok count) (count-fine s name from n (length cells / 2) i count e c h) after (g ∙ ap (with_extents cells) all_runs) (λ t. absurd (true≢false (sym t)))
 
-    pub list-short : length cells / 2 < count → Lists (counted_of (answer_of (Refused ListShort))) cells cells (run_list s name from n (extents_of cells))
-    list-short h = listed (Refused ListShort) (count-short s name from n (length cells / 2) i count e c h) cells (sym (with_none cells)) (λ t. refl)
-
--- ---- the session that numbers and cells stand for
-
-module _ (h : Head) (l : List ℕ) (n : ℕ) (k : length l ≡ 32) (e : n ≡ min h.count 32) where
-  -- it is seen by the numbers and the cells in use
-  pub seen : (p : Phase) → p ≡ phase_of h.phase h.place → Seen h.blocks p (take (n - 0) (drop 0 l)) (decode h l)
-  seen p f =
-      record { head = record { size = refl; at-phase = sym f }; numbers = (seen-lent (decode h l) n k (e ∙ sym (length-staged (decode h l) k))).numbers }
-
-  pub few : length (take (n - 0) (drop 0 l)) ≤ 32
-  few = lent-few (decode h l) n k (omega (arith, e))
+    pub list-short : length cells / 2 < count → Lists (counted_of (answer_of (Err ListShort))) cells cells (run_list s name from n (extents_of cells))
+    list-short h = listed (Err ListShort) (count-short s name from n (length cells / 2) i count e c h) cells (sym (with_none cells)) (λ t. refl)
 
 -- the run list in numbers
 pub in-numbers : (r q : CCounted) (before after : List ℕ) (o : Outcome) → r ≡ q → Lists q before after o → Lists r before after o
 in-numbers r q before after o e l = rw e l
 
--- the session of lent numbers and cells, in the parts in which it is handed on
-pub lent-session : (h : Head) (ns cells : List ℕ) (p : Phase) → p ≡ phase_of h.phase h.place → h ≡ head_in ns → session_of h.blocks p cells h.count ≡ decode (head_in ns) cells
-lent-session h ns cells p e is = ap (λ (q : Phase). session_of h.blocks q cells h.count) e ∙ ap (λ (x : Head). decode x cells) is
+-- the cells in use are at most 32
+pub few : (l : List ℕ) (n : ℕ) → length l ≡ 32 → n ≤ 32 → length (take (n - 0) (drop 0 l)) ≤ 32
+few l n k e = simp (length-take, length-drop) (omega arith)

@@ -7,52 +7,87 @@
 
 ghost use Rattle.std.specs.Prelude.{◌≡◌, List, ℕ, ◌<◌, ◌≤◌, length};
 ghost use Rattle.spec.specs.Answers.{done_of, started_of, stored_of, counted_of as answer_of};
-ghost use Rattle.spec.specs.Transaction.{state_of};
+ghost use Rattle.spec.specs.Transaction.{State, state_of};
 ghost use Rattle.spec.specs.Calls.{format, open_store, advance, commit, abort, create, remove, rename, write, set_size, read, size_of, free_count, record_at, nth_extent, run_list};
-ghost use Rattle.spec.specs.declared.Session.{Session};
-ghost use Rattle.spec.specs.declared.Phase.{Phase};
-ghost use Rattle.mirror.specs.declared.Head.{Head};
 ghost use Rattle.journal.specs.Entries.{behind, begun_phase};
-ghost use Rattle.checks.specs.Checks.{Seen};
-ghost use Rattle.transaction.specs.Places.{view_in};
+ghost use Rattle.checks.specs.Checks.{changed_of, in_use};
+ghost use Rattle.transaction.specs.Places.{session_of};
+ghost use Rattle.transaction.specs.Volumes.{working, Shows};
 ghost use Rattle.extents.specs.Stretches.{runs_in};
-ghost use Rattle.capi.specs.Cells.{Put, Last, Listed};
-ghost use Rattle.mirror.specs.Mirror.{phase_of, head_in, numbers_of, head_of, decode, encode, finished_of, committed_of, advanced_of, counted_of, run_of, unless_refused, lent, Ends, Reads, Names, Lists, extents_of};
+ghost use Rattle.capi.specs.Cells.{parts_in, Put, Last, Listed};
+ghost use Rattle.mirror.specs.Mirror.{head_in, numbers_of, head_of, decode, encode, finished_of, committed_of, advanced_of, counted_of, run_of, unless_refused, lent, Ends, Reads, Names, Lists, extents_of};
 
-use checks::Changed;
-use extents::{AtNode, AtSlot, pass_slots, stretch_at, take_node, take_slot};
-use inode::inode_block_in;
+use extents::{AtSlot, pass_slots, stretch_at, take_node, take_slot};
+use inode::inode_block;
 use journal::{advance_in, begun_phase, commit_in, last_phase, phase_at};
-use lookup::{Looked, look_up};
+use lookup::look_up;
 use mirror::{
-    CAdvanced, CCommitted, CCounted, CFinished, CRecord, CRun, Head, advanced, committed, counted,
-    decode, encode, finished, head_in, head_of, keep, phase_in, recorded, run, staged_in,
+    CAdvanced, CCommitted, CCounted, CFinished, CRecord, CRun, advanced, committed, counted,
+    decode, encode, finished, head_in, head_of, keep, phase_in, recorded, run,
 };
 use query::{free_count_in, nth_extent_in, read_in, record_in, size_in};
-use spec::{
-    ByteOffset, Counted, Done, Extent, FileBlock, Finished, Limits, Phase, Refusal, Started, Stored,
-};
+use spec::{Answered, BlockStored, ByteOffset, Extent, FileBlock, Limits, Phase, Refusal};
 use store::{abort, format, open_store};
-use transaction::view_in;
+use transaction::{Volume, WorkingCopy, staged_in};
 use update::{create_in, remove_in, rename_in, set_size_in, write_in};
 
+// The session that lent numbers stand for, but for its cells: how many of them are in use.
+#[derive(Clone, Copy)]
+struct Parts {
+    blocks: usize,
+    phase: Phase,
+    count: usize,
+}
+
+impl Parts {
+    fn of(numbers: &[u64; 4]) -> Parts
+        ensures { result ≡ parts_in numbers.now }
+    {
+        let head = head_in(numbers);
+        Parts {
+            blocks: head.blocks as usize,
+            phase: phase_in(head),
+            count: head.count as usize,
+        }
+    }
+
+    // The volume and its session as a call reads them, where these cells are lent.
+    fn volume<'a>(
+        self,
+        device: &'a [u8],
+        work: &'a [u8],
+        staged: &'a [u32; Limits::LOG_LENGTH],
+    ) -> Volume<'a>
+        ensures { Shows result (state_of (session_of self.blocks self.phase staged.now self.count) device.now work.now) }
+    {
+        Volume::with_cells(device, work, self.blocks, self.phase, staged, self.count)
+    }
+
+    // The numbers become those of a session on the same blocks.
+    fn keep(self, numbers: &mut [u64; 4], phase: Phase, count: usize)
+        ensures { numbers.new ≡ numbers_of (head_of self.blocks phase count) }
+    {
+        keep(numbers, head_of(self.blocks as u64, phase, count as u64));
+    }
+}
+
 // What a call of a session by value leaves: nothing new where it is refused.
-fn settled(numbers: &mut [u64; 4], staged: &mut [u32; Limits::LOG_LENGTH], f: Finished) -> CFinished
+fn settled(
+    numbers: &mut [u64; 4],
+    staged: &mut [u32; Limits::LOG_LENGTH],
+    f: Answered<()>,
+) -> CFinished
     ensures { (result ≡ finished_of (done_of f.answer))
         × (numbers.new ≡ unless_refused (done_of f.answer) numbers.old (numbers_of (encode f.session)))
         × (staged.new ≡ unless_refused (done_of f.answer) staged.old f.session.staged) }
 {
-    let answer = f.answer;
     let s = f.session;
-    match answer {
-        Done::Refused(_) => finished(answer),
-        Done::Done => {
-            let cells = s.staged;
-            *staged = cells;
-            keep(numbers, encode(s));
-            finished(answer)
-        }
+    if let Ok(()) = f.answer {
+        let cells = s.staged;
+        *staged = cells;
+        keep(numbers, encode(s));
     }
+    finished(f.answer)
 }
 
 // Makes an empty store. The work space is not lent: whatever it holds stays.
@@ -85,45 +120,28 @@ pub extern "C" fn purse_open_v(
     settled(numbers, staged, after)
 }
 
-// The numbers behind an answer of advance: the same where it is a refusal.
-fn keep_behind(numbers: &mut [u64; 4], h: Head, phase: Phase, answer: Stored)
-    ensures { (l : List ℕ) → phase ≡ phase_of h.phase h.place
-        → numbers.new ≡ unless_refused (stored_of answer) numbers.old (numbers_of (encode (behind phase (decode h l) answer))) }
+// The numbers and cells behind an answer of advance: the same where it is a refusal. No cell is in use behind the last store.
+fn keep_behind(
+    numbers: &mut [u64; 4],
+    staged: &mut [u32; Limits::LOG_LENGTH],
+    s: Parts,
+    answer: Result<Option<BlockStored>, Refusal>,
+)
+    ensures { (numbers.new ≡ unless_refused (stored_of answer) numbers.old
+        (numbers_of (encode (behind s.phase (session_of s.blocks s.phase staged.old s.count) answer))))
+        × (staged.new ≡ (behind s.phase (session_of s.blocks s.phase staged.old s.count) answer).staged) }
 {
     match answer {
-        Stored::Refused(_) => {}
-        Stored::Stored {
-            block: _,
-            last,
-            number,
-        } => {
-            if last {
-                keep(numbers, head_of(h.blocks, last_phase(phase), 0));
-                return;
-            }
-            keep(numbers, head_of(h.blocks, phase_at(phase, number), h.count));
-        }
-        Stored::Idle => keep(numbers, head_of(h.blocks, phase, h.count)),
-    }
-}
-
-// The cells behind it: none is in use behind the last store.
-fn forget(staged: &mut [u32; Limits::LOG_LENGTH], answer: Stored)
-    ensures { (p : Phase) (h : Head) → staged.new ≡ (behind p (decode h staged.old) answer).staged }
-{
-    match answer {
-        Stored::Refused(_) => {}
-        Stored::Stored {
-            block: _,
-            last,
-            number: _,
-        } => {
-            if last {
-                let none = [0u32; Limits::LOG_LENGTH];
-                *staged = none;
+        Ok(Some(stored)) => {
+            if stored.last {
+                *staged = [0; Limits::LOG_LENGTH];
+                s.keep(numbers, last_phase(s.phase), 0);
+            } else {
+                s.keep(numbers, phase_at(s.phase, stored.number), s.count);
             }
         }
-        Stored::Idle => {}
+        Ok(None) => s.keep(numbers, s.phase, s.count),
+        Err(_) => {}
     }
 }
 
@@ -138,30 +156,23 @@ pub extern "C" fn purse_advance_v(
     ensures { Ends advanced_of result (lent numbers.old staged.old device.old work.now)
         (lent numbers.new staged.new device.new work.now) advance }
 {
-    let head = head_in(numbers);
-    let blocks = head.blocks as usize;
-    let phase = phase_in(head);
+    let s = Parts::of(numbers);
     let cells: &[u32] = staged;
-    let used = &cells[0..staged_in(head)];
-    let answer = advance_in(device, work, blocks, phase, used);
-    forget(staged, answer);
-    keep_behind(numbers, head, phase, answer);
+    let used = &cells[0..staged_in(s.count)];
+    let answer = advance_in(device, work, s.blocks, s.phase, used);
+    keep_behind(numbers, staged, s, answer);
     advanced(answer)
 }
 
 // What an answer of commit leaves in the numbers: the same where it is a refusal.
-fn begun(numbers: &mut [u64; 4], h: Head, phase: Phase, answer: Started) -> CCommitted
+fn begun(numbers: &mut [u64; 4], s: Parts, answer: Result<usize, Refusal>) -> CCommitted
     ensures { (result ≡ committed_of (started_of answer))
-        × (numbers.new ≡ unless_refused (started_of answer) numbers.old (numbers_of (head_of h.blocks (begun_phase phase answer) h.count))) }
+        × (numbers.new ≡ unless_refused (started_of answer) numbers.old (numbers_of (head_of s.blocks (begun_phase s.phase answer) s.count))) }
 {
-    match answer {
-        Started::Refused(_) => committed(answer),
-        Started::Stores(_) => {
-            let next = begun_phase(phase, answer);
-            keep(numbers, head_of(h.blocks, next, h.count));
-            committed(answer)
-        }
+    if answer.is_ok() {
+        s.keep(numbers, begun_phase(s.phase, answer), s.count);
     }
+    committed(answer)
 }
 
 // Starts the stores of a commit and tells how many they are. No cell changes.
@@ -175,13 +186,9 @@ pub extern "C" fn purse_commit_v(
     ensures { Ends committed_of result (lent numbers.old staged.now device.now work.now)
         (lent numbers.new staged.now device.now work.now) commit }
 {
-    let head = head_in(numbers);
-    let blocks = head.blocks as usize;
-    let phase = phase_in(head);
-    let cells: &[u32] = staged;
-    let used = &cells[0..staged_in(head)];
-    let answer = commit_in(device, work, blocks, phase, used.len());
-    begun(numbers, head, phase, answer)
+    let s = Parts::of(numbers);
+    let answer = commit_in(&s.volume(device, work, staged));
+    begun(numbers, s, answer)
 }
 
 // Empties the transaction.
@@ -201,17 +208,16 @@ pub extern "C" fn purse_abort_v(
 }
 
 // What a call that is lent a session's cells leaves in its numbers: the same where it is refused, else blocks and phase as they were.
-fn changed(numbers: &mut [u64; 4], blocks: u64, phase: Phase, c: Changed) -> CFinished
-    ensures { (result ≡ finished_of (done_of c.answer))
-        × (numbers.new ≡ unless_refused (done_of c.answer) numbers.old (numbers_of (head_of blocks phase c.count))) }
+fn changed(numbers: &mut [u64; 4], s: Parts, c: Result<usize, Refusal>) -> CFinished
+    ensures { (result ≡ finished_of (changed_of c))
+        × (numbers.new ≡ unless_refused (changed_of c) numbers.old (numbers_of (head_of s.blocks s.phase (in_use s.count c)))) }
 {
-    let answer = c.answer;
-    match answer {
-        Done::Refused(_) => finished(answer),
-        Done::Done => {
-            keep(numbers, head_of(blocks, phase, c.count as u64));
-            finished(answer)
+    match c {
+        Ok(count) => {
+            s.keep(numbers, s.phase, count);
+            finished(Ok(()))
         }
+        Err(why) => finished(Err(why)),
     }
 }
 
@@ -227,12 +233,9 @@ pub extern "C" fn purse_create_v(
     ensures { Ends finished_of result (lent numbers.old staged.old device.now work.old)
         (lent numbers.new staged.new device.now work.new) (λ s. create s name.now) }
 {
-    let head = head_in(numbers);
-    let blocks = head.blocks as usize;
-    let phase = phase_in(head);
-    let many = head.count as usize;
-    let c = create_in(device, work, blocks, phase, staged, many, name);
-    changed(numbers, head.blocks, phase, c)
+    let s = Parts::of(numbers);
+    let c = create_in(device, work, s.blocks, s.phase, staged, s.count, name);
+    changed(numbers, s, c)
 }
 
 // Removes a file.
@@ -247,12 +250,9 @@ pub extern "C" fn purse_remove_v(
     ensures { Ends finished_of result (lent numbers.old staged.old device.now work.old)
         (lent numbers.new staged.new device.now work.new) (λ s. remove s name.now) }
 {
-    let head = head_in(numbers);
-    let blocks = head.blocks as usize;
-    let phase = phase_in(head);
-    let many = head.count as usize;
-    let c = remove_in(device, work, blocks, phase, staged, many, name);
-    changed(numbers, head.blocks, phase, c)
+    let s = Parts::of(numbers);
+    let c = remove_in(device, work, s.blocks, s.phase, staged, s.count, name);
+    changed(numbers, s, c)
 }
 
 // Names a file anew.
@@ -268,12 +268,9 @@ pub extern "C" fn purse_rename_v(
     ensures { Ends finished_of result (lent numbers.old staged.old device.now work.old)
         (lent numbers.new staged.new device.now work.new) (λ s. rename s name.now new.now) }
 {
-    let head = head_in(numbers);
-    let blocks = head.blocks as usize;
-    let phase = phase_in(head);
-    let many = head.count as usize;
-    let c = rename_in(device, work, blocks, phase, staged, many, name, new);
-    changed(numbers, head.blocks, phase, c)
+    let s = Parts::of(numbers);
+    let c = rename_in(device, work, s.blocks, s.phase, staged, s.count, name, new);
+    changed(numbers, s, c)
 }
 
 // Bytes laid over a file from byte x on.
@@ -290,22 +287,19 @@ pub extern "C" fn purse_write_v(
     ensures { Ends finished_of result (lent numbers.old staged.old device.now work.old)
         (lent numbers.new staged.new device.now work.new) (λ s. write s name.now x bytes.now) }
 {
-    let head = head_in(numbers);
-    let blocks = head.blocks as usize;
-    let phase = phase_in(head);
-    let many = head.count as usize;
+    let s = Parts::of(numbers);
     let c = write_in(
         device,
         work,
-        blocks,
-        phase,
+        s.blocks,
+        s.phase,
         staged,
-        many,
+        s.count,
         name,
         ByteOffset(x as usize),
         bytes,
     );
-    changed(numbers, head.blocks, phase, c)
+    changed(numbers, s, c)
 }
 
 // A file cut, or lengthened by zeros.
@@ -321,21 +315,18 @@ pub extern "C" fn purse_set_size_v(
     ensures { Ends finished_of result (lent numbers.old staged.old device.now work.old)
         (lent numbers.new staged.new device.now work.new) (λ s. set_size s name.now size) }
 {
-    let head = head_in(numbers);
-    let blocks = head.blocks as usize;
-    let phase = phase_in(head);
-    let many = head.count as usize;
+    let s = Parts::of(numbers);
     let c = set_size_in(
         device,
         work,
-        blocks,
-        phase,
+        s.blocks,
+        s.phase,
         staged,
-        many,
+        s.count,
         name,
         size as usize,
     );
-    changed(numbers, head.blocks, phase, c)
+    changed(numbers, s, c)
 }
 
 // Bytes of a file from byte x on, as many as the buffer takes and the file has; how many.
@@ -352,22 +343,9 @@ pub extern "C" fn purse_read_v<'a>(
     ensures { Reads result buffer.old buffer.new
         (read (state_of (decode (head_in numbers.now) staged.now) device.now work.now) name.now x buffer.old) }
 {
-    let head = head_in(numbers);
-    let blocks = head.blocks as usize;
-    let phase = phase_in(head);
-    let many = head.count as usize;
-    let answer = read_in(
-        device,
-        work,
-        blocks,
-        phase,
-        staged,
-        many,
-        name,
-        ByteOffset(x as usize),
-        buffer,
-    );
-    counted(answer)
+    let s = Parts::of(numbers);
+    let x = ByteOffset(x as usize);
+    counted(read_in(&s.volume(device, work, staged), name, x, buffer))
 }
 
 // The size of a file in bytes.
@@ -381,12 +359,8 @@ pub extern "C" fn purse_size_v<'a>(
 ) -> CCounted
     ensures { result ≡ counted_of (size_of (state_of (decode (head_in numbers.now) staged.now) device.now work.now) name.now).answer }
 {
-    let head = head_in(numbers);
-    let blocks = head.blocks as usize;
-    let phase = phase_in(head);
-    let many = head.count as usize;
-    let answer = size_in(device, work, blocks, phase, staged, many, name);
-    counted(answer)
+    let s = Parts::of(numbers);
+    counted(size_in(&s.volume(device, work, staged), name))
 }
 
 // How many blocks are free.
@@ -399,12 +373,8 @@ pub extern "C" fn purse_free_count_v<'a>(
 ) -> CCounted
     ensures { result ≡ counted_of (free_count (state_of (decode (head_in numbers.now) staged.now) device.now work.now)).answer }
 {
-    let head = head_in(numbers);
-    let blocks = head.blocks as usize;
-    let phase = phase_in(head);
-    let many = head.count as usize;
-    let answer = free_count_in(device, work, blocks, phase, staged, many);
-    counted(answer)
+    let s = Parts::of(numbers);
+    counted(free_count_in(&s.volume(device, work, staged)))
 }
 
 // Name and size of record i, or that it is empty: the name lent is then zero. A refusal leaves it.
@@ -419,11 +389,8 @@ pub extern "C" fn purse_record_v<'a>(
 ) -> CRecord
     ensures { Names result name.old name.new (record_at (state_of (decode (head_in numbers.now) staged.now) device.now work.now) i).answer }
 {
-    let head = head_in(numbers);
-    let blocks = head.blocks as usize;
-    let phase = phase_in(head);
-    let many = head.count as usize;
-    let answer = record_in(device, work, blocks, phase, staged, many, i as usize);
+    let s = Parts::of(numbers);
+    let answer = record_in(&s.volume(device, work, staged), i as usize);
     recorded(answer, name)
 }
 
@@ -441,23 +408,15 @@ pub extern "C" fn purse_nth_extent_v<'a>(
 ) -> CRun
     ensures { result ≡ run_of (nth_extent (state_of (decode (head_in numbers.now) staged.now) device.now work.now) name.now from n k).answer }
 {
-    let head = head_in(numbers);
-    let blocks = head.blocks as usize;
-    let phase = phase_in(head);
-    let many = head.count as usize;
-    let answer = nth_extent_in(
-        device,
-        work,
-        blocks,
-        phase,
-        staged,
-        many,
+    let s = Parts::of(numbers);
+    let from = FileBlock(from as usize);
+    run(nth_extent_in(
+        &s.volume(device, work, staged),
         name,
-        FileBlock(from as usize),
+        from,
         n as usize,
         k as usize,
-    );
-    run(answer)
+    ))
 }
 
 // Run k into its pair of cells, where there is one.
@@ -483,23 +442,15 @@ fn put_last(list: &mut [u32], k: usize, run: Extent) -> usize
 }
 
 // The runs of n data blocks of record i from block `from` on, into pairs of cells as far as there are pairs; how many.
-fn put_runs<'a>(
-    device: &'a [u8],
-    work: &'a [u8],
-    staged: &[u32],
-    i: usize,
-    from: FileBlock,
-    n: usize,
-    list: &mut [u32],
-) -> usize
-    requires { (i < 128) × (length staged.now ≤ 32) }
-    ensures { Listed (runs_in (view_in staged.now device.now work.now) i from.0 n) list.old list.new result }
+fn put_runs(copy: &WorkingCopy, i: usize, from: FileBlock, n: usize, list: &mut [u32]) -> usize
+    requires { i < 128 }
+    ensures { Listed (runs_in (working copy.now) i from.0 n) list.old list.new result }
 {
-    let table = inode_block_in(device, work, staged, i);
+    let table = inode_block(copy, i);
     let mut scan = stretch_at(table, i, from, n);
     let mut block = table;
     let mut run = Extent { first: 0, count: 0 };
-    let mut k: usize = 0;
+    let mut k = 0;
     while 0 < scan.room {
         match take_slot(block, scan) {
             AtSlot::Piece(e, then) => {
@@ -517,64 +468,44 @@ fn put_runs<'a>(
             AtSlot::Passed(then) => {
                 scan = pass_slots(block, then);
             }
-            AtSlot::Unused => match take_node(table, scan) {
-                AtNode::Node(b, then) => {
-                    block = view_in(device, work, staged, b);
-                    scan = then;
-                }
-                AtNode::End => {
+            AtSlot::Unused => {
+                let Some((b, then)) = take_node(table, scan) else {
                     return put_last(list, k, run);
-                }
-            },
+                };
+                block = copy.block(b);
+                scan = then;
+            }
         }
     }
     put_last(list, k, run)
 }
 
 // How many runs they have: the same walk with no pair of cells.
-fn count_runs<'a>(
-    device: &'a [u8],
-    work: &'a [u8],
-    staged: &[u32],
-    i: usize,
-    from: FileBlock,
-    n: usize,
-) -> usize
-    requires { (i < 128) × (length staged.now ≤ 32) }
-    ensures { result ≡ length (runs_in (view_in staged.now device.now work.now) i from.0 n) }
+fn count_runs(copy: &WorkingCopy, i: usize, from: FileBlock, n: usize) -> usize
+    requires { i < 128 }
+    ensures { result ≡ length (runs_in (working copy.now) i from.0 n) }
 {
-    let mut none = [0u32; 1];
-    put_runs(device, work, staged, i, from, n, &mut none)
+    put_runs(copy, i, from, n, &mut [])
 }
 
 // 1, 2, 3, 12, 13 and 19, or the run list put into pairs of cells: the tree once for the count, and once for the runs.
-fn list_runs<'a>(
-    device: &'a [u8],
-    work: &'a [u8],
-    blocks: usize,
-    phase: Phase,
-    staged: &[u32],
+fn list_runs(
+    volume: &Volume,
     name: &[u8],
     from: FileBlock,
     n: usize,
     list: &mut [u32],
-) -> Counted
-    requires { length staged.now ≤ 32 }
-    ensures { (s : Session) → Seen blocks phase staged.now s → Lists (counted_of (answer_of result)) list.old list.new
-        (run_list (state_of s device.now work.now) name.now from.0 n (extents_of list.old)) }
+) -> Result<usize, Refusal>
+    ensures { (s : State) → Shows volume.now s → Lists (counted_of (answer_of result)) list.old list.new
+        (run_list s name.now from.0 n (extents_of list.old)) }
 {
-    match look_up(device, work, blocks, phase, staged, name) {
-        Looked::Bad(why) => Counted::Refused(why),
-        Looked::At(i) => {
-            let count = count_runs(device, work, staged, i, from, n);
-            if count <= list.len() / 2 {
-                put_runs(device, work, staged, i, from, n, list);
-                Counted::Count(count)
-            } else {
-                Counted::Refused(Refusal::ListShort)
-            }
-        }
+    let i = look_up(volume, name)?;
+    let count = count_runs(&volume.copy, i, from, n);
+    if list.len() / 2 < count {
+        return Err(Refusal::ListShort);
     }
+    put_runs(&volume.copy, i, from, n, list);
+    Ok(count)
 }
 
 // The run list itself, into pairs of cells, first block and count; a last cell without a partner is no place of the list.
@@ -592,21 +523,13 @@ pub extern "C" fn purse_run_list_v<'a>(
     ensures { Lists result list.old list.new
         (run_list (state_of (decode (head_in numbers.now) staged.now) device.now work.now) name.now from n (extents_of list.old)) }
 {
-    let head = head_in(numbers);
-    let blocks = head.blocks as usize;
-    let phase = phase_in(head);
-    let cells: &[u32] = staged;
-    let used = &cells[0..staged_in(head)];
-    let answer = list_runs(
-        device,
-        work,
-        blocks,
-        phase,
-        used,
+    let s = Parts::of(numbers);
+    let from = FileBlock(from as usize);
+    counted(list_runs(
+        &s.volume(device, work, staged),
         name,
-        FileBlock(from as usize),
+        from,
         n as usize,
         list,
-    );
-    counted(answer)
+    ))
 }

@@ -3,7 +3,10 @@ use Prim.Native.Nat.{ℕ, zero, suc, ◌+◌, ◌*◌, ◌-◌, ◌/◌, ◌%◌
 use mathlib.Core.Path.{◌≡◌, refl, sym, ap, ◌∙◌}
 use mathlib.Core.Bool.{Bool, true, false, cond, not, ◌&&◌, ◌||◌}
 use mathlib.Core.List.{List, [], ◌∷◌, ◌++◌}
-use mathlib.Core.Option.{Option, none, some, some-ne-none}
+use mathlib.Core.Option.{Option as Maybe, none, some, some-ne-none}
+use Rattle.std.specs.Prelude.{Option, Some, None, Result, Ok, Err, ◌==◌, count_by}
+use Rattle.std.specs.Int.{to_le_bytes, w64}
+use Rattle.std.proofs.lemmas.List.Recursion.{is_count_by}
 use native.Mathlib.Omega.{arith}
 use native.Mathlib.Nat.{pow-succ', pow-le-pow_right, mod-eq_of_lt}
 use lib.ListN.{length, take, drop, get_or, get_or-eq_default, length-drop}
@@ -13,81 +16,106 @@ use borrow.Author.Tests.{eqb-true, eqb-false, eq-eqb, ne_eqb, lt-ltb, le-ltb, lt
 use Rattle.spec.specs.Bytes.{occurs, exactly}
 use Rattle.spec.specs.Listing.{decimal}
 use Rattle.cardfile.specs.Cards.{number_of, bytes_of, name_of, amount_bytes, read_hex, read_decimal, within, serial_h, serial_d, serial_of, amount_of, Entry, entry, before, split, entry_of}
-use Rattle.cardfile.specs.Lines.{number_told, serial_told, form_told, formed, standing_in, standing, line_told, line_in, line_at, card_for, line_of, line_number, name_told}
-use Rattle.cardfile.specs.declared.Number.{Number}
-use Rattle.cardfile.specs.declared.Number.TheVariants.{Value, NoNumber}
+use Rattle.cardfile.specs.Lines.{number_told, serial_told, form_told, formed, letter_of, spelling_of, spelling_for, serial_for, standing_in, standing, line_told, line_in, line_at, card_for, line_of, line_number, name_told}
+use Rattle.cardfile.specs.declared.Spelling.{Spelling}
+use Rattle.cardfile.specs.declared.Spelling.TheVariants.{Hexadecimal, Decimal}
 use Rattle.cardfile.specs.declared.Serial.{Serial}
-use Rattle.cardfile.specs.declared.Serial.TheVariants.{Bytes, NoSerial}
 use Rattle.cardfile.specs.declared.Card.{Card}
-use Rattle.cardfile.specs.declared.Form.TheVariants.{Good, Bad}
 use Rattle.cardfile.specs.declared.Line.{Line}
-use Rattle.cardfile.specs.declared.Line.TheVariants.{Found, TooLong, BadForm, NoLine}
+use Rattle.cardfile.specs.declared.LineFault.{LineFault}
+use Rattle.cardfile.specs.declared.LineFault.TheVariants.{TooLong, BadForm}
 use Rattle.cardfile.proofs.Laws.{before-is, before-length, length-bytes}
 use Rattle.cardfile.proofs.Digits.{digits-back}
 
--- ---- a serial by its length and its letter
+-- ---- a serial by its length and its spelling
 
-module _ (t : List ℕ) (r : Serial) where
+module _ (t : List ℕ) (r : Option Serial) where
   pub h-eight : length t ≡ 8 → r ≡ serial_told (read_hex t) → r ≡ serial_told (serial_h t)
   unfolding serial_h
   h-eight l e = rw (eq-eqb (length t) 8 l) e
 
-  pub h-fourteen : (length t ≡ 8 → ⊥) → length t ≡ 14 → r ≡ serial_told (read_hex t) → r ≡ serial_told (serial_h t)
+  pub h-fourteen : length t ≡ 14 → r ≡ serial_told (read_hex t) → r ≡ serial_told (serial_h t)
   unfolding serial_h
-  h-fourteen k l e = rw (ne_eqb (length t) 8 k, eq-eqb (length t) 14 l) e
+  h-fourteen l e = rw (l) e
 
   pub d-ten : length t ≡ 10 → r ≡ serial_told (within 4 (read_decimal 0 t)) → r ≡ serial_told (serial_d t)
   unfolding serial_d
   d-ten l e = rw (eq-eqb (length t) 10 l) e
 
-  pub d-seventeen : (length t ≡ 10 → ⊥) → length t ≡ 17 → r ≡ serial_told (within 7 (read_decimal 0 t)) → r ≡ serial_told (serial_d t)
+  pub d-seventeen : length t ≡ 17 → r ≡ serial_told (within 7 (read_decimal 0 t)) → r ≡ serial_told (serial_d t)
   unfolding serial_d
-  d-seventeen k l e = rw (ne_eqb (length t) 10 k, eq-eqb (length t) 17 l) e
+  d-seventeen l e = rw (l) e
 
-  module _ (c : ℕ) where
-    pub of-h : c ≡ 72 → r ≡ serial_told (serial_h t) → r ≡ serial_told (serial_of c t)
-    unfolding serial_of
-    of-h q e = rw (eq-eqb c 72 q) e
+  pub of-h : r ≡ serial_told (serial_h t) → r ≡ serial_told (serial_of 72 t)
+  unfolding serial_of
+  of-h e = e
 
-    pub of-d : (c ≡ 72 → ⊥) → c ≡ 68 → r ≡ serial_told (serial_d t) → r ≡ serial_told (serial_of c t)
-    unfolding serial_of
-    of-d k q e = rw (ne_eqb c 72 k, eq-eqb c 68 q) e
+  pub of-d : r ≡ serial_told (serial_d t) → r ≡ serial_told (serial_of 68 t)
+  unfolding serial_of
+  of-d e = e
 
 module _ (t : List ℕ) where
-  pub h-other : (length t ≡ 8 → ⊥) → (length t ≡ 14 → ⊥) → NoSerial ≡ serial_told (serial_h t)
+  pub h-other : (length t ≡ 8 → ⊥) → (length t ≡ 14 → ⊥) → None ≡ serial_told (serial_h t)
   unfolding serial_h
   h-other k l = rw (ne_eqb (length t) 8 k, ne_eqb (length t) 14 l)
 
-  pub d-other : (length t ≡ 10 → ⊥) → (length t ≡ 17 → ⊥) → NoSerial ≡ serial_told (serial_d t)
+  pub d-other : (length t ≡ 10 → ⊥) → (length t ≡ 17 → ⊥) → None ≡ serial_told (serial_d t)
   unfolding serial_d
   d-other k l = rw (ne_eqb (length t) 10 k, ne_eqb (length t) 17 l)
 
-  pub of_other : (c : ℕ) → (c ≡ 72 → ⊥) → (c ≡ 68 → ⊥) → NoSerial ≡ serial_told (serial_of c t)
+  pub of_other : (c : ℕ) → None ≡ spelling_of c → serial_of c t ≡ none
   unfolding serial_of
-  of_other c k l = rw (ne_eqb c 72 k, ne_eqb c 68 l)
+  of_other c e = go (eqb c 72) (eqb c 68) e
+    where
+      go : (a b : Bool) → None ≡ cond a (Some Hexadecimal) (cond b (Some Decimal) None) → cond a (serial_h t) (cond b (serial_d t) none) ≡ none
+      go true b e = cc
+      go false true e = cc
+      go false false e = refl
+
+-- the letter and the spelling of a line
+pub record Lettered (c : ℕ) (s : Spelling) : Type 0 where
+  pub letter : c ≡ letter_of s
+  pub spelling : s ≡ spelling_for c
+
+pub lettered : (c : ℕ) (s : Spelling) → Some s ≡ spelling_of c → Lettered c s
+lettered c s e = go (eqb c 72) refl (eqb c 68) refl e
+  where
+    go : (a : Bool) → eqb c 72 ≡ a → (b : Bool) → eqb c 68 ≡ b → Some s ≡ cond a (Some Hexadecimal) (cond b (Some Decimal) None) → Lettered c s
+    go true p b q e = let z : s ≡ Hexadecimal = cc in rw z (record { letter = eqb-true c 72 p; spelling = rw p })
+    go false p true q e = let z : s ≡ Decimal = cc in rw z (record { letter = eqb-true c 68 q; spelling = rw p })
+    go false p false q e = cc
 
 -- ---- an amount
 
 module _ (t : List ℕ) where
-  pub cents-none : length t ≡ 0 → NoNumber ≡ number_told (amount_of t)
+  pub cents-none : length t ≡ 0 → None ≡ number_told (amount_of t)
   unfolding amount_of
   cents-none h = rw (lt-leb 1 (length t) (omega arith))
 
-  pub cents-many : (length t ≡ 0 → ⊥) → 8 < length t → NoNumber ≡ number_told (amount_of t)
+  pub cents-many : 8 < length t → None ≡ number_told (amount_of t)
   unfolding amount_of
-  cents-many k h = rw (le-leb 1 (length t) (omega arith), lt-leb (length t) 8 h)
+  cents-many h = rw (lt-leb (length t) 8 h) (go (leb 1 (length t)))
+    where
+      go : (a : Bool) → None ≡ number_told (cond (a && false) (read_decimal 0 t) none)
+      go true = refl
+      go false = refl
 
-  pub cents-one : (r : Number) → length t ≡ 1 → r ≡ number_told (read_decimal 0 t) → r ≡ number_told (amount_of t)
+  pub cents-idle : 2 ≤ length t → get_or t 0 0 ≡ 48 → None ≡ number_told (amount_of t)
   unfolding amount_of
-  cents-one r h e = rw (le-leb 1 (length t) (omega arith), le-leb (length t) 8 (omega arith), eq-eqb (length t) 1 h) e
+  cents-idle k z = rw (le-leb 1 (length t) (omega arith), ne_eqb (length t) 1 (λ e. omega arith), eq-eqb (get_or t 0 0) 48 z) (go (leb (length t) 8))
+    where
+      go : (a : Bool) → None ≡ number_told (cond (a && false) (read_decimal 0 t) none)
+      go true = refl
+      go false = refl
 
-  pub cents-idle : (length t ≡ 0 → ⊥) → length t ≤ 8 → (length t ≡ 1 → ⊥) → get_or t 0 0 ≡ 48 → NoNumber ≡ number_told (amount_of t)
+  pub cents-good : (r : Option ℕ) → (length t ≡ 0 → ⊥) → length t ≤ 8 → (2 ≤ length t → get_or t 0 0 ≡ 48 → ⊥) → r ≡ number_told (read_decimal 0 t) → r ≡ number_told (amount_of t)
   unfolding amount_of
-  cents-idle k l h z = rw (le-leb 1 (length t) (omega arith), le-leb (length t) 8 l, ne_eqb (length t) 1 h, eq-eqb (get_or t 0 0) 48 z)
-
-  pub cents-more : (r : Number) → (length t ≡ 0 → ⊥) → length t ≤ 8 → (length t ≡ 1 → ⊥) → (get_or t 0 0 ≡ 48 → ⊥) → r ≡ number_told (read_decimal 0 t) → r ≡ number_told (amount_of t)
-  unfolding amount_of
-  cents-more r k l h z e = rw (le-leb 1 (length t) (omega arith), le-leb (length t) 8 l, ne_eqb (length t) 1 h, ne_eqb (get_or t 0 0) 48 z) e
+  cents-good r k l z e = rw (le-leb 1 (length t) (omega arith), le-leb (length t) 8 l) (go (eqb (length t) 1) refl (eqb (get_or t 0 0) 48) refl)
+    where
+      go : (a : Bool) → eqb (length t) 1 ≡ a → (b : Bool) → eqb (get_or t 0 0) 48 ≡ b → r ≡ number_told (cond (a || not b) (read_decimal 0 t) none)
+      go true p b q = e
+      go false p false q = e
+      go false p true q = absurd (z (omega (arith, k, eqb-false (length t) 1 p)) (eqb-true (get_or t 0 0) 48 q))
 
 -- what the tests of an amount say of its digits
 pub record Cents (t : List ℕ) (n : ℕ) : Type 0 where
@@ -136,11 +164,11 @@ module _ (l : List ℕ) (k : ℕ) (q : k ≡ length (before 59 l)) where
   unfolding split
   no-split h = rw h
 
-  pub form-short : length l ≤ k + 2 → Bad ≡ form_told (entry_of l)
+  pub form-short : length l ≤ k + 2 → None ≡ form_told (entry_of l)
   unfolding entry_of
   form-short h = ap form_told (sym (ap (λ (j : ℕ). split j l) (sym q) ∙ no-split (get_or-eq_default l 0 h)))
 
-  pub form-open : (get_or l (k + 2) 0 ≡ 59 → ⊥) → Bad ≡ form_told (entry_of l)
+  pub form-open : (get_or l (k + 2) 0 ≡ 59 → ⊥) → None ≡ form_told (entry_of l)
   unfolding entry_of split
   form-open h = rw (← q, ne_eqb (get_or l (k + 2) 0) 59 h)
 
@@ -149,40 +177,47 @@ module _ (l : List ℕ) (k : ℕ) (q : k ≡ length (before 59 l)) where
     unfolding entry_of split
     parted = rw (← q, eq-eqb (get_or l (k + 2) 0) 59 s)
 
-    pub form-serial : NoSerial ≡ serial_told (serial_of (get_or l (k + 1) 0) (take k l)) → Bad ≡ form_told (entry_of l)
-    form-serial h = go (serial_of (get_or l (k + 1) 0) (take k l)) refl h ∙ ap form_told (sym parted)
-      where
-        go : (o : Option (List ℕ)) → serial_of (get_or l (k + 1) 0) (take k l) ≡ o → NoSerial ≡ serial_told o
-            → Bad ≡ form_told (entry (get_or l (k + 1) 0) (serial_of (get_or l (k + 1) 0) (take k l)) (amount_of (drop (k + 3) l)))
-        go none e h = rw e
-        go (some x) e h = cc
+    no-serial : serial_of (get_or l (k + 1) 0) (take k l) ≡ none → None ≡ form_told (entry_of l)
+    no-serial h = ap form_told (sym (parted ∙ ap (λ (o : Maybe (List ℕ)). entry (get_or l (k + 1) 0) o (amount_of (drop (k + 3) l))) h))
 
-    module _ (w m : ℕ) (h : Bytes w m ≡ serial_told (serial_of (get_or l (k + 1) 0) (take k l))) where
-      pub form-cents : NoNumber ≡ number_told (amount_of (drop (k + 3) l)) → Bad ≡ form_told (entry_of l)
-      form-cents g =
-          go (serial_of (get_or l (k + 1) 0) (take k l)) (amount_of (drop (k + 3) l)) g ∙ ap form_told (sym parted)
+    pub form-letter : None ≡ spelling_of (get_or l (k + 1) 0) → None ≡ form_told (entry_of l)
+    form-letter h = no-serial (of_other (take k l) (get_or l (k + 1) 0) h)
+
+    module _ (c : Spelling) (e : Some c ≡ spelling_of (get_or l (k + 1) 0)) where
+      here : (o : Option Serial) → o ≡ serial_told (serial_of (letter_of c) (take k l)) → o ≡ serial_told (serial_of (get_or l (k + 1) 0) (take k l))
+      here o h = h ∙ ap (λ (x : ℕ). serial_told (serial_of x (take k l))) (sym (lettered (get_or l (k + 1) 0) c e).letter)
+
+      pub form-serial : None ≡ serial_told (serial_of (letter_of c) (take k l)) → None ≡ form_told (entry_of l)
+      form-serial h = no-serial (go (serial_of (get_or l (k + 1) 0) (take k l)) (here None h))
         where
-          go : (o : Option (List ℕ)) (a : Option ℕ) → NoNumber ≡ number_told a → Bad ≡ form_told (entry (get_or l (k + 1) 0) o a)
+          go : (o : Maybe (List ℕ)) → None ≡ serial_told o → o ≡ none
+          go none h = refl
+          go (some x) h = cc
+
+      pub form-cents : None ≡ number_told (amount_of (drop (k + 3) l)) → None ≡ form_told (entry_of l)
+      form-cents g = go (serial_of (get_or l (k + 1) 0) (take k l)) (amount_of (drop (k + 3) l)) g ∙ ap form_told (sym parted)
+        where
+          go : (o : Maybe (List ℕ)) (a : Maybe ℕ) → None ≡ number_told a → None ≡ form_told (entry (get_or l (k + 1) 0) o a)
           go none a g = refl
           go (some x) none g = refl
           go (some x) (some n) g = cc
 
-      pub form-good : (n d : ℕ) → Value n ≡ number_told (amount_of (drop (k + 3) l)) → d ≡ length (drop (k + 3) l)
-          → Good (record { bytes = w; number = m; letter = get_or l (k + 1) 0; amount = n; digits = d }) ≡ form_told (entry_of l)
+      pub form-good : (r : Serial) → Some r ≡ serial_told (serial_of (letter_of c) (take k l)) → (n d : ℕ) → Some n ≡ number_told (amount_of (drop (k + 3) l)) → d ≡ length (drop (k + 3) l)
+          → Some (record { serial = r; spelling = c; amount = n; digits = d }) ≡ form_told (entry_of l)
       unfolding card_for
-      form-good n d g p =
-          go (serial_of (get_or l (k + 1) 0) (take k l)) (amount_of (drop (k + 3) l)) refl h g ∙ ap form_told (sym parted)
+      form-good r h n d g p =
+          go (serial_of (get_or l (k + 1) 0) (take k l)) (amount_of (drop (k + 3) l)) refl (here (Some r) h) g ∙ ap form_told (sym parted)
         where
-          go : (o : Option (List ℕ)) (a : Option ℕ) → amount_of (drop (k + 3) l) ≡ a → Bytes w m ≡ serial_told o → Value n ≡ number_told a
-              → Good (record { bytes = w; number = m; letter = get_or l (k + 1) 0; amount = n; digits = d }) ≡ form_told (entry (get_or l (k + 1) 0) o a)
+          go : (o : Maybe (List ℕ)) (a : Maybe ℕ) → amount_of (drop (k + 3) l) ≡ a → Some r ≡ serial_told o → Some n ≡ number_told a
+              → Some (record { serial = r; spelling = c; amount = n; digits = d }) ≡ form_told (entry (get_or l (k + 1) 0) o a)
           go none a e h g = cc
           go (some x) none e h g = cc
-          go (some x) (some y) e h g =
-              let u : w ≡ length x = cc in
-              let v : m ≡ number_of x = cc in
+          go (some x) (some y) u h g =
+              let v : r ≡ serial_for x = cc in
               let z : n ≡ y = cc in
-              let i : d ≡ length (decimal y) = p ∙ ap length (sym (cents-text (drop (k + 3) l) y e)) in
-              rw (u, v, z, i)
+              let i : d ≡ length (decimal y) = p ∙ ap length (sym (cents-text (drop (k + 3) l) y u)) in
+              let b = (lettered (get_or l (k + 1) 0) c e).spelling in
+              rw (v, b, z, i)
 
 -- the parts of a line, as the code lends them
 head-is : (l : List ℕ) (k : ℕ) → take (k - 0) l ≡ take k l
@@ -191,16 +226,19 @@ head-is l k = let z : k - 0 ≡ k = omega arith in rw z
 pub tail-is : (l : List ℕ) (k : ℕ) → take (length l - k) (drop k l) ≡ drop k l
 tail-is l k = take_all (length l - k) (drop k l) (let z = length-drop k l in omega arith)
 
-pub head-serial : (r : Serial) (c : ℕ) (l : List ℕ) (k : ℕ) → r ≡ serial_told (serial_of c (take (k - 0) l)) → r ≡ serial_told (serial_of c (take k l))
+pub head-serial : (r : Option Serial) (c : ℕ) (l : List ℕ) (k : ℕ) → r ≡ serial_told (serial_of c (take (k - 0) l)) → r ≡ serial_told (serial_of c (take k l))
 head-serial r c l k e = e ∙ ap (λ (t : List ℕ). serial_told (serial_of c t)) (head-is l k)
 
-pub tail-cents : (r : Number) (l : List ℕ) (k : ℕ) → r ≡ number_told (amount_of (take (length l - k) (drop k l))) → r ≡ number_told (amount_of (drop k l))
+pub tail-cents : (r : Option ℕ) (l : List ℕ) (k : ℕ) → r ≡ number_told (amount_of (take (length l - k) (drop k l))) → r ≡ number_told (amount_of (drop k l))
 tail-cents r l k e = e ∙ ap (λ (t : List ℕ). number_told (amount_of t)) (tail-is l k)
 
 -- ---- a place of a text
 
 module _ (rest : List ℕ) (at n : ℕ) (q : n ≡ min 65 (length (line_of rest))) where
-  pub in-long : 64 < n → TooLong ≡ line_in rest at
+  pub in-bound : n ≤ length rest
+  in-bound = omega (arith, q, before-length 10 rest)
+
+  pub in-long : 64 < n → Err TooLong ≡ line_in rest at
   unfolding standing_in
   in-long k = sym (rw (lt-ltb 64 (length (line_of rest)) (omega (arith, q))))
 
@@ -208,7 +246,7 @@ module _ (rest : List ℕ) (at n : ℕ) (q : n ≡ min 65 (length (line_of rest)
     whole : n ≡ length (line_of rest)
     whole = omega (arith, q)
 
-    pub in-open : n ≡ length rest → BadForm ≡ line_in rest at
+    pub in-open : n ≡ length rest → Err BadForm ≡ line_in rest at
     unfolding standing_in
     in-open e = sym (rw (le-ltb 64 (length (line_of rest)) (omega (arith, whole)), le-ltb (length (line_of rest)) (length rest) (omega (arith, whole))))
 
@@ -227,26 +265,26 @@ module _ (rest : List ℕ) (at n : ℕ) (q : n ≡ min 65 (length (line_of rest)
       same_line : take (n - 0) rest ≡ line_of rest
       same_line = head-is rest n ∙ ap (λ (j : ℕ). take j rest) whole ∙ sym (before-is 10 rest)
 
-      pub in-good : (x : Card) → Good x ≡ form_told (entry_of (take (n - 0) rest)) → Found x (at + n + 1) ≡ line_in rest at
+      pub in-good : (x : Card) → Some x ≡ form_told (entry_of (take (n - 0) rest)) → Ok (Some (record { card = x; next = at + n + 1 })) ≡ line_in rest at
       in-good x g = go (entry_of (line_of rest)) (g ∙ ap (λ (l : List ℕ). form_told (entry_of l)) same_line) ∙ sym closed
         where
-          go : (o : Option Entry) → Good x ≡ form_told o → Found x (at + n + 1) ≡ line_told (formed o (at + length (line_of rest) + 1))
+          go : (o : Maybe Entry) → Some x ≡ form_told o → Ok (Some (record { card = x; next = at + n + 1 })) ≡ line_told (formed o (at + length (line_of rest) + 1))
           go none g = cc
           go (some y) g = let z : x ≡ card_for y = cc in rw (z, whole)
 
-      pub in-bad : Bad ≡ form_told (entry_of (take (n - 0) rest)) → BadForm ≡ line_in rest at
+      pub in-bad : None ≡ form_told (entry_of (take (n - 0) rest)) → Err BadForm ≡ line_in rest at
       in-bad g = go (entry_of (line_of rest)) (g ∙ ap (λ (l : List ℕ). form_told (entry_of l)) same_line) ∙ sym closed
         where
-          go : (o : Option Entry) → Bad ≡ form_told o → BadForm ≡ line_told (formed o (at + length (line_of rest) + 1))
+          go : (o : Maybe Entry) → None ≡ form_told o → Err BadForm ≡ line_told (formed o (at + length (line_of rest) + 1))
           go none g = refl
           go (some y) g = cc
 
 module _ (text : List ℕ) (at : ℕ) where
-  pub at-end : length text ≤ at → NoLine ≡ line_at text at
+  pub at-end : length text ≤ at → Ok None ≡ line_at text at
   unfolding standing
   at-end h = rw (le-leb (length text) at h)
 
-  pub at-inside : at < length text → (r : Line) → r ≡ line_in (take (length text - at) (drop at text)) at → r ≡ line_at text at
+  pub at-inside : at < length text → (r : Result (Option Line) LineFault) → r ≡ line_in (take (length text - at) (drop at text)) at → r ≡ line_at text at
   unfolding standing
   at-inside h r e = e ∙ ap (λ (l : List ℕ). line_in l at) (tail-is text at) ∙ sym (rw (lt-leb (length text) at h))
 
@@ -259,62 +297,40 @@ take_more (x ∷ xs) (suc k) h =
     let z : suc k + 1 ≡ suc (k + 1) = omega arith in
     rw z (ap (λ (l : List ℕ). x ∷ l) (take_more xs k (omega arith)))
 
-occurs-more : (xs : List ℕ) (c : ℕ) → occurs 10 (xs ++ (c ∷ [])) ≡ occurs 10 xs + cond (eqb c 10) 1 0
-occurs-more [] c = omega arith
-occurs-more (x ∷ xs) c = rw (occurs-more xs c) (omega arith)
+-- the feeds of some bytes, as they are counted
+pub feeds-are : (xs : List ℕ) → occurs 10 xs ≡ count_by (λ c. c == 10) xs
+feeds-are xs = is_count_by (occurs 10) (λ c. c == 10) refl step xs
+  where
+    step : (c : ℕ) (t : List ℕ) → occurs 10 (c ∷ t) ≡ cond (c == 10) (1 + occurs 10 t) (occurs 10 t)
+    step c t = go (eqb c 10) refl
+      where
+        go : (b : Bool) → eqb c 10 ≡ b → cond (eqb c 10) 1 0 + occurs 10 t ≡ cond (eqb c 10) (1 + occurs 10 t) (occurs 10 t)
+        go true e = rw e
+        go false e = rw e (omega arith)
 
--- the feeds met in the first k bytes
-pub record Counted (text : List ℕ) (n k : ℕ) : Type 0 where
-  pub inside : k ≤ length text
-  pub lines : n ≡ suc (occurs 10 (take k text))
-  pub small : n ≤ k + 1
+take-min : {A : Type 0} (n : ℕ) (l : List A) → take (min n (length l)) l ≡ take n l
+take-min zero l = let z : min 0 (length l) ≡ 0 = omega arith in rw z
+take-min (suc n) [] = let z : min (suc n) 0 ≡ 0 = omega arith in rw z
+take-min (suc n) (x ∷ l) =
+    let z : min (suc n) (suc (length l)) ≡ suc (min n (length l)) = omega arith in
+    rw (z, take-min n l)
 
-pub counted_none : (text : List ℕ) → Counted text 1 0
-counted_none text = record { inside = omega arith; lines = refl; small = omega arith }
-
-module _ (text : List ℕ) (n k : ℕ) (p : Counted text n k) where
-  module _ (h : k < length text) where
-    more : suc (occurs 10 (take (k + 1) text)) ≡ n + cond (eqb (get_or text k 0) 10) 1 0
-    more =
-        let z : n ≡ suc (occurs 10 (take k text)) = p.lines in
-        rw (take_more text k h, occurs-more (take k text) (get_or text k 0)) (omega (arith, z))
-
-    pub counted-feed : get_or text k 0 ≡ 10 → Counted text (n + 1) (k + 1)
-    counted-feed e = record { inside = omega arith; lines = sym (more ∙ rw (eq-eqb (get_or text k 0) 10 e)); small = omega (arith, p.small) }
-
-    pub counted-other : (get_or text k 0 ≡ 10 → ⊥) → Counted text n (k + 1)
-    counted-other e = record { inside = omega arith; lines = sym (more ∙ rw (ne_eqb (get_or text k 0) 10 e) (omega arith)); small = omega (arith, p.small) }
-
-  pub counted-end : length text ≤ k → n ≡ suc (occurs 10 text)
-  counted-end h = p.lines ∙ ap (λ (l : List ℕ). suc (occurs 10 l)) (take_all k text h)
-
-pub counted-as : (text : List ℕ) (m n k : ℕ) → m ≡ n → Counted text n k → Counted text m k
-counted-as text m n k e p = rw e p
-
-module _ (text : List ℕ) (at n : ℕ) where
-  pub number_past : length text ≤ at → n ≡ suc (occurs 10 text) → n ≡ line_number text at
-  unfolding line_number
-  number_past h e = e ∙ ap (λ (l : List ℕ). suc (occurs 10 l)) (sym (take_all at text h))
-
-  pub number-inside : n ≡ suc (occurs 10 (take (at - 0) text)) → n ≡ line_number text at
-  unfolding line_number
-  number-inside e = e ∙ ap (λ (l : List ℕ). suc (occurs 10 l)) (head-is text at)
+pub number-is : (text : List ℕ) (at n : ℕ) → n ≡ count_by (λ c. c == 10) (take (min at (length text)) text) → 1 + n ≡ line_number text at
+unfolding line_number
+number-is text at n e = omega (arith, e, feeds-are (take at text), ap (count_by (λ c. c == 10)) (take-min at text))
 
 -- ---- names
 
-pub eight_are : (n : ℕ)
-    → n % 256 ∷ n / 256 % 256 ∷ n / 65536 % 256 ∷ n / 16777216 % 256 ∷ n / 4294967296 % 256 ∷ n / 1099511627776 % 256
-    ∷ n / 281474976710656 % 256 ∷ n / 72057594037927936 % 256 ∷ []
-    ≡ bytes_of 8 n
+pub le_bytes-are : (n : ℕ) → bytes_of 8 n ≡ to_le_bytes w64 n
 unfolding bytes_of
-eight_are n =
-    let a : n / 65536 ≡ n / 256 / 256 = omega arith in
-    let b : n / 16777216 ≡ n / 256 / 256 / 256 = omega arith in
-    let c : n / 4294967296 ≡ n / 256 / 256 / 256 / 256 = omega arith in
-    let d : n / 1099511627776 ≡ n / 256 / 256 / 256 / 256 / 256 = omega arith in
-    let e : n / 281474976710656 ≡ n / 256 / 256 / 256 / 256 / 256 / 256 = omega arith in
-    let f : n / 72057594037927936 ≡ n / 256 / 256 / 256 / 256 / 256 / 256 / 256 = omega arith in
-    rw (a, b, c, d, e, f)
+le_bytes-are n =
+    let a : n / 256 / 256 ≡ n / 65536 = omega arith in
+    let b : n / 65536 / 256 ≡ n / 16777216 = omega arith in
+    let c : n / 16777216 / 256 ≡ n / 4294967296 = omega arith in
+    let d : n / 4294967296 / 256 ≡ n / 1099511627776 = omega arith in
+    let e : n / 1099511627776 / 256 ≡ n / 281474976710656 = omega arith in
+    let f : n / 281474976710656 / 256 ≡ n / 72057594037927936 = omega arith in
+    simp (a, b, c, d, e, f)
 
 bytes-zero : (k : ℕ) → bytes_of k 0 ≡ exactly k []
 unfolding bytes_of
@@ -347,13 +363,28 @@ name-is w n h l =
         let u : 256 ^ w ≤ 72057594037927936 = pow-le-pow_right z {i = w} {j = 7} h in
         omega arith
 
-pub name-as : (r : List ℕ) (w n : ℕ) → r ≡ bytes_of 8 (w % 256 + 256 * (n % 72057594037927936)) → r ≡ name_told w n
+pub name-as : (w n : ℕ) → name_told w n ≡ to_le_bytes w64 (w % 256 + 256 * (n % 72057594037927936))
 unfolding name_told
-name-as r w n e = e
+name-as w n = le_bytes-are (w % 256 + 256 * (n % 72057594037927936))
 
-pub amount-is : (r : List ℕ) (n : ℕ) → r ≡ bytes_of 8 n → r ≡ amount_bytes n
+pub amount-is : (n : ℕ) → amount_bytes n ≡ to_le_bytes w64 n
 unfolding amount_bytes
-amount-is r n e = e
+amount-is n = le_bytes-are n
+
+-- what the answers of name_of and amount_bytes need
+pub ruleset bytes_rules = (name-as, amount-is)
 
 -- what the answers of line_in need
-pub ruleset line_rules = (in-long, in-open, in-room, in-good, in-bad)
+pub ruleset line_rules = (in-bound, in-long, in-open, in-room, in-good, in-bad)
+
+-- what the answers of serial_h, serial_d and serial_of need
+pub ruleset serial_rules = (h-eight, h-fourteen, h-other, d-ten, d-seventeen, d-other, of-h, of-d)
+
+-- what the answers of amount_of need
+pub ruleset cents_rules = (cents-none, cents-many, cents-idle, cents-good)
+
+-- what the answers of line_at need
+pub ruleset place_rules = (at-end, at-inside)
+
+-- what the answers of form_of need
+pub ruleset form_rules = (form-short, form-open, form-letter, form-serial, form-cents, form-good, head-serial, tail-cents, tail-is)

@@ -14,7 +14,7 @@ use Rattle.cardfile.proofs.Laws.{length-bytes}
 use Rattle.cardfile.specs.Cards.{IsSerial, Proper, letter_h, letter_d, number_of, name_of, amount_bytes, padded, spell, line_text, digit_value, read_decimal, within, serial_d, serial_of, Entry, entry_of}
 use Rattle.cardfile.specs.Lines.{name_told}
 use Rattle.cardfile.proofs.Forms.{name-is}
-use Rattle.cardfile.proofs.Spelling.{serial-back, number_small, bytes-number, read_back}
+use Rattle.cardfile.proofs.Spellings.{serial-back, number_small, bytes-number, read_back}
 
 -- ---- a name is of one serial
 

@@ -3,7 +3,8 @@ use Prim.Native.Nat.{ℕ, suc, ◌+◌, ◌<◌, ◌≤◌}
 use mathlib.Core.Path.{◌≡◌, refl, sym, ap, ◌∙◌}
 use mathlib.Core.Bool.{Bool, true, false, cond}
 use mathlib.Core.List.{List, [], ◌∷◌, ◌++◌}
-use mathlib.Core.Option.{Option, none, some}
+use mathlib.Core.Option.{Option as Maybe, none, some}
+use Rattle.std.specs.Prelude.{Some, None, Ok, Err}
 use mathlib.Core.Logic.{◌⊎◌, inl, inr}
 use native.Mathlib.Omega.{arith}
 use lib.ListN.{length, take, drop, get_or, length-drop}
@@ -12,12 +13,13 @@ use lib.Dec.{eqb, ltb, leb}
 use borrow.Author.Tests.{eqb-true, eqb-false, ltb-true, ltb-false, leb-false, lt-leb}
 use Rattle.spec.specs.Bytes.{occurs}
 use Rattle.cardfile.specs.Cards.{Entry, Proper, name_of, line_text, before, entry_of}
-use Rattle.cardfile.specs.Lines.{line_of, line_number, Standing, card, too_long, malformed, nothing, formed, standing_in, standing, card_for, name_told, line_told, line_at}
+use Rattle.cardfile.specs.Lines.{line_of, line_number, Standing, card, too_long, malformed, nothing, formed, standing_in, standing, card_for, line_for, name_told, line_told, line_at}
 use Rattle.cardfile.specs.declared.Card.{Card}
-use Rattle.cardfile.specs.declared.Line.TheVariants.{Found, TooLong, BadForm, NoLine}
+use Rattle.cardfile.specs.declared.Line.{Line}
+use Rattle.cardfile.specs.declared.LineFault.TheVariants.{TooLong, BadForm}
 use Rattle.cardfile.proofs.Laws.{before-hit, before-miss, before-nil, before-is, before-length}
 use Rattle.cardfile.proofs.Forms.{take_more}
-use Rattle.cardfile.proofs.Spelling.{before-stop, read_is}
+use Rattle.cardfile.proofs.Spellings.{before-stop, read_is}
 use Rattle.cardfile.proofs.Names.{name-told}
 
 tag : Standing → ℕ
@@ -77,7 +79,7 @@ module _ (text : List ℕ) (at : ℕ) (e : Entry) (next : ℕ) where
       no p q = let z : ◌≡◌ {A = ℕ} 1 0 = sym p ∙ ap tag q in omega arith
 
       go : (z a : Bool) → ltb 64 (length (line_of (drop at text))) ≡ a → (b : Bool) → ltb (length (line_of (drop at text))) (length (drop at text)) ≡ b
-          → (o : Option Entry) → entry_of (line_of (drop at text)) ≡ o
+          → (o : Maybe Entry) → entry_of (line_of (drop at text)) ≡ o
           → cond z nothing (cond a too_long (cond b (formed o (at + length (line_of (drop at text)) + 1)) malformed)) ≡ card e next → Stands text at e next
       go true a y b q o s h = absurd (no refl h)
       go false true y b q o s h = absurd (no refl h)
@@ -135,7 +137,7 @@ module _ (text : List ℕ) (at : ℕ) where
   too-long-at h =
       go (leb (length text) at) (ltb 64 (length line-here)) refl (ltb (length line-here) (length (drop at text))) refl (entry_of line-here) h
     where
-      go : (z a : Bool) → ltb 64 (length line-here) ≡ a → (b : Bool) → ltb (length line-here) (length (drop at text)) ≡ b → (o : Option Entry)
+      go : (z a : Bool) → ltb 64 (length line-here) ≡ a → (b : Bool) → ltb (length line-here) (length (drop at text)) ≡ b → (o : Maybe Entry)
           → cond z nothing (cond a too_long (cond b (formed o (at + length line-here + 1)) malformed)) ≡ too_long → TooLongAt text at
       go true a y b q o h = no_kind 3 1 refl refl (λ q. omega arith) h
       go false true y true q o h = record { over = ltb-true 64 (length line-here) y; fed = inl (ltb-true (length line-here) (length (drop at text)) q) }
@@ -150,7 +152,7 @@ module _ (text : List ℕ) (at : ℕ) where
       go (leb (length text) at) refl (ltb 64 (length line-here)) refl (ltb (length line-here) (length (drop at text))) refl (entry_of line-here) refl h
     where
       go : (z : Bool) → leb (length text) at ≡ z → (a : Bool) → ltb 64 (length line-here) ≡ a → (b : Bool) → ltb (length line-here) (length (drop at text)) ≡ b
-          → (o : Option Entry) → entry_of line-here ≡ o
+          → (o : Maybe Entry) → entry_of line-here ≡ o
           → cond z nothing (cond a too_long (cond b (formed o (at + length line-here + 1)) malformed)) ≡ malformed → MalformedAt text at
       go true x a y b q o s h = no_kind 3 2 refl refl (λ q. omega arith) h
       go false x true y b q o s h = no_kind 1 2 refl refl (λ q. omega arith) h
@@ -164,7 +166,7 @@ module _ (text : List ℕ) (at : ℕ) where
   unfolding standing standing_in kind
   nothing-at l h = go (ltb 64 (length line-here)) (ltb (length line-here) (length (drop at text))) (entry_of line-here) (rw (lt-leb (length text) at l) at h)
     where
-      go : (a b : Bool) (o : Option Entry) → cond a too_long (cond b (formed o (at + length line-here + 1)) malformed) ≡ nothing → ⊥
+      go : (a b : Bool) (o : Maybe Entry) → cond a too_long (cond b (formed o (at + length line-here + 1)) malformed) ≡ nothing → ⊥
       go true b o h = no_kind 1 3 refl refl (λ q. omega arith) h
       go false true none h = no_kind 2 3 refl refl (λ q. omega arith) h
       go false true (some e) h = no_kind 0 3 refl refl (λ q. omega arith) h
@@ -172,19 +174,19 @@ module _ (text : List ℕ) (at : ℕ) where
 
 -- ---- what the code's answer says of what stands there
 
-long-told : (s : Standing) → line_told s ≡ TooLong → s ≡ too_long
+long-told : (s : Standing) → line_told s ≡ Err TooLong → s ≡ too_long
 long-told (card e n) h = cc
 long-told too_long h = refl
 long-told malformed h = cc
 long-told nothing h = cc
 
-bad-told : (s : Standing) → line_told s ≡ BadForm → s ≡ malformed
+bad-told : (s : Standing) → line_told s ≡ Err BadForm → s ≡ malformed
 bad-told (card e n) h = cc
 bad-told too_long h = cc
 bad-told malformed h = refl
 bad-told nothing h = cc
 
-none_told : (s : Standing) → line_told s ≡ NoLine → s ≡ nothing
+none_told : (s : Standing) → line_told s ≡ Ok None → s ≡ nothing
 none_told (card e n) h = cc
 none_told too_long h = cc
 none_told malformed h = cc
@@ -195,35 +197,36 @@ pub record FoundAt (text : List ℕ) (at : ℕ) (c : Card) (next : ℕ) : Type 0
   pub entry : Entry
   pub is : standing text at ≡ card entry next
   pub says : c ≡ card_for entry
-  pub name : name_told c.bytes c.number ≡ name_of entry.serial
+  pub name : name_told c.serial.bytes c.serial.number ≡ name_of entry.serial
   pub amount : c.amount ≡ entry.amount
 
 module _ (text : List ℕ) (at : ℕ) where
-  pub long-at : line_at text at ≡ TooLong → standing text at ≡ too_long
+  pub long-at : line_at text at ≡ Err TooLong → standing text at ≡ too_long
   long-at h = long-told (standing text at) h
 
-  pub bad-at : line_at text at ≡ BadForm → standing text at ≡ malformed
+  pub bad-at : line_at text at ≡ Err BadForm → standing text at ≡ malformed
   bad-at h = bad-told (standing text at) h
 
-  pub none-at : line_at text at ≡ NoLine → standing text at ≡ nothing
+  pub none-at : line_at text at ≡ Ok None → standing text at ≡ nothing
   none-at h = none_told (standing text at) h
 
-  pub found_at : (c : Card) (next : ℕ) → line_at text at ≡ Found c next → FoundAt text at c next
+  pub found_at : (x : Line) → line_at text at ≡ Ok (Some x) → FoundAt text at x.card x.next
   unfolding card_for
-  found_at c next h = go (standing text at) refl h
+  found_at x h = go (standing text at) refl h
     where
-      go : (s : Standing) → standing text at ≡ s → line_told s ≡ Found c next → FoundAt text at c next
+      go : (s : Standing) → standing text at ≡ s → line_told s ≡ Ok (Some x) → FoundAt text at x.card x.next
       go (card e n) q h =
-          let m : n ≡ next = cc in
-          let x : card_for e ≡ c = cc in
+          let l : line_for e n ≡ x = cc in
+          let m : n ≡ x.next = ap (λ (y : Line). y.next) l in
+          let c : card_for e ≡ x.card = ap (λ (y : Line). y.card) l in
           let p = (stands text at e n q).proper in
           record {
             entry = e;
             is = q ∙ ap (card e) m;
-            says = sym x;
-            name = ap (λ (d : Card). name_told d.bytes d.number) (sym x) ∙ name-told e p;
-            amount = ap (λ (d : Card). d.amount) (sym x);
+            says = sym c;
+            name = ap (λ (d : Card). name_told d.serial.bytes d.serial.number) (sym c) ∙ name-told e p;
+            amount = ap (λ (d : Card). d.amount) (sym c);
           }
-      go too_long q h = let z : ◌≡◌ {A = ℕ} 0 1 = cc in absurd (omega arith)
-      go malformed q h = let z : ◌≡◌ {A = ℕ} 0 1 = cc in absurd (omega arith)
-      go nothing q h = let z : ◌≡◌ {A = ℕ} 0 1 = cc in absurd (omega arith)
+      go too_long q h = cc
+      go malformed q h = cc
+      go nothing q h = cc

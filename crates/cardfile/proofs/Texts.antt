@@ -12,7 +12,7 @@ use Rattle.spec.specs.Listing.{digits, decimal, hex_digit, hexadecimal}
 use Rattle.cardfile.specs.Cards.{IsSerial, Proper, Entry, letter_h, letter_d, number_of, padded, digits_for, spell, line_text, before}
 use Rattle.cardfile.specs.Lines.{card, standing_in, standing}
 use Rattle.cardfile.proofs.Laws.{before-hit, before-miss}
-use Rattle.cardfile.proofs.Spelling.{length-hex, length-padded, digits-few, read_back}
+use Rattle.cardfile.proofs.Spellings.{length-hex, length-padded, digits-few, read_back}
 
 -- bytes from 48 on: no feed is among them
 unfoldable pub Printed : List ℕ → Type 0

@@ -1,18 +1,16 @@
 -- What stands at a place of a text, and what the code answers of it.
-use Rattle.std.specs.Prelude.{ℕ, suc, ◌+◌, ◌*◌, ◌%◌, cond, List, [], ◌∷◌, length, take, drop, eqb, ltb, leb}
-use Rattle.std.proofs.Math.Option.{Option, none, some}
+use Rattle.std.specs.Prelude.{ℕ, suc, ◌+◌, ◌*◌, ◌%◌, cond, List, [], ◌∷◌, length, take, drop, eqb, ltb, leb, Option, Some, None, Result, Ok, Err}
+use Rattle.std.proofs.Math.Option.{Option as Maybe, none, some}
 use Rattle.spec.specs.Bytes.{occurs}
 use Rattle.spec.specs.Listing.{decimal}
-use Rattle.cardfile.specs.Cards.{Entry, number_of, bytes_of, before, entry_of}
-use Rattle.cardfile.specs.declared.Number.{Number}
-use Rattle.cardfile.specs.declared.Number.TheVariants.{Value, NoNumber}
+use Rattle.cardfile.specs.Cards.{Entry, letter_h, letter_d, number_of, bytes_of, before, entry_of}
+use Rattle.cardfile.specs.declared.Spelling.{Spelling}
+use Rattle.cardfile.specs.declared.Spelling.TheVariants.{Hexadecimal, Decimal}
 use Rattle.cardfile.specs.declared.Serial.{Serial}
-use Rattle.cardfile.specs.declared.Serial.TheVariants.{Bytes, NoSerial}
 use Rattle.cardfile.specs.declared.Card.{Card}
-use Rattle.cardfile.specs.declared.Form.{Form}
-use Rattle.cardfile.specs.declared.Form.TheVariants.{Good, Bad}
 use Rattle.cardfile.specs.declared.Line.{Line}
-use Rattle.cardfile.specs.declared.Line.TheVariants.{Found, TooLong, BadForm, NoLine}
+use Rattle.cardfile.specs.declared.LineFault.{LineFault}
+use Rattle.cardfile.specs.declared.LineFault.TheVariants.{TooLong, BadForm}
 
 abbrev pub feed : ℕ
 feed = 10
@@ -42,7 +40,7 @@ pub data Standing : Type 0 where
   malformed : Standing
   nothing : Standing
 
-abbrev pub formed : Option Entry → ℕ → Standing
+abbrev pub formed : Maybe Entry → ℕ → Standing
 formed none next = malformed
 formed (some e) next = card e next
 
@@ -57,43 +55,66 @@ standing text at = cond (leb (length text) at) nothing (standing_in (drop at tex
 
 -- ---- the code's answers for what is read
 
-abbrev pub number_told : Option ℕ → Number
-number_told none = NoNumber
-number_told (some n) = Value n
+-- a value below a limit, which stands for none: 10 for a digit, 16 for a hexadecimal digit, 256 for two of them
+abbrev pub below : ℕ → ℕ → Option ℕ
+below limit v = cond (ltb v limit) (Some v) None
 
-abbrev pub bytes_told : Option (List ℕ) → Number
-bytes_told none = NoNumber
-bytes_told (some s) = Value (number_of s)
+abbrev pub number_told : Maybe ℕ → Option ℕ
+number_told none = None
+number_told (some n) = Some n
 
-abbrev pub serial_told : Option (List ℕ) → Serial
-serial_told none = NoSerial
-serial_told (some s) = Bytes (length s) (number_of s)
+abbrev pub bytes_told : Maybe (List ℕ) → Option ℕ
+bytes_told none = None
+bytes_told (some s) = Some (number_of s)
 
--- a serial by the number of its bytes and the number they make, an amount with the number of its digits
+-- a serial by the number of its bytes and the number they make
+abbrev pub serial_for : List ℕ → Serial
+serial_for s = record { bytes = length s; number = number_of s }
+
+abbrev pub serial_told : Maybe (List ℕ) → Option Serial
+serial_told none = None
+serial_told (some s) = Some (serial_for s)
+
+-- the letter of the lines in a spelling
+abbrev pub letter_of : Spelling → ℕ
+letter_of Hexadecimal = letter_h
+letter_of Decimal = letter_d
+
+abbrev pub spelling_of : ℕ → Option Spelling
+spelling_of letter = cond (eqb letter letter_h) (Some Hexadecimal) (cond (eqb letter letter_d) (Some Decimal) None)
+
+-- the spelling of an entry, whose letter is one of the two
+abbrev pub spelling_for : ℕ → Spelling
+spelling_for letter = cond (eqb letter letter_h) Hexadecimal Decimal
+
+-- an entry with its amount's digits counted
 unfoldable pub card_for : Entry → Card
 card_for e =
     record {
-      bytes = length e.serial;
-      number = number_of e.serial;
-      letter = e.letter;
+      serial = serial_for e.serial;
+      spelling = spelling_for e.letter;
       amount = e.amount;
       digits = length (decimal e.amount);
     }
 
-abbrev pub form_told : Option Entry → Form
-form_told none = Bad
-form_told (some e) = Good (card_for e)
+abbrev pub form_told : Maybe Entry → Option Card
+form_told none = None
+form_told (some e) = Some (card_for e)
 
-abbrev pub line_told : Standing → Line
-line_told (card e next) = Found (card_for e) next
-line_told too_long = TooLong
-line_told malformed = BadForm
-line_told nothing = NoLine
+-- a card with the place behind its line's feed
+abbrev pub line_for : Entry → ℕ → Line
+line_for e next = record { card = card_for e; next = next }
 
-abbrev pub line_in : List ℕ → ℕ → Line
+abbrev pub line_told : Standing → Result (Option Line) LineFault
+line_told (card e next) = Ok (Some (line_for e next))
+line_told too_long = Err TooLong
+line_told malformed = Err BadForm
+line_told nothing = Ok None
+
+abbrev pub line_in : List ℕ → ℕ → Result (Option Line) LineFault
 line_in rest at = line_told (standing_in rest at)
 
-abbrev pub line_at : List ℕ → ℕ → Line
+abbrev pub line_at : List ℕ → ℕ → Result (Option Line) LineFault
 line_at text at = line_told (standing text at)
 
 -- the name of a card by the number of its serial's bytes and the number they make; of other numbers, the lowest bytes

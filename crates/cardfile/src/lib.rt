@@ -1,46 +1,52 @@
 // The printer's file: what stands at a place of it, line by line. What a line says is defined in specs/Cards.antt, what stands at a place in specs/Lines.antt.
 #![tactic(auto)]
 
-ghost use Rattle.std.specs.Prelude.{◌≡◌, suc, ◌+◌, ◌*◌, ◌<◌, ◌≤◌, ◌^◌, min, length};
-ghost use Rattle.spec.specs.Bytes.{occurs};
-ghost use Rattle.cardfile.specs.Cards.{before, digit_value, hex_value, hex_byte, read_hex, read_decimal, within, serial_h, serial_d, serial_of, amount_of, entry_of, bytes_of, amount_bytes};
-ghost use Rattle.cardfile.specs.Lines.{line_of, line_number, number_told, bytes_told, serial_told, form_told, line_in, line_at, name_told};
+ghost use Rattle.std.specs.Prelude.{◌≡◌, ◌+◌, ◌*◌, ◌<◌, ◌≤◌, ◌^◌, ◌==◌, min, position, length};
+ghost use Rattle.cardfile.specs.Cards.{before, digit_value, hex_value, hex_byte, read_hex, read_decimal, within, serial_h, serial_d, serial_of, amount_of, entry_of, amount_bytes};
+ghost use Rattle.cardfile.specs.Lines.{line_of, line_number, below, letter_of, spelling_of, number_told, bytes_told, serial_told, form_told, line_in, line_at, name_told};
 
-// A number that was read, or none.
-#[derive(Clone, Copy)]
-pub enum Number {
-    Value(u64),
-    NoNumber,
+// The two spellings of a serial: H lines and D lines.
+#[derive(Clone, Copy, PartialEq, Eq)]
+pub enum Spelling {
+    Hexadecimal,
+    Decimal,
 }
 
-// A serial: how many bytes, and the number they make, the first the lowest.
-#[derive(Clone, Copy)]
-pub enum Serial {
-    Bytes(usize, u64),
-    NoSerial,
+impl Spelling {
+    // The letter of its lines.
+    pub fn letter(self) -> u8
+        ensures { result ≡ letter_of self }
+    {
+        match self {
+            Spelling::Hexadecimal => b'H',
+            Spelling::Decimal => b'D',
+        }
+    }
+
+    // The spelling of the lines with a letter.
+    fn of_letter(letter: u8) -> Option<Spelling>
+        ensures { result ≡ spelling_of letter }
+    {
+        match letter {
+            b'H' => Some(Spelling::Hexadecimal),
+            b'D' => Some(Spelling::Decimal),
+            _ => None,
+        }
+    }
 }
 
-// What a line says. The amount's digits are its last bytes.
+// How many bytes a serial has, and the number that they make, the first the lowest.
 #[derive(Clone, Copy)]
-pub struct Card {
+pub struct Serial {
     pub bytes: usize,
     pub number: u64,
-    pub letter: u8,
-    pub amount: u64,
-    pub digits: usize,
 }
 
-impl Card {
-    // "at most 64 bytes before the feed"
-    pub const LINE_LENGTH: usize = 64;
-
-    // One more: so far a feed is looked for.
-    pub const LINE_SEEN: usize = 65;
-
+impl Serial {
     // "8 or 14 hexadecimal digits", "10 digits for four bytes and 17 for seven"
-    pub const SHORT_SERIAL: usize = 4;
+    pub const SHORT: usize = 4;
 
-    pub const LONG_SERIAL: usize = 7;
+    pub const LONG: usize = 7;
 
     pub const SHORT_HEX: usize = 8;
 
@@ -54,336 +60,265 @@ impl Card {
     pub const SHORT_LIMIT: u64 = 4294967296;
 
     pub const LONG_LIMIT: u64 = 72057594037927936;
+}
 
+// What a line says. The amount's digits are its last bytes.
+#[derive(Clone, Copy)]
+pub struct Card {
+    pub serial: Serial,
+    pub spelling: Spelling,
+    pub amount: u64,
+    pub digits: usize,
+}
+
+impl Card {
     // "one to eight digits"
     pub const AMOUNT_DIGITS: usize = 8;
 }
 
+// The card of a line, and the place behind the line's feed.
 #[derive(Clone, Copy)]
-pub enum Form {
-    Good(Card),
-    Bad,
+pub struct Line {
+    pub card: Card,
+    pub next: usize,
 }
 
-// What stands at a place of a text; with a card the place behind its feed.
+impl Line {
+    // "at most 64 bytes before the feed"
+    pub const LENGTH: usize = 64;
+
+    // One more: so far a feed is looked for.
+    pub const SEEN: usize = 65;
+}
+
+// Why a line has no card: "longer than 64 bytes", "not of this form or without its feed".
 #[derive(Clone, Copy)]
-pub enum Line {
-    Found(Card, usize),
+pub enum LineFault {
     TooLong,
     BadForm,
-    NoLine,
+}
+
+// The place of the first x.
+fn place_of(s: &[u8], x: u8) -> Option<usize>
+    ensures { result ≡ position (λ c. c == x) s.now }
+{
+    s.iter().position(|c| *c == x)
 }
 
 // How many bytes stand before the first x.
 fn until(s: &[u8], x: u8) -> usize
     ensures { result ≡ length (before x s.now) }
 {
-    let mut k: usize = 0;
-    while k < s.len() {
-        if s[k] == x {
-            return k;
-        }
-        k += 1;
-    }
-    k
+    place_of(s, x).unwrap_or(s.len())
 }
 
 // The bytes of the line that a text begins with, at most one more than a line may have.
 fn line_length(rest: &[u8]) -> usize
     ensures { result ≡ min 65 (length (line_of rest.now)) }
 {
-    if rest.len() <= Card::LINE_SEEN {
-        return until(rest, b'\n');
-    }
-    until(&rest[0..Card::LINE_SEEN], b'\n')
+    let seen = rest.len().min(Line::SEEN);
+    until(&rest[..seen], b'\n')
 }
 
-// A digit's value; 10 for a byte that is none.
-fn digit_value(c: u8) -> u64
-    ensures { (result ≡ digit_value c) × (result ≤ 10) }
+// A digit's value.
+#[tactic(auto, using(crate::proofs::Laws::digit_rules))]
+fn digit_value(c: u8) -> Option<u64>
+    ensures { result ≡ below 10 (digit_value c) }
 {
-    if c < b'0' {
-        return 10;
+    match c {
+        b'0'..=b'9' => Some(u64::from(c - b'0')),
+        _ => None,
     }
-    if b'9' < c {
-        return 10;
-    }
-    (c - b'0') as u64
 }
 
-// A hexadecimal digit's value; 16 for a byte that is none.
-fn hex_value(c: u8) -> u64
-    ensures { (result ≡ hex_value c) × (result ≤ 16) }
+// A hexadecimal digit's value.
+#[tactic(auto, using(crate::proofs::Laws::digit_rules))]
+fn hex_value(c: u8) -> Option<u64>
+    ensures { result ≡ below 16 (hex_value c) }
 {
-    if c < b'0' {
-        return 16;
+    match c {
+        b'0'..=b'9' => Some(u64::from(c - b'0')),
+        b'A'..=b'F' => Some(10 + u64::from(c - b'A')),
+        _ => None,
     }
-    if c <= b'9' {
-        return (c - b'0') as u64;
-    }
-    if c < b'A' {
-        return 16;
-    }
-    if b'F' < c {
-        return 16;
-    }
-    // 'A' is 10.
-    (c - 55) as u64
 }
 
-// Two hexadecimal digits as a byte; 256 where one is none.
-fn hex_byte(a: u8, b: u8) -> u64
-    ensures { (result ≡ hex_byte a b) × (result ≤ 256) }
+// Two hexadecimal digits as a byte.
+#[tactic(auto, using(crate::proofs::Laws::pair_rules))]
+fn hex_byte(a: u8, b: u8) -> Option<u64>
+    ensures { result ≡ below 256 (hex_byte a b) }
 {
-    let x = hex_value(a);
-    if x == 16 {
-        return 256;
-    }
-    let y = hex_value(b);
-    if y == 16 {
-        return 256;
-    }
-    16 * x + y
+    Some(16 * hex_value(a)? + hex_value(b)?)
 }
 
 // The number that decimal digits spell.
-fn decimal_number(t: &[u8]) -> Number
+#[tactic(auto, using(crate::proofs::Laws::decimal_rules))]
+fn decimal_number(t: &[u8]) -> Option<u64>
     requires { length t.now ≤ 17 }
     ensures { result ≡ number_told (read_decimal 0 t.now) }
 {
-    let mut n: u64 = 0;
-    let mut k: usize = 0;
-    while k < t.len() {
-        let d = digit_value(t[k]);
-        if 9 < d {
-            return Number::NoNumber;
-        }
-        n = 10 * n + d;
-        k += 1;
+    let mut n = 0;
+    for c in t {
+        n = 10 * n + digit_value(*c)?;
     }
-    Number::Value(n)
+    Some(n)
 }
 
 // The number of the bytes that hexadecimal digits spell, from the last byte on.
-fn hex_number(t: &[u8], bytes: usize) -> Number
+#[tactic(auto, using(crate::proofs::Laws::hex_rules))]
+fn hex_number(t: &[u8], bytes: usize) -> Option<u64>
     requires { (length t.now ≡ 2 * bytes) × (bytes ≤ 7) }
     ensures { result ≡ bytes_told (read_hex t.now) }
 {
-    let mut n: u64 = 0;
-    let mut k = bytes;
-    while 0 < k {
-        k -= 1;
-        let b = hex_byte(t[2 * k], t[2 * k + 1]);
-        if 255 < b {
-            return Number::NoNumber;
-        }
-        n = 256 * n + b;
+    let mut n = 0;
+    for k in (0..bytes).rev() {
+        n = 256 * n + hex_byte(t[2 * k], t[2 * k + 1])?;
     }
-    Number::Value(n)
+    Some(n)
 }
 
 // The serial that hexadecimal digits spell.
-fn hex_serial(t: &[u8], bytes: usize) -> Serial
+#[tactic(auto, using(crate::proofs::Laws::hex_rules))]
+fn hex_serial(t: &[u8], bytes: usize) -> Option<Serial>
     requires { (length t.now ≡ 2 * bytes) × (bytes ≤ 7) }
     ensures { result ≡ serial_told (read_hex t.now) }
 {
-    match hex_number(t, bytes) {
-        Number::Value(n) => Serial::Bytes(bytes, n),
-        Number::NoNumber => Serial::NoSerial,
-    }
+    let number = hex_number(t, bytes)?;
+    Some(Serial { bytes, number })
 }
 
 // The serial of an H line.
-fn serial_h(t: &[u8]) -> Serial
+#[tactic(auto, using(crate::proofs::Forms::serial_rules))]
+fn serial_h(t: &[u8]) -> Option<Serial>
     ensures { result ≡ serial_told (serial_h t.now) }
 {
-    if t.len() == Card::SHORT_HEX {
-        return hex_serial(t, Card::SHORT_SERIAL);
+    match t.len() {
+        Serial::SHORT_HEX => hex_serial(t, Serial::SHORT),
+        Serial::LONG_HEX => hex_serial(t, Serial::LONG),
+        _ => None,
     }
-    if t.len() == Card::LONG_HEX {
-        return hex_serial(t, Card::LONG_SERIAL);
-    }
-    Serial::NoSerial
 }
 
 // The serial that decimal digits spell; its bytes hold the numbers below a limit.
-fn decimal_serial(t: &[u8], bytes: usize, limit: u64) -> Serial
+#[tactic(auto, using(crate::proofs::Laws::within_rules))]
+fn decimal_serial(t: &[u8], bytes: usize, limit: u64) -> Option<Serial>
     requires { (length t.now ≤ 17) × (limit ≡ 256 ^ bytes) }
     ensures { result ≡ serial_told (within bytes (read_decimal 0 t.now)) }
 {
-    match decimal_number(t) {
-        Number::Value(n) => {
-            if n < limit {
-                return Serial::Bytes(bytes, n);
-            }
-            Serial::NoSerial
-        }
-        Number::NoNumber => Serial::NoSerial,
-    }
+    let number = decimal_number(t)?;
+    (number < limit).then_some(Serial { bytes, number })
 }
 
 // The serial of a D line.
-fn serial_d(t: &[u8]) -> Serial
+#[tactic(auto, using(crate::proofs::Forms::serial_rules))]
+fn serial_d(t: &[u8]) -> Option<Serial>
     ensures { result ≡ serial_told (serial_d t.now) }
 {
-    if t.len() == Card::SHORT_DECIMAL {
-        return decimal_serial(t, Card::SHORT_SERIAL, Card::SHORT_LIMIT);
+    match t.len() {
+        Serial::SHORT_DECIMAL => decimal_serial(t, Serial::SHORT, Serial::SHORT_LIMIT),
+        Serial::LONG_DECIMAL => decimal_serial(t, Serial::LONG, Serial::LONG_LIMIT),
+        _ => None,
     }
-    if t.len() == Card::LONG_DECIMAL {
-        return decimal_serial(t, Card::LONG_SERIAL, Card::LONG_LIMIT);
-    }
-    Serial::NoSerial
 }
 
-// The serial of a line with this letter.
-fn serial_of(t: &[u8], letter: u8) -> Serial
-    ensures { result ≡ serial_told (serial_of letter t.now) }
+// The serial of a line in this spelling.
+#[tactic(auto, using(crate::proofs::Forms::serial_rules))]
+fn serial_of(t: &[u8], spelling: Spelling) -> Option<Serial>
+    ensures { result ≡ serial_told (serial_of (letter_of spelling) t.now) }
 {
-    if letter == b'H' {
-        return serial_h(t);
+    match spelling {
+        Spelling::Hexadecimal => serial_h(t),
+        Spelling::Decimal => serial_d(t),
     }
-    if letter == b'D' {
-        return serial_d(t);
-    }
-    Serial::NoSerial
 }
 
 // Cents: one to eight digits without idle leading zeros.
-fn amount_of(t: &[u8]) -> Number
+#[tactic(auto, using(crate::proofs::Forms::cents_rules))]
+fn amount_of(t: &[u8]) -> Option<u64>
     ensures { result ≡ number_told (amount_of t.now) }
 {
-    if t.len() == 0 {
-        return Number::NoNumber;
+    match t {
+        [] | [b'0', _, ..] => None,
+        _ if Card::AMOUNT_DIGITS < t.len() => None,
+        _ => decimal_number(t),
     }
-    if Card::AMOUNT_DIGITS < t.len() {
-        return Number::NoNumber;
-    }
-    if t.len() == 1 {
-        return decimal_number(t);
-    }
-    if t[0] == b'0' {
-        return Number::NoNumber;
-    }
-    decimal_number(t)
 }
 
 // The card of a line without its feed.
-fn form_of(line: &[u8]) -> Form
+#[tactic(auto, using(crate::proofs::Forms::form_rules))]
+fn form_of(line: &[u8]) -> Option<Card>
     requires { length line.now ≤ 64 }
     ensures { result ≡ form_told (entry_of line.now) }
 {
     let k = until(line, b';');
-    if line.len() <= k + 2 {
-        return Form::Bad;
+    if line.len() <= k + 2 || line[k + 2] != b';' {
+        return None;
     }
-    if line[k + 2] != b';' {
-        return Form::Bad;
-    }
-    let letter = line[k + 1];
-    let from = k + 3;
-    match serial_of(&line[0..k], letter) {
-        Serial::NoSerial => Form::Bad,
-        Serial::Bytes(bytes, number) => {
-            let cents = &line[from..];
-            match amount_of(cents) {
-                Number::NoNumber => Form::Bad,
-                Number::Value(amount) => {
-                    let digits = cents.len();
-                    Form::Good(Card {
-                        bytes: bytes,
-                        number: number,
-                        letter: letter,
-                        amount: amount,
-                        digits: digits,
-                    })
-                }
-            }
-        }
-    }
+    let spelling = Spelling::of_letter(line[k + 1])?;
+    let serial = serial_of(&line[..k], spelling)?;
+    let cents = &line[k + 3..];
+    let amount = amount_of(cents)?;
+    Some(Card {
+        serial,
+        spelling,
+        amount,
+        digits: cents.len(),
+    })
 }
 
-// What stands at a place, by the text from there on.
+// What a text begins with that stands at a place.
 #[tactic(auto, using(crate::proofs::Forms::line_rules))]
-fn line_in(rest: &[u8], at: usize) -> Line
+fn line_in(rest: &[u8], at: usize) -> Result<Option<Line>, LineFault>
     requires { at + length rest.now < 18446744073709551616 }
     ensures { result ≡ line_in rest.now at }
 {
     let n = line_length(rest);
-    if Card::LINE_LENGTH < n {
-        return Line::TooLong;
+    if Line::LENGTH < n {
+        return Err(LineFault::TooLong);
     }
     if n == rest.len() {
-        return Line::BadForm;
+        return Err(LineFault::BadForm);
     }
-    match form_of(&rest[0..n]) {
-        Form::Good(card) => Line::Found(card, at + n + 1),
-        Form::Bad => Line::BadForm,
-    }
+    let card = form_of(&rest[..n]).ok_or(LineFault::BadForm)?;
+    Ok(Some(Line {
+        card,
+        next: at + n + 1,
+    }))
 }
 
-// What stands at a place of a text.
-pub fn line_at(text: &[u8], at: usize) -> Line
+// What stands at a place of a text; none behind its end.
+#[tactic(auto, using(crate::proofs::Forms::place_rules))]
+pub fn line_at(text: &[u8], at: usize) -> Result<Option<Line>, LineFault>
     ensures { result ≡ line_at text.now at }
 {
     if text.len() <= at {
-        return Line::NoLine;
+        return Ok(None);
     }
     line_in(&text[at..], at)
-}
-
-// The number of the line behind a text.
-fn lines_in(text: &[u8]) -> usize
-    ensures { result ≡ suc (occurs 10 text.now) }
-{
-    let mut n: usize = 1;
-    let mut k: usize = 0;
-    while k < text.len() {
-        if text[k] == b'\n' {
-            n += 1;
-        }
-        k += 1;
-    }
-    n
 }
 
 // The number of the line at a place, counted from 1.
 pub fn line_number(text: &[u8], at: usize) -> usize
     ensures { result ≡ line_number text.now at }
 {
-    if text.len() <= at {
-        return lines_in(text);
-    }
-    lines_in(&text[0..at])
-}
-
-// The eight bytes of a number, the lowest first.
-fn eight_bytes(n: u64) -> [u8; 8]
-    ensures { result ≡ bytes_of 8 n }
-{
-    [
-        (n % 256) as u8,
-        (n / 256 % 256) as u8,
-        (n / 65536 % 256) as u8,
-        (n / 16777216 % 256) as u8,
-        (n / 4294967296 % 256) as u8,
-        (n / 1099511627776 % 256) as u8,
-        (n / 281474976710656 % 256) as u8,
-        (n / 72057594037927936 % 256) as u8,
-    ]
+    let end = at.min(text.len());
+    1 + text[..end].iter().filter(|c| **c == b'\n').count()
 }
 
 // The name of a card: the number of its serial's bytes, these bytes, zeros.
+#[tactic(auto, using(crate::proofs::Forms::bytes_rules))]
 pub fn name_of(card: Card) -> [u8; 8]
-    ensures { result ≡ name_told card.bytes card.number }
+    ensures { result ≡ name_told card.serial.bytes card.serial.number }
 {
-    let bytes = card.bytes % 256;
-    let number = card.number % Card::LONG_LIMIT;
-    eight_bytes(bytes as u64 + 256 * number)
+    let bytes = card.serial.bytes % 256;
+    let number = card.serial.number % Serial::LONG_LIMIT;
+    (bytes as u64 + 256 * number).to_le_bytes()
 }
 
 // What its file holds.
+#[tactic(auto, using(crate::proofs::Forms::bytes_rules))]
 pub fn amount_bytes(amount: u64) -> [u8; 8]
     ensures { result ≡ amount_bytes amount }
 {
-    eight_bytes(amount)
+    amount.to_le_bytes()
 }

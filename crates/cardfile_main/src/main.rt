@@ -1,33 +1,15 @@
 // The worked examples of the printer's file: what it writes is held to the file stdout.
 #![tactic(auto)]
 
-use cardfile::{Card, Line, amount_bytes, line_at, name_of};
+use cardfile::{Card, LineFault, amount_bytes, line_at, name_of};
 use std::io;
 
-fn hex_of(x: u8) -> u8 {
-    let n = x % 16;
-    if n < 10 {
-        return b'0' + n;
-    }
-    // 'A' is 10.
-    55 + n
-}
-
-fn show_byte(rt: &impl Print, x: u8) -> io::Result<()> {
-    let pair = [hex_of(x / 16), hex_of(x)];
-    rt.write_all(&pair)
-}
-
-fn show_bytes(rt: &impl Print, bytes: &[u8; 8]) -> io::Result<()> {
+fn show_bytes(rt: &impl Print, bytes: &[u8]) -> io::Result<()> {
     rt.write_all(b" ")?;
-    show_byte(rt, bytes[0])?;
-    show_byte(rt, bytes[1])?;
-    show_byte(rt, bytes[2])?;
-    show_byte(rt, bytes[3])?;
-    show_byte(rt, bytes[4])?;
-    show_byte(rt, bytes[5])?;
-    show_byte(rt, bytes[6])?;
-    show_byte(rt, bytes[7])
+    for x in bytes {
+        print!(rt; "{x:02X}")?;
+    }
+    Ok(())
 }
 
 fn show_card(rt: &impl Print, card: Card) -> io::Result<()> {
@@ -41,17 +23,15 @@ fn show_card(rt: &impl Print, card: Card) -> io::Result<()> {
 fn show_sign(rt: &impl Print, c: u8) -> io::Result<()> {
     if c < 32 || 126 < c {
         rt.write_all(b"\\")?;
-        return show_byte(rt, c);
+        return print!(rt; "{c:02X}");
     }
     let sign = [c];
     rt.write_all(&sign)
 }
 
 fn show_text(rt: &impl Print, text: &[u8]) -> io::Result<()> {
-    let mut k: usize = 0;
-    while k < text.len() {
-        show_sign(rt, text[k])?;
-        k += 1;
+    for c in text {
+        show_sign(rt, *c)?;
     }
     Ok(())
 }
@@ -62,16 +42,10 @@ fn show(rt: &impl Print, text: &[u8]) -> io::Result<()> {
     show_text(rt, text)?;
     rt.write_all(b"\"")?;
     match line_at(text, 0) {
-        Line::Found(card, _) => show_card(rt, card)?,
-        Line::TooLong => {
-            rt.write_all(b" 20")?;
-        }
-        Line::BadForm => {
-            rt.write_all(b" 21")?;
-        }
-        Line::NoLine => {
-            rt.write_all(b" none")?;
-        }
+        Ok(Some(line)) => show_card(rt, line.card)?,
+        Ok(None) => rt.write_all(b" none")?,
+        Err(LineFault::TooLong) => rt.write_all(b" 20")?,
+        Err(LineFault::BadForm) => rt.write_all(b" 21")?,
     }
     rt.write_all(b"\n")
 }
@@ -162,11 +136,8 @@ fn main(rt: HostRuntime) -> io::Result<()> {
     serials(&rt)?;
     lengths(&rt)?;
     rt.write_all(b"lines:")?;
-    line_number(&rt, b"a\nb\nc\n", 0)?;
-    line_number(&rt, b"a\nb\nc\n", 1)?;
-    line_number(&rt, b"a\nb\nc\n", 2)?;
-    line_number(&rt, b"a\nb\nc\n", 4)?;
-    line_number(&rt, b"a\nb\nc\n", 6)?;
-    line_number(&rt, b"a\nb\nc\n", 100)?;
+    for at in [0, 1, 2, 4, 6, 100] {
+        line_number(&rt, b"a\nb\nc\n", at)?;
+    }
     rt.write_all(b"\n")
 }

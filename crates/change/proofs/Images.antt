@@ -6,6 +6,7 @@ use mathlib.Core.List.{List, [], ◌∷◌, ◌++◌}
 use native.Mathlib.Omega.{arith}
 use borrow.Author.Tests.{eqb-true}
 use lib.Dec.{eqb}
+use lib.Pointwise.{pointwise}
 use lib.ListN.{length, take, drop, length-take, length-drop, take-append-drop}
 use lib.Seq.{take_all, drop-drop, take-append_seam, drop-append_seam, ext_get_or, get_or-take, get_or-drop}
 use Rattle.spec.specs.Bytes.{exactly, part, patch, same, place}
@@ -19,7 +20,7 @@ use Rattle.lists.specs.Tests.{eqb-turn}
 use Rattle.block.specs.Stores.{stored_in}
 use Rattle.block.proofs.Laws.{length-exactly, get_or-exactly, exactly-all, block-is, block_read, with-same, same_self, same_true}
 use Rattle.block.proofs.Steps.{slice-stored}
-use Rattle.transaction.specs.declared.Place.TheVariants.{At, Nothing}
+use Rattle.std.specs.Prelude.{Some, None}
 use Rattle.transaction.specs.Places.{found_at, spot, blocks_with, session_of, view_in}
 use Rattle.transaction.proofs.Laws.{spot-at, spot-new, view-at, view-new, cells-lent, cells-view, stage-leaves}
 use Rattle.inode.specs.Records.{bytes_in}
@@ -27,6 +28,16 @@ use Rattle.content.specs.Content.{with_record}
 use Rattle.change.specs.Contents.{Ready}
 
 -- ---- what is compared
+
+-- two slices of one type compared
+pub same-slices : (xs ys : List ℕ) (r : Bool) → r ≡ pointwise eqb xs ys → r ≡ same xs ys
+same-slices xs ys r e = e ∙ go xs ys
+  where
+    go : (xs ys : List ℕ) → pointwise eqb xs ys ≡ same xs ys
+    go [] [] = refl
+    go [] (y ∷ ys) = refl
+    go (x ∷ xs) [] = refl
+    go (x ∷ xs) (y ∷ ys) = ap (λ (t : Bool). eqb x y && t) (go xs ys)
 
 -- a part of some bytes that reach so far is the part of the block
 pub part-padded : (xs bytes : List ℕ) (at end : ℕ) (r : Bool) → end ≡ at + length bytes → end ≤ 512 → end ≤ length xs
@@ -118,12 +129,12 @@ with-twice k x y d = fun_ext (λ c. go c (eqb c k) refl)
 -- where these are staged
 module _ (l device work : List ℕ) (b : ℕ) where
   -- where the block is staged its image is its working copy
-  pub image-held : (i : ℕ) → found_at (place b l) ≡ At i → slice_of work ≡ stored_in (slice_of work) (spot l b) (view_in l device work b)
+  pub image-held : (i : ℕ) → found_at (place b l) ≡ Some i → slice_of work ≡ stored_in (slice_of work) (spot l b) (view_in l device work b)
   image-held i e =
       ap (λ (d : Disk). record { size = length work; block = d }) (sym (with-self i (blocks_of work)))
       ∙ ap₂ (λ (k : ℕ) (x : List ℕ). stored_in (slice_of work) k x) (spot-at l b i e) (sym (view-at l device work b i e))
 
-  pub image-new : (left from : List ℕ) (n : ℕ) → found_at (place b l) ≡ Nothing → n ≡ length l → from ≡ take 512 (drop (512 * b) device)
+  pub image-new : (left from : List ℕ) (n : ℕ) → found_at (place b l) ≡ None → n ≡ length l → from ≡ take 512 (drop (512 * b) device)
       → slice_of left ≡ stored_in (slice_of work) n (exactly 512 from) → slice_of left ≡ stored_in (slice_of work) (spot l b) (view_in l device work b)
   image-new left from n e en ef h =
       h ∙ ap₂ (λ (k : ℕ) (x : List ℕ). stored_in (slice_of work) k x) (en ∙ spot-new l b e) (block_read device from (exactly 512 from) b ef refl ∙ sym (view-new l device work b e))

@@ -1,6 +1,6 @@
 pub mod Contents
-pub mod Places
-pub mod Steps
-pub mod Staging
 pub mod Images
 pub mod Outside
+pub mod Places
+pub mod Staging
+pub mod Steps

@@ -58,9 +58,6 @@ outside held old size x bytes low high lh ld lk hd hk =
 
 -- ---- what the code's tests tell
 
-pub in-gap : (high p held : ℕ) → (leb high p && ltb p held) ≡ true → (high ≤ p) × (p < held)
-in-gap high p held h = let b = both_true (leb high p) (ltb p held) h in (leb-true high p b.0, ltb-true p held b.1)
-
 pub run-clear : (low high held at behind : ℕ) → (ltb low behind && (ltb at high || ltb held behind)) ≡ false → (behind ≤ low) ⊎ ((high ≤ at) × (behind ≤ held))
 run-clear low high held at behind h = go (lt-or-le low behind) (lt-or-le at high) (lt-or-le held behind)
   where

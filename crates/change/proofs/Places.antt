@@ -5,18 +5,17 @@ use mathlib.Core.List.{List, [], ◌∷◌, ◌++◌}
 use native.Mathlib.Omega.{arith}
 use native.Mathlib.Numerals.{add-one}
 use native.Mathlib.Nat.{add-zero}
-use lib.ListN.{length, get_or, length-append, get_or-append}
-use lib.Seq.{get_or-append-add}
+use lib.ListN.{length, take, drop, get_or, length-append, length-take, get_or-append}
+use lib.Seq.{get_or-append-add, get_or-take, split_at, take-suc, take-length}
+use Rattle.std.specs.Prelude.{sum_by}
+use Rattle.spec.specs.declared.Extent.{Extent}
 use Rattle.spec.specs.Bytes.{up_from}
 use Rattle.spec.specs.Inode.{extent, blocks_in, counts}
-use Rattle.runs.specs.Tree.{Runs}
-use Rattle.runs.specs.declared.End.{End}
-use Rattle.runs.specs.Push.{columns}
-use Rattle.runs.specs.Runs.{extents_from, listed}
-use Rattle.content.proofs.Laws.{extents-more}
+use Rattle.runs.specs.declared.ExtentList.{ExtentList}
+use Rattle.runs.specs.Runs.{listed}
 use Rattle.lists.specs.Counts.{length-up_from}
 use Rattle.lists.specs.Extents.{counts-append, blocks-append, length-blocks}
-use Rattle.content.proofs.Record.{extents-join, any-first}
+use Rattle.content.proofs.Record.{counts-by}
 use Rattle.change.specs.Contents.{place_of}
 
 up_at : (a n j : ℕ) → j < n → get_or (up_from a n) j 0 ≡ a + j
@@ -24,103 +23,97 @@ up_at a zero j h = absurd (omega arith)
 up_at a (suc n) zero h = sym (add-zero a)
 up_at a (suc n) (suc j) h = up_at (suc a) n j (omega arith) ∙ omega arith
 
--- where extents begin plays no part in how many blocks they have
-module _ (fs gs ns : List ℕ) (e : End) where
-  pub place-columns : (k : ℕ) → place_of (columns fs ns e) k ≡ place_of (columns gs ns e) k
+-- an extent that the code holds
+pub cell-is : (r : ExtentList) (k : ℕ) → k < length (listed r) → get_or (listed r) k (extent 0 0) ≡ get_or r.cells k (extent 0 0)
+unfolding listed
+cell-is r k h = let l = length-take r.len r.cells in get_or-take r.len r.cells k (extent 0 0) (omega arith)
+
+module _ (es : List Extent) where
+  pub place_none : place_of es 0 ≡ 0
   unfolding place_of
-  place-columns k = any-first fs gs ns 0 k
-
-  pub counts-columns : counts (listed (columns fs ns e)) ≡ counts (listed (columns gs ns e))
-  unfolding listed
-  counts-columns = any-first fs gs ns 0 e.len
-
-module _ (r : Runs) where
-  pub place_none : place_of r 0 ≡ 0
-  unfolding place_of extents_from
   place_none = refl
 
-  pub place-more : (k : ℕ) → place_of r (k + 1) ≡ place_of r k + get_or r.count k 0
+  -- all of them
+  pub place-all : place_of es (length es) ≡ counts es
   unfolding place_of
-  place-more k =
-      let e = extents-more r.first r.count 0 k k (omega arith) in
-      let s = counts-append (extents_from r.first r.count 0 k) (extent (get_or r.first k 0) (get_or r.count k 0) ∷ []) in
-      rw (add-one k, e) (s ∙ omega arith)
+  place-all = ap counts (take-length es)
 
-  pub place-all : place_of r r.len ≡ counts (listed r)
-  unfolding place_of listed
-  place-all = refl
+  -- as the code adds them up
+  pub place-sum : (n : ℕ) → n ≡ sum_by (λ (e : Extent). e.count) es → n ≡ place_of es (length es)
+  place-sum n e = e ∙ counts-by es ∙ sym place-all
 
-  -- the blocks before extent k, its own, and those behind it
-  split : (k m : ℕ) → r.len ≡ k + suc m
-      → blocks_in (listed r) ≡ blocks_in (extents_from r.first r.count 0 k) ++ (up_from (get_or r.first k 0) (get_or r.count k 0) ++ blocks_in (extents_from r.first r.count (suc k) m))
-  unfolding listed blocks_in extents_from
-  split k m e =
-      let z : 0 + k ≡ k = omega arith in
-      rw (e, extents-join r.first r.count 0 k (suc m), z)
-      (blocks-append (extents_from r.first r.count 0 k) (extent (get_or r.first k 0) (get_or r.count k 0) ∷ extents_from r.first r.count (suc k) m))
+  pub all_blocks : (n : ℕ) → n ≡ place_of es (length es) → n ≡ length (blocks_in es)
+  all_blocks n e = e ∙ place-all ∙ sym (length-blocks es)
 
-  module _ (k : ℕ) (h : k < r.len) where
-    -- up to extent k and over it there are no more blocks than in all
-    pub place-room : place_of r k + get_or r.count k 0 ≤ length (blocks_in (listed r))
+  -- extent k
+  module _ (k : ℕ) (inside : k < length es) where
+    abbrev own : Extent
+    own = get_or es k (extent 0 0)
+
+    pub place-more : place_of es (k + 1) ≡ place_of es k + (get_or es k (extent 0 0)).count
+    unfolding place_of
+    place-more =
+        let s = counts-append (take k es) (own ∷ []) in
+        let t : take (suc k) es ≡ take k es ++ (own ∷ []) = take-suc es k (extent 0 0) inside in
+        rw (add-one k, t) (s ∙ omega arith)
+
+    -- the blocks before it, its own, and those behind it
+    split : blocks_in es ≡ blocks_in (take k es) ++ (up_from own.first own.count ++ blocks_in (drop (suc k) es))
+    unfolding blocks_in
+    split =
+        ap blocks_in (split_at es k (extent 0 0) inside)
+        ∙ blocks-append (take k es) (own ∷ drop (suc k) es)
+
+    -- up to it and over it there are no more blocks than in all
+    place-room : place_of es k + own.count ≤ length (blocks_in es)
     unfolding place_of
     place-room =
-        let m = r.len - suc k in
-        let s = ap (λ (l : List ℕ). length l) (split k m (omega arith)) in
-        let a = length-append (blocks_in (extents_from r.first r.count 0 k)) (up_from (get_or r.first k 0) (get_or r.count k 0) ++ blocks_in (extents_from r.first r.count (suc k) m)) in
-        let b = length-append (up_from (get_or r.first k 0) (get_or r.count k 0)) (blocks_in (extents_from r.first r.count (suc k) m)) in
-        let u = length-up_from (get_or r.first k 0) (get_or r.count k 0) in
-        let l = length-blocks (extents_from r.first r.count 0 k) in
+        let front = blocks_in (take k es) in
+        let mine = up_from own.first own.count in
+        let behind = blocks_in (drop (suc k) es) in
+        let s = ap (λ (l : List ℕ). length l) split in
+        let a = length-append front (mine ++ behind) in
+        let b = length-append mine behind in
+        let u = length-up_from own.first own.count in
+        let l = length-blocks (take k es) in
         omega arith
 
-    -- block j of extent k
-    pub block_at : (j : ℕ) → j < get_or r.count k 0 → get_or r.first k 0 + j ≡ get_or (blocks_in (listed r)) (place_of r k + j) 0
+    -- block j of it
+    block_at : (j : ℕ) → j < own.count → own.first + j ≡ get_or (blocks_in es) (place_of es k + j) 0
     unfolding place_of
     block_at j l =
-        let m = r.len - suc k in
-        let front = blocks_in (extents_from r.first r.count 0 k) in
-        let own = up_from (get_or r.first k 0) (get_or r.count k 0) in
-        let behind = blocks_in (extents_from r.first r.count (suc k) m) in
+        let front = blocks_in (take k es) in
+        let mine = up_from own.first own.count in
+        let behind = blocks_in (drop (suc k) es) in
         sym (
-        ap (λ (xs : List ℕ). get_or xs (counts (extents_from r.first r.count 0 k) + j) 0) (split k m (omega arith))
-        ∙ ap (λ (n : ℕ). get_or (front ++ (own ++ behind)) (n + j) 0) (sym (length-blocks (extents_from r.first r.count 0 k)))
-        ∙ get_or-append-add front (own ++ behind) j 0
-        ∙ get_or-append own behind 0 j (rw (length-up_from (get_or r.first k 0) (get_or r.count k 0)) l)
-        ∙ up_at (get_or r.first k 0) (get_or r.count k 0) j l
+        ap (λ (xs : List ℕ). get_or xs (counts (take k es) + j) 0) split
+        ∙ ap (λ (n : ℕ). get_or (front ++ (mine ++ behind)) (n + j) 0) (sym (length-blocks (take k es)))
+        ∙ get_or-append-add front (mine ++ behind) j 0
+        ∙ get_or-append mine behind 0 j (rw (length-up_from own.first own.count) l)
+        ∙ up_at own.first own.count j l
         )
 
     -- the same, from what the code holds
-    module _ (first at : ℕ) (ef : first ≡ get_or r.first k 0) (ea : at ≡ place_of r k) where
-      pub run_room : at + get_or r.count k 0 ≤ counts (listed r)
-      run_room = let p = place-room in let l = length-blocks (listed r) in omega arith
+    module _ (at : ℕ) (ea : at ≡ place_of es k) where
+      pub run_room : at + (get_or es k (extent 0 0)).count ≤ counts es
+      run_room = let p = place-room in let l = length-blocks es in omega arith
 
-      pub run_inside : (j : ℕ) → j < get_or r.count k 0 → at + j < length (blocks_in (listed r))
+      pub run_inside : (j : ℕ) → j < (get_or es k (extent 0 0)).count → at + j < length (blocks_in es)
       run_inside j l = let p = place-room in omega arith
 
-      pub run-block : (j : ℕ) → j < get_or r.count k 0 → first + j ≡ get_or (blocks_in (listed r)) (at + j) 0
-      run-block j l = rw (ef, ea) (block_at j l)
+      pub run-block : (j : ℕ) → j < (get_or es k (extent 0 0)).count → (get_or es k (extent 0 0)).first + j ≡ get_or (blocks_in es) (at + j) 0
+      run-block j l = rw ea (block_at j l)
 
-  -- from what the code adds and takes away
-  pub place-step : (n k w : ℕ) → n ≡ place_of r k → w ≡ get_or r.count k 0 → n + w ≡ place_of r (k + 1)
-  place-step n k w e q = let p = place-more k in omega arith
+    -- from what the code takes away
+    module _ (n m : ℕ) (q : m ≡ k + 1) (e : n ≡ place_of es m) where
+      pub place-under : (get_or es k (extent 0 0)).count ≤ n
+      place-under =
+          let p = place-more in
+          let z : place_of es m ≡ place_of es (k + 1) = ap (place_of es) q in
+          omega arith
 
-  module _ (n k j w : ℕ) (e : n ≡ place_of r k) (q : k ≡ j + 1) (ew : w ≡ get_or r.count j 0) where
-    pub place-under : w ≤ n
-    place-under =
-        let p = place-more j in
-        let z : place_of r k ≡ place_of r (j + 1) = ap (place_of r) q in
-        omega arith
-
-    pub place-back : n - w ≡ place_of r j
-    place-back =
-        let p = place-more j in
-        let z : place_of r k ≡ place_of r (j + 1) = ap (place_of r) q in
-        omega arith
-
-    pub place-split : n ≡ n - w + get_or r.count j 0
-    place-split = let u = place-under in omega arith
-
-  pub place_end : (n k : ℕ) → n ≡ place_of r k → k ≡ r.len → n ≡ place_of r r.len
-  place_end n k e q = e ∙ ap (place_of r) q
-
-  pub all_blocks : (n : ℕ) → n ≡ place_of r r.len → n ≡ length (blocks_in (listed r))
-  all_blocks n e = e ∙ place-all ∙ sym (length-blocks (listed r))
+      pub place-back : n - (get_or es k (extent 0 0)).count ≡ place_of es k
+      place-back =
+          let p = place-more in
+          let z : place_of es m ≡ place_of es (k + 1) = ap (place_of es) q in
+          omega arith

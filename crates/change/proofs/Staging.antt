@@ -1,19 +1,18 @@
 -- Laws of staging an agenda block by block, each content from the working copy as it then is. Assumes nothing.
 use Prim.Native.Nat.{ℕ, ◌-◌, suc, ◌+◌, ◌<◌, ◌≤◌, min}
 use mathlib.Core.Path.{◌≡◌, refl, sym, ap, ap₂, ◌∙◌, subst}
-use mathlib.Core.Bool.{Bool, true, false, ◌&&◌}
+use mathlib.Core.Bool.{Bool, true, false}
 use mathlib.Core.List.{List, [], ◌∷◌, ◌++◌}
 use mathlib.Core.Option.{Option, none, some}
 use native.Mathlib.Omega.{arith}
-use borrow.Author.Tests.{ne_eqb, leb-true}
+use borrow.Author.Tests.{ne_eqb, leb-true, lt-leb}
 use lib.Dec.{leb}
-use lib.ListN.{length, take, drop, get_or, length-append, length-take, take-append-drop, drop_of_length-le}
-use lib.Seq.{drop-cons, get_or-take}
+use lib.ListN.{length, take, drop, get_or, length-append, take-append-drop, drop_of_length-le}
+use lib.Seq.{drop-cons}
 use native.Mathlib.Numerals.{add-one}
 use Rattle.spec.specs.Bytes.{found, place}
 use Rattle.spec.specs.Disk.{Disk, with_block}
 use Rattle.spec.specs.declared.Phase.{Phase}
-use Rattle.spec.specs.declared.Phase.TheVariants.{Closed}
 use Rattle.spec.specs.declared.Session.{Session}
 use Rattle.spec.specs.Session.{staged_in, with_staged}
 use Rattle.spec.specs.Answers.{done, refused}
@@ -22,11 +21,13 @@ use Rattle.spec.specs.Calls.{left, outcome, settle, staging}
 use Rattle.lists.specs.Places.{place-lt}
 use Rattle.transaction.specs.Places.{spot, blocks_with, session_of, view_in}
 use Rattle.transaction.proofs.Laws.{staged-with, staged-is, cells-lent, cells-view, view-stage, with_staged-twice, stage-longer, stage_is}
-use Rattle.agenda.specs.Agenda.{Agenda, stores_by, Rising, Lists, fresh_in}
-use Rattle.agenda.proofs.Laws.{ascending-rising, fits-is}
-use Rattle.lists.specs.Tests.{both_true}
+use Rattle.agenda.specs.declared.Content.{Content}
+use Rattle.agenda.specs.declared.Entry.{Entry}
+use Rattle.agenda.specs.declared.Agenda.{Agenda}
+use Rattle.agenda.specs.Agenda.{stores_by, Rising, Lists, fresh_in}
+use Rattle.agenda.proofs.Laws.{ascending-rising, fits-is, told-over, none_yet}
 use Rattle.change.specs.Change.{Change, change_stores}
-use Rattle.change.specs.Contents.{Stages, content_of, content_in}
+use Rattle.change.specs.Contents.{content_of, content_in}
 
 each-longer : (ws : List BlockStore) (u : Staged) → length u.blocks ≤ length (stage_each u ws).blocks
 each-longer [] u = omega arith
@@ -54,13 +55,12 @@ spot-fits s device work b x ws h = go (place b (staged_in s)) refl
 
 -- higher blocks are not touched, so their stores stay what they were
 module _ (i : ℕ) (c : Change) (x : ℕ) (bytes : List ℕ) where
-  stores-agree : (v : Disk) (b low : ℕ) (y : List ℕ) (bs ts : List ℕ) → b < low → Rising low (stores_by (content_in v i c x bytes) bs ts)
-      → stores_by (content_in (with_block b y v) i c x bytes) bs ts ≡ stores_by (content_in v i c x bytes) bs ts
+  stores-agree : (v : Disk) (b low : ℕ) (y : List ℕ) (es : List Entry) → b < low → Rising low (stores_by (content_in v i c x bytes) es)
+      → stores_by (content_in (with_block b y v) i c x bytes) es ≡ stores_by (content_in v i c x bytes) es
   unfolding stores_by Rising content_in
-  stores-agree v b low y [] ts h r = refl
-  stores-agree v b low y (d ∷ bs) [] h r = refl
-  stores-agree v b low y (d ∷ bs) (t ∷ ts) h r =
-      rw (ne_eqb d b (λ e. omega (arith, r.0)), stores-agree v b (suc d) y bs ts (omega (arith, r.0)) r.1)
+  stores-agree v b low y [] h r = refl
+  stores-agree v b low y (e ∷ es) h r =
+      rw (ne_eqb e.block.0 b (λ q. omega (arith, r.0)), stores-agree v b (suc e.block.0) y es (omega (arith, r.0)) r.1)
 
   rising-lower : (low lower : ℕ) (ws : List BlockStore) → lower ≤ low → Rising low ws → Rising lower ws
   unfolding Rising
@@ -68,20 +68,20 @@ module _ (i : ℕ) (c : Change) (x : ℕ) (bytes : List ℕ) where
   rising-lower low lower (w ∷ ws) h r = (omega (arith, r.0), r.1)
 
   -- what is left to stage from a state leads to a goal
-  pub record Going (goal t : State) (bs ts : List ℕ) : Type 0 where
-    pub is : goal ≡ with_staging t (stage_each (staged_of t) (stores_by (content_in (view t) i c x bytes) bs ts))
-    pub rising : Rising 0 (stores_by (content_in (view t) i c x bytes) bs ts)
-    pub room : length (stage_each (staged_of t) (stores_by (content_in (view t) i c x bytes) bs ts)).blocks ≤ 32
+  pub record Going (goal t : State) (es : List Entry) : Type 0 where
+    pub is : goal ≡ with_staging t (stage_each (staged_of t) (stores_by (content_in (view t) i c x bytes) es))
+    pub rising : Rising 0 (stores_by (content_in (view t) i c x bytes) es)
+    pub room : length (stage_each (staged_of t) (stores_by (content_in (view t) i c x bytes) es)).blocks ≤ 32
 
-  pub going_start : (t : State) (bs ts : List ℕ) → Rising 0 (stores_by (content_in (view t) i c x bytes) bs ts)
-      → length (stage_each (staged_of t) (stores_by (content_in (view t) i c x bytes) bs ts)).blocks ≤ 32
-      → Going (with_staging t (stage_each (staged_of t) (stores_by (content_in (view t) i c x bytes) bs ts))) t bs ts
-  going_start t bs ts r l = record { is = refl; rising = r; room = l }
+  pub going_start : (t : State) (es : List Entry) → Rising 0 (stores_by (content_in (view t) i c x bytes) es)
+      → length (stage_each (staged_of t) (stores_by (content_in (view t) i c x bytes) es)).blocks ≤ 32
+      → Going (with_staging t (stage_each (staged_of t) (stores_by (content_in (view t) i c x bytes) es))) t es
+  going_start t es r l = record { is = refl; rising = r; room = l }
 
-  pub going-room : (goal : State) (s : Session) (device work : List ℕ) (b tag : ℕ) (bs ts : List ℕ) → Going goal (state_of s device work) (b ∷ bs) (tag ∷ ts) → spot (staged_in s) b < 32
+  pub going-room : (goal : State) (s : Session) (device work : List ℕ) (e : Entry) (es : List Entry) → Going goal (state_of s device work) (e ∷ es) → spot (staged_in s) e.block.0 < 32
   unfolding stores_by
-  going-room goal s device work b tag bs ts g =
-      spot-fits s device work b (content_in (view (state_of s device work)) i c x bytes b tag) (stores_by (content_in (view (state_of s device work)) i c x bytes) bs ts) g.room
+  going-room goal s device work e es g =
+      spot-fits s device work e.block.0 (content_in (view (state_of s device work)) i c x bytes e.block.0 e.content) (stores_by (content_in (view (state_of s device work)) i c x bytes) es) g.room
 
   staged-stage : (t : State) (u : Staged) → staged_of (with_staging t u) ≡ u
   staged-stage t u = rw (staged-with t.session u.blocks)
@@ -89,63 +89,49 @@ module _ (i : ℕ) (c : Change) (x : ℕ) (bytes : List ℕ) where
   twice : (t : State) (u w : Staged) → length u.blocks ≤ length w.blocks → with_staging (with_staging t u) w ≡ with_staging t w
   twice t u w h = rw (with_staged-twice t.session u.blocks w.blocks h)
 
-  pub going_step : (goal t t' : State) (b tag : ℕ) (bs ts y : List ℕ) → Going goal t (b ∷ bs) (tag ∷ ts) → y ≡ content_in (view t) i c x bytes b tag
-      → t' ≡ with_staging t (stage (staged_of t) (put b y)) → Going goal t' bs ts
+  going_step : (goal t t' : State) (e : Entry) (es : List Entry) → Going goal t (e ∷ es)
+      → t' ≡ with_staging t (stage (staged_of t) (put e.block.0 (content_in (view t) i c x bytes e.block.0 e.content))) → Going goal t' es
   unfolding stores_by Rising
-  going_step goal t t' b tag bs ts y g ey et =
-      let ws = stores_by (content_in (view t) i c x bytes) bs ts in
+  going_step goal t t' e es g et =
+      let b = e.block.0 in
+      let y = content_in (view t) i c x bytes b e.content in
+      let ws = stores_by (content_in (view t) i c x bytes) es in
       let u = stage (staged_of t) (put b y) in
-      let agree : stores_by (content_in (view (with_staging t u)) i c x bytes) bs ts ≡ ws =
-      ap (λ (d : Disk). stores_by (content_in d i c x bytes) bs ts) (view-stage t (put b y)) ∙ stores-agree (view t) b (suc b) y bs ts (omega arith) g.rising.1
+      let agree : stores_by (content_in (view (with_staging t u)) i c x bytes) es ≡ ws =
+      ap (λ (d : Disk). stores_by (content_in d i c x bytes) es) (view-stage t (put b y)) ∙ stores-agree (view t) b (suc b) y es (omega arith) g.rising.1
       in
-      let all : stage_each (staged_of (with_staging t u)) (stores_by (content_in (view (with_staging t u)) i c x bytes) bs ts) ≡ stage_each u ws =
+      let all : stage_each (staged_of (with_staging t u)) (stores_by (content_in (view (with_staging t u)) i c x bytes) es) ≡ stage_each u ws =
       ap₂ stage_each (staged-stage t u) agree
       in
-      let now : stage_each (stage (staged_of t) (put b (content_in (view t) i c x bytes b tag))) ws ≡ stage_each u ws =
-      ap (λ (z : List ℕ). stage_each (stage (staged_of t) (put b z)) ws) (sym ey)
-      in
-      subst (λ (z : State). Going goal z bs ts) (sym et)
+      subst (λ (z : State). Going goal z es) (sym et)
       (record {
-        is = g.is ∙ ap (with_staging t) now ∙ sym (twice t u (stage_each u ws) (each-longer ws u)) ∙ ap (with_staging (with_staging t u)) (sym all);
+        is = g.is ∙ sym (twice t u (stage_each u ws) (each-longer ws u)) ∙ ap (with_staging (with_staging t u)) (sym all);
         rising = rw agree (rising-lower (suc b) 0 ws (omega arith) g.rising.1);
-        room = rw (all, ← now) g.room;
+        room = rw all g.room;
       })
 
-  pub going_end : (goal : State) (s q : Session) (device work : List ℕ) → Going goal (state_of s device work) [] [] → q ≡ with_staged s (staged_in s) → state_of q device work ≡ goal
+  pub going_end : (goal : State) (s q : Session) (device work : List ℕ) → Going goal (state_of s device work) [] → q ≡ with_staged s (staged_in s) → state_of q device work ≡ goal
   unfolding stores_by
   going_end goal s q device work g e = ap (λ (z : Session). state_of z device work) e ∙ sym g.is
 
--- the same on the columns of an agenda, from place k on
-module _ (i : ℕ) (c : Change) (x : ℕ) (bytes : List ℕ) (goal : State) (s : Session) (device work bs ts : List ℕ) (n k : ℕ)
-    (g : Going i c x bytes goal (state_of s device work) (drop k (take n bs)) (drop k (take n ts))) where
-  module _ (h : k < n) (lb : n ≤ length bs) (lt : n ≤ length ts) where
-    next : (l : List ℕ) → n ≤ length l → drop k (take n l) ≡ get_or l k 0 ∷ drop (k + 1) (take n l)
-    next l m =
-        let q : k < length (take n l) = simp length-take (omega arith) in
-        drop-cons (take n l) k 0 q ∙ rw (get_or-take n l k 0 h, add-one k)
+-- the same on the entries of an agenda, from place k on
+module _ (i : ℕ) (c : Change) (x : ℕ) (bytes : List ℕ) (goal : State) (s : Session) (device work : List ℕ) (es : List Entry) (k : ℕ)
+    (g : Going i c x bytes goal (state_of s device work) (drop k es)) where
+  module _ (h : k < length es) where
+    here : Going i c x bytes goal (state_of s device work) (get_or es k none_yet ∷ drop (k + 1) es)
+    here = let q : drop k es ≡ get_or es k none_yet ∷ drop (k + 1) es = drop-cons es k none_yet h ∙ rw (add-one k) in rw (← q) g
 
-    here : Going i c x bytes goal (state_of s device work) (get_or bs k 0 ∷ drop (k + 1) (take n bs)) (get_or ts k 0 ∷ drop (k + 1) (take n ts))
-    here = rw (← next bs lb, ← next ts lt) g
-
-    pub stage-room : spot (staged_in s) (get_or bs k 0) < 32
-    stage-room = going-room i c x bytes goal s device work (get_or bs k 0) (get_or ts k 0) (drop (k + 1) (take n bs)) (drop (k + 1) (take n ts)) here
+    pub stage-room : spot (staged_in s) (get_or es k none_yet).block.0 < 32
+    stage-room = going-room i c x bytes goal s device work (get_or es k none_yet) (drop (k + 1) es) here
 
     pub stage-step : (t : State)
-        → t ≡ with_staging (state_of s device work) (stage (staged_of (state_of s device work)) (put (get_or bs k 0) (content_of i c x bytes (get_or ts k 0) (view (state_of s device work) (get_or bs k 0)))))
-        → Going i c x bytes goal t (drop (k + 1) (take n bs)) (drop (k + 1) (take n ts))
+        → t ≡ with_staging (state_of s device work) (stage (staged_of (state_of s device work)) (put (get_or es k none_yet).block.0 (content_of i c x bytes (get_or es k none_yet).content (view (state_of s device work) (get_or es k none_yet).block.0))))
+        → Going i c x bytes goal t (drop (k + 1) es)
     unfolding content_in
-    stage-step t et =
-        going_step i c x bytes goal (state_of s device work) t (get_or bs k 0) (get_or ts k 0) (drop (k + 1) (take n bs)) (drop (k + 1) (take n ts))
-        (content_of i c x bytes (get_or ts k 0) (view (state_of s device work) (get_or bs k 0))) here refl et
+    stage-step t et = going_step i c x bytes goal (state_of s device work) t (get_or es k none_yet) (drop (k + 1) es) here et
 
-  pub stage-end : n ≤ k → (q : Session) → q ≡ with_staged s (staged_in s) → state_of q device work ≡ goal
-  stage-end h q e =
-      let db : drop k (take n bs) ≡ [] = drop_of_length-le (take n bs) {i = k} (simp length-take (omega arith)) in
-      let dt : drop k (take n ts) ≡ [] = drop_of_length-le (take n ts) {i = k} (simp length-take (omega arith)) in
-      let z : Going i c x bytes goal (state_of s device work) [] [] =
-      subst (λ (l : List ℕ). Going i c x bytes goal (state_of s device work) l []) db (subst (λ (l : List ℕ). Going i c x bytes goal (state_of s device work) (drop k (take n bs)) l) dt g)
-      in
-      going_end i c x bytes goal s q device work z e
+  pub stage-end : length es ≤ k → (q : Session) → q ≡ with_staged s (staged_in s) → state_of q device work ≡ goal
+  stage-end h q e = going_end i c x bytes goal s q device work (rw (drop_of_length-le es h) at g) e
 
 pub settled_is : (s : Session) (n : ℕ) → length s.staged ≡ 32 → n ≡ length (staged_in s)
     → record { blocks = s.blocks; phase = s.phase; staged = s.staged; count = n } ≡ with_staged s (staged_in s)
@@ -167,67 +153,67 @@ module _ (s : State) (ws : List BlockStore) (r : Bool) (e : r ≡ leb (length (s
   fits_not q = let z : leb (length (stage_each (staged_of s) (ascending ws)).blocks) 32 ≡ false = sym e ∙ q in rw z
 
 -- what the answer of `fits` says of the agenda of some stores
-module _ (f : ℕ → ℕ → List ℕ) (s : Session) (device work : List ℕ) (a : Agenda) (ws : List BlockStore) (l : Lists f a (ascending ws)) (r : Bool)
-    (e : r ≡ leb a.len 32 && leb (length (staged_in s) + fresh_in (staged_in s) (take a.len a.block)) 32) (lb : length a.block ≡ 32) (lt : length a.tag ≡ 32) where
+module _ (f : ℕ → Content → List ℕ) (s : Session) (device work : List ℕ) (a : Agenda) (ws : List BlockStore) (l : Lists f a (ascending ws)) (r : Bool)
+    (e : r ≡ leb (length (staged_in s) + fresh_in (staged_in s) (take a.len a.entries)) 32) where
   fits-ends : r ≡ leb (length (stage_each (staged_of (state_of s device work)) (ascending ws)).blocks) 32
-  fits-ends = e ∙ fits-is f a (ascending ws) (staged_of (state_of s device work)) (staged_in s) lb lt l (ascending-rising ws) refl
+  fits-ends = e ∙ fits-is f a (ascending ws) (staged_of (state_of s device work)) (staged_in s) l (ascending-rising ws) refl
 
   module _ (h : r ≡ true) where
-    fits-few : a.len ≤ 32
-    fits-few = leb-true a.len 32 (both_true (leb a.len 32) (leb (length (staged_in s) + fresh_in (staged_in s) (take a.len a.block)) 32) (sym e ∙ h)).0
+    fits-rising : Rising 0 (stores_by f (take a.len a.entries))
+    fits-rising = rw l.stores (ascending-rising ws)
 
-    fits-columns : stores_by f (take a.len a.block) (take a.len a.tag) ≡ ascending ws
-    fits-columns = l.stores (let m = l.many in let k = fits-few in omega arith)
+    fits-room : length (stage_each (staged_of (state_of s device work)) (stores_by f (take a.len a.entries))).blocks ≤ 32
+    fits-room = rw l.stores (leb-true (length (stage_each (staged_of (state_of s device work)) (ascending ws)).blocks) 32 (sym fits-ends ∙ h))
 
-    fits-rising : Rising 0 (stores_by f (take a.len a.block) (take a.len a.tag))
-    fits-rising = rw fits-columns (ascending-rising ws)
-
-    fits-room : length (stage_each (staged_of (state_of s device work)) (stores_by f (take a.len a.block) (take a.len a.tag))).blocks ≤ 32
-    fits-room = rw fits-columns (leb-true (length (stage_each (staged_of (state_of s device work)) (ascending ws)).blocks) 32 (sym fits-ends ∙ h))
-
-    fits-staged : (t : State) → t ≡ with_staging (state_of s device work) (stage_each (staged_of (state_of s device work)) (stores_by f (take a.len a.block) (take a.len a.tag)))
+    fits-staged : (t : State) → t ≡ with_staging (state_of s device work) (stage_each (staged_of (state_of s device work)) (stores_by f (take a.len a.entries)))
         → t ≡ with_staging (state_of s device work) (stage_each (staged_of (state_of s device work)) (ascending ws))
-    fits-staged t q = q ∙ rw fits-columns
+    fits-staged t q = q ∙ rw l.stores
 
 -- the same of every session with these cells, where those in use are lent
-module _ (cells : List ℕ) (count n : ℕ) (h : length cells ≡ 32) (m : n ≡ min count 32) (device work : List ℕ) (i : ℕ) (c : Change) (x : ℕ) (bytes : List ℕ) (a : Agenda)
-    (l : Lists (content_in (view_in (take (n - 0) (drop 0 cells)) device work) i c x bytes) a (ascending (change_stores (view_in (take (n - 0) (drop 0 cells)) device work) i c x bytes))) (r : Bool)
-    (e : r ≡ leb a.len 32 && leb (length (take (n - 0) (drop 0 cells)) + fresh_in (take (n - 0) (drop 0 cells)) (take a.len a.block)) 32)
-    (lb : length a.block ≡ 32) (lt : length a.tag ≡ 32) where
+module _ (cells : List ℕ) (count n : ℕ) (h : length cells ≡ 32) (m : n ≡ min count 32) (device work : List ℕ) (i : ℕ) (c : Change) (x : ℕ) (bytes : List ℕ) where
   abbrev before : ℕ → Phase → State
   before N p = state_of (session_of N p cells count) device work
 
   abbrev stores : ℕ → Phase → List BlockStore
   stores N p = change_stores (view (before N p)) i c x bytes
 
-  lists-in : (N : ℕ) (p : Phase) → Lists (content_in (view (before N p)) i c x bytes) a (ascending (stores N p))
-  lists-in N p = subst (λ (v : Disk). Lists (content_in v i c x bytes) a (ascending (change_stores v i c x bytes))) (cells-view cells count n h m N p device work) l
+  -- 18: more than 32 blocks
+  pub cells-over : 32 < length (ascending (change_stores (view_in (take (n - 0) (drop 0 cells)) device work) i c x bytes))
+      → (N : ℕ) (p : Phase) → left (session_of N p cells count) device work (refused 18 []) ≡ settle (outcome (before N p)) (staging (before N p) (stores N p))
+  cells-over l N p =
+      let k : 32 < length (ascending (stores N p)) =
+      subst (λ (v : Disk). 32 < length (ascending (change_stores v i c x bytes))) (cells-view cells count n h m N p device work) l in
+      let z : leb (length (stage_each (staged_of (before N p)) (ascending (stores N p))).blocks) 32 ≡ false =
+      lt-leb (length (stage_each (staged_of (before N p)) (ascending (stores N p))).blocks) 32 (told-over (ascending (stores N p)) (staged_of (before N p)) (ascending-rising (stores N p)) k) in
+      fits_not (before N p) (stores N p) false (sym z) refl
 
-  told_in : (N : ℕ) (p : Phase)
-      → r ≡ leb a.len 32 && leb (length (staged_in (session_of N p cells count)) + fresh_in (staged_in (session_of N p cells count)) (take a.len a.block)) 32
-  unfolding staged_in
-  told_in N p = rw (cells-lent cells count n h m) at e
+  module _ (a : Agenda)
+      (l : Lists (content_in (view_in (take (n - 0) (drop 0 cells)) device work) i c x bytes) a (ascending (change_stores (view_in (take (n - 0) (drop 0 cells)) device work) i c x bytes))) (r : Bool)
+      (e : r ≡ leb (length (take (n - 0) (drop 0 cells)) + fresh_in (take (n - 0) (drop 0 cells)) (take a.len a.entries)) 32) where
+    lists-in : (N : ℕ) (p : Phase) → Lists (content_in (view (before N p)) i c x bytes) a (ascending (stores N p))
+    lists-in N p = subst (λ (v : Disk). Lists (content_in v i c x bytes) a (ascending (change_stores v i c x bytes))) (cells-view cells count n h m N p device work) l
 
-  ends-in : (N : ℕ) (p : Phase) → r ≡ leb (length (stage_each (staged_of (before N p)) (ascending (stores N p))).blocks) 32
-  ends-in N p = fits-ends _ (session_of N p cells count) device work a (stores N p) (lists-in N p) r (told_in N p) lb lt
+    told_in : (N : ℕ) (p : Phase)
+        → r ≡ leb (length (staged_in (session_of N p cells count)) + fresh_in (staged_in (session_of N p cells count)) (take a.len a.entries)) 32
+    unfolding staged_in
+    told_in N p = rw (cells-lent cells count n h m) at e
 
-  module _ (q : r ≡ true) where
-    pub cells-few : a.len ≤ 32
-    cells-few = fits-few _ (session_of 0 Closed cells count) device work a (stores 0 Closed) (lists-in 0 Closed) r (told_in 0 Closed) lb lt q
+    ends-in : (N : ℕ) (p : Phase) → r ≡ leb (length (stage_each (staged_of (before N p)) (ascending (stores N p))).blocks) 32
+    ends-in N p = fits-ends _ (session_of N p cells count) device work a (stores N p) (lists-in N p) r (told_in N p)
 
-    pub cells-stages : (N : ℕ) (p : Phase) → Stages i c x bytes (before N p) (take a.len a.block) (take a.len a.tag)
-    cells-stages N p =
-        record {
-          rising = fits-rising _ (session_of N p cells count) device work a (stores N p) (lists-in N p) r (told_in N p) lb lt q;
-          room = fits-room _ (session_of N p cells count) device work a (stores N p) (lists-in N p) r (told_in N p) lb lt q;
-        }
+    module _ (q : r ≡ true) where
+      pub cells-rising : (N : ℕ) (p : Phase) → Rising 0 (stores_by (content_in (view (before N p)) i c x bytes) (take a.len a.entries))
+      cells-rising N p = fits-rising _ (session_of N p cells count) device work a (stores N p) (lists-in N p) r (told_in N p) q
 
-    pub cells-done : (N : ℕ) (p : Phase) (t : Session) (left-work : List ℕ)
-        → state_of t device left-work ≡ with_staging (before N p) (stage_each (staged_of (before N p)) (stores_by (content_in (view (before N p)) i c x bytes) (take a.len a.block) (take a.len a.tag)))
-        → left t device left-work done ≡ settle (outcome (before N p)) (staging (before N p) (stores N p))
-    cells-done N p t w z =
-        fits-done (before N p) (stores N p) r (ends-in N p) t device w q
-        (fits-staged _ (session_of N p cells count) device work a (stores N p) (lists-in N p) r (told_in N p) lb lt q (state_of t device w) z)
+      pub cells-room : (N : ℕ) (p : Phase) → length (stage_each (staged_of (before N p)) (stores_by (content_in (view (before N p)) i c x bytes) (take a.len a.entries))).blocks ≤ 32
+      cells-room N p = fits-room _ (session_of N p cells count) device work a (stores N p) (lists-in N p) r (told_in N p) q
 
-  pub cells-full : r ≡ false → (N : ℕ) (p : Phase) → left (session_of N p cells count) device work (refused 18 []) ≡ settle (outcome (before N p)) (staging (before N p) (stores N p))
-  cells-full q N p = fits_not (before N p) (stores N p) r (ends-in N p) q
+      pub cells-done : (N : ℕ) (p : Phase) (t : Session) (left-work : List ℕ)
+          → state_of t device left-work ≡ with_staging (before N p) (stage_each (staged_of (before N p)) (stores_by (content_in (view (before N p)) i c x bytes) (take a.len a.entries)))
+          → left t device left-work done ≡ settle (outcome (before N p)) (staging (before N p) (stores N p))
+      cells-done N p t w z =
+          fits-done (before N p) (stores N p) r (ends-in N p) t device w q
+          (fits-staged _ (session_of N p cells count) device work a (stores N p) (lists-in N p) r (told_in N p) q (state_of t device w) z)
+
+    pub cells-full : r ≡ false → (N : ℕ) (p : Phase) → left (session_of N p cells count) device work (refused 18 []) ≡ settle (outcome (before N p)) (staging (before N p) (stores N p))
+    cells-full q N p = fits_not (before N p) (stores N p) r (ends-in N p) q

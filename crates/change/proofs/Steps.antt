@@ -7,8 +7,8 @@ use mathlib.Core.Logic.{◌⊎◌, inl, inr}
 use native.Mathlib.Omega.{arith}
 use native.Mathlib.Nat.{add-zero, sub-zero}
 use native.Mathlib.Numerals.{add-one}
-use lib.ListN.{length, take, drop, get_or, length-take, drop_of_length-le}
-use lib.Seq.{drop-cons, get_or-take, drop-drop}
+use lib.ListN.{length, take, drop, get_or}
+use lib.Seq.{drop-cons, drop-drop, drop-length}
 use Rattle.spec.specs.declared.Extent.{Extent}
 use Rattle.spec.specs.Bytes.{same, keep, up_from, patch}
 use Rattle.spec.specs.Disk.{Disk}
@@ -16,35 +16,60 @@ use Rattle.spec.specs.Inode.{blocks_in, block_of_inode, place_of_inode, node_byt
 use Rattle.spec.specs.Transaction.{BlockStore, put, insert, ascending}
 use Rattle.spec.specs.Plan.{Edit, edit, if_changed, stores_of, inode_edit, node_edits, data_edits, is_staged, new_content}
 use Rattle.runs.specs.Runs.{listed, nodes_in}
-use Rattle.agenda.specs.Agenda.{Agenda, Lists}
-use Rattle.agenda.proofs.Laws.{insert-over}
+use Rattle.std.specs.Prelude.{Ok, Err, Result}
+use Rattle.std.specs.Result.{IsErrAnd}
+use Rattle.spec.specs.declared.Refusal.{Refusal}
+use Rattle.spec.specs.declared.Refusal.TheVariants.{TooManyStaged}
+use Rattle.agenda.specs.declared.Content.{Content}
+use Rattle.agenda.specs.declared.Content.TheVariants.{Bitmap, Record, Node, Data}
+use Rattle.agenda.specs.declared.Agenda.{Agenda}
+use Rattle.agenda.specs.Agenda.{Lists, Told}
+use Rattle.agenda.proofs.Laws.{longer-told}
 use Rattle.block.proofs.Laws.{lt-or-le}
 use Rattle.change.specs.Change.{Change, change_stores}
-use Rattle.change.specs.Contents.{content_of, content_in, with_changed, data_stores, node_stores, record_stores, Numbers}
+use Rattle.change.specs.Contents.{content_of, content_in, with_changed, data_stores, node_stores, record_stores}
 use Rattle.change.proofs.Contents.{content-bitmap, content-record, content-node, content-data}
 
 pub ascending-more : (w : BlockStore) (ws : List BlockStore) → insert w (ascending ws) ≡ ascending (w ∷ ws)
 unfolding ascending
 ascending-more w ws = refl
 
+-- an error passed on
+pub told-err : (t : Result Unit Refusal) (P : Refusal → Type 0) (e : Refusal) (f : ℕ → Content → List ℕ) (a : Agenda) (ws : List BlockStore)
+    → IsErrAnd t P → ((r : Refusal) → P r → r ≡ e) → e ≡ TooManyStaged → 32 < length ws → Told t f a ws
+told-err (Ok u) P e f a ws h k q l = elim h [ ]
+told-err (Err r) P e f a ws h k q l = (k r h ∙ q, l)
+
+pub refused-err : (t : Result ℕ Refusal) (P : Refusal → Type 0) (e : Refusal) → IsErrAnd t P → ((r : Refusal) → P r → r ≡ e) → e ≡ TooManyStaged → t ≡ Err TooManyStaged
+refused-err (Ok n) P e h k q = elim h [ ]
+refused-err (Err r) P e h k q = let z : r ≡ TooManyStaged = k r h ∙ q in cc
+
+-- more than 32 ascending stores are as many behind one more
+longer-first : (w : BlockStore) (ws : List BlockStore) → 32 < length (ascending ws) → 32 < length (ascending (w ∷ ws))
+unfolding ascending
+longer-first w ws h = longer-told w (ascending ws) h
+
 -- ---- a block whose content changes
 
-module _ (f : ℕ → ℕ → List ℕ) (v : Disk) (a : Agenda) (b tag : ℕ) (ws : List BlockStore) (h : Lists f a (ascending ws)) (r : Bool) (e : r ≡ same (f b tag) (v b)) where
+longer-changed : (v : Disk) (new : List ℕ) (b : ℕ) (ws : List BlockStore) → 32 < length (ascending ws) → 32 < length (ascending (with_changed v new b ws))
+unfolding with_changed
+longer-changed v new b ws h = go (same new (v b)) refl
+  where
+    go : (t : Bool) → same new (v b) ≡ t → 32 < length (ascending (cond (same new (v b)) ws (put b new ∷ ws)))
+    go true q = rw q h
+    go false q = rw q (longer-first (put b new) ws h)
+
+module _ (f : ℕ → Content → List ℕ) (v : Disk) (a : Agenda) (b : ℕ) (tag : Content) (ws : List BlockStore) (h : Lists f a (ascending ws)) (r : Bool) (e : r ≡ same (f b tag) (v b)) where
   pub changed-not : r ≡ true → Lists f a (ascending (with_changed v (f b tag) b ws))
   unfolding with_changed
   changed-not q = let z : same (f b tag) (v b) ≡ true = sym e ∙ q in rw z h
 
-  pub changed-is : (q : Agenda) → r ≡ false → (Lists f a (ascending ws) → Lists f q (insert (put b (f b tag)) (ascending ws)))
-      → Lists f q (ascending (with_changed v (f b tag) b ws))
+  pub changed-is : (t : Result Unit Refusal) (q : Agenda) → r ≡ false → (Lists f a (ascending ws) → Told t f q (insert (put b (f b tag)) (ascending ws)))
+      → Told t f q (ascending (with_changed v (f b tag) b ws))
   unfolding with_changed ascending
-  changed-is q p g = let z : same (f b tag) (v b) ≡ false = sym e ∙ p in rw z (g h)
+  changed-is t q p g = let z : same (f b tag) (v b) ≡ false = sym e ∙ p in rw z (g h)
 
 -- ---- data blocks
-
--- the test of a data block, from the numbers of a change
-pub staged-by : (c : Change) (held old size x : ℕ) (bytes : List ℕ) (p : ℕ) (r : Bool) → Numbers c held old size → r ≡ is_staged held old size x bytes p
-    → r ≡ is_staged c.tree.held c.old c.size x bytes p
-staged-by c held old size x bytes p r n e = rw (n.0, n.1, n.2) e
 
 module _ (v : Disk) (F : ℕ → Edit) (f : ℕ → Bool) (p n : ℕ) where
   keep-skip : f p ≡ false → stores_of v (map F (keep f (up_from p (suc n)))) ≡ stores_of v (map F (keep f (up_from (suc p) n)))
@@ -80,11 +105,11 @@ module _ (v : Disk) (i : ℕ) (c : Change) (x : ℕ) (bytes : List ℕ) where
     data-skip s = from ∙ keep-skip v data_edit staged p (length blocks - (p + 1)) s ∙ behind
 
     pub data-one : is_staged c.tree.held c.old c.size x bytes p ≡ true
-        → data_stores v c x bytes p ≡ put b (content_in v i c x bytes b (6 + p)) ∷ data_stores v c x bytes (p + 1)
+        → data_stores v c x bytes p ≡ put b (content_in v i c x bytes b (Data (record { 0 = p }))) ∷ data_stores v c x bytes (p + 1)
     unfolding blocks staged data_edit data_stores content_in
     data-one s =
-        let w : put (get_or blocks p 0) (new_content c.tree.held c.old c.size x bytes p (v (get_or blocks p 0))) ≡ put b (content_of i c x bytes (6 + p) (v b)) =
-        ap (λ (d : ℕ). put d (new_content c.tree.held c.old c.size x bytes p (v d))) (sym e) ∙ ap (put b) (sym (content-data i c x bytes (v b) p))
+        let w : put (get_or blocks p 0) (new_content c.tree.held c.old c.size x bytes p (v (get_or blocks p 0))) ≡ put b (content_of i c x bytes (Data (record { 0 = p })) (v b)) =
+        ap (λ (d : ℕ). put d (new_content c.tree.held c.old c.size x bytes p (v d))) (sym e) ∙ ap (put b) (sym (content-data i c x bytes (v b) (record { 0 = p })))
         in
         from ∙ keep_one v data_edit staged p (length blocks - (p + 1)) s ∙ ap₂ (λ (y : BlockStore) (l : List BlockStore). y ∷ l) w behind
 
@@ -92,9 +117,10 @@ module _ (v : Disk) (i : ℕ) (c : Change) (x : ℕ) (bytes : List ℕ) where
       pub place-left : r ≡ false → Lists (content_in v i c x bytes) q (ascending (data_stores v c x bytes (p + 1))) → Lists (content_in v i c x bytes) q (ascending (data_stores v c x bytes p))
       place-left s l = rw (data-skip (sym is ∙ s)) l
 
-      pub place-taken : r ≡ true → Lists (content_in v i c x bytes) q (insert (put b (content_in v i c x bytes b (6 + p))) (ascending (data_stores v c x bytes (p + 1))))
-          → Lists (content_in v i c x bytes) q (ascending (data_stores v c x bytes p))
-      place-taken s l = rw (data-one (sym is ∙ s)) (rw (← ascending-more (put b (content_in v i c x bytes b (6 + p))) (data_stores v c x bytes (p + 1))) l)
+      pub place-taken : (t : Result Unit Refusal) → r ≡ true
+          → Told t (content_in v i c x bytes) q (insert (put b (content_in v i c x bytes b (Data (record { 0 = p })))) (ascending (data_stores v c x bytes (p + 1))))
+          → Told t (content_in v i c x bytes) q (ascending (data_stores v c x bytes p))
+      place-taken t s l = rw (data-one (sym is ∙ s)) (rw (← ascending-more (put b (content_in v i c x bytes b (Data (record { 0 = p })))) (data_stores v c x bytes (p + 1))) l)
 
   pub data-cast : (a : Agenda) (m n : ℕ) → m ≡ n → Lists (content_in v i c x bytes) a (ascending (data_stores v c x bytes m)) → Lists (content_in v i c x bytes) a (ascending (data_stores v c x bytes n))
   data-cast a m n e l = rw (← e) l
@@ -123,29 +149,34 @@ module _ (v : Disk) (i : ℕ) (c : Change) (x : ℕ) (bytes : List ℕ) where
       let z : m + (n - m) ≡ n = omega arith in
       rw (data-gap (n - m) m (λ p q r. g p q (omega arith)) ∙ ap (data_stores v c x bytes) z) l
 
-  -- the same, told by the numbers of a change
-  pub run-gap : (held old size : ℕ) → Numbers c held old size → (a : Agenda) (m n : ℕ) → m ≤ n → ((p : ℕ) → m ≤ p → p < n → is_staged held old size x bytes p ≡ false)
-      → Lists (content_in v i c x bytes) a (ascending (data_stores v c x bytes n)) → Lists (content_in v i c x bytes) a (ascending (data_stores v c x bytes m))
-  run-gap held old size e a m n h g l = gap-lists a m n h (λ p q r. sym (staged-by c held old size x bytes p false e (sym (g p q r)))) l
+  pub told-gap : (t : Result Unit Refusal) (a : Agenda) (m n : ℕ) → m ≤ n → ((p : ℕ) → m ≤ p → p < n → is_staged c.tree.held c.old c.size x bytes p ≡ false)
+      → Told t (content_in v i c x bytes) a (ascending (data_stores v c x bytes n)) → Told t (content_in v i c x bytes) a (ascending (data_stores v c x bytes m))
+  told-gap t a m n h g l =
+      let z : m + (n - m) ≡ n = omega arith in
+      rw (data-gap (n - m) m (λ p q r. g p q (omega arith)) ∙ ap (data_stores v c x bytes) z) l
 
-  -- a full agenda lists more stores as well
-  pub data-over : (a : Agenda) → 32 < a.len → (d m : ℕ) → Lists (content_in v i c x bytes) a (ascending (data_stores v c x bytes (m + d)))
-      → Lists (content_in v i c x bytes) a (ascending (data_stores v c x bytes m))
-  data-over a h zero m l = data-cast a (m + 0) m (omega arith) l
-  data-over a h (suc d) m l =
-      one (lt-or-le m (length (blocks_in (listed c.tree.runs)))) (data-over a h d (m + 1) (data-cast a (m + suc d) (m + 1 + d) (omega arith) l))
+  -- more than 32 stay more than 32 further down
+  pub data-longer : (d m : ℕ) → 32 < length (ascending (data_stores v c x bytes (m + d))) → 32 < length (ascending (data_stores v c x bytes m))
+  data-longer zero m h = rw (← add-zero m) h
+  data-longer (suc d) m h =
+      let z : m + suc d ≡ m + 1 + d = omega arith in
+      let g : 32 < length (ascending (data_stores v c x bytes (m + 1 + d))) = rw (← z) h in
+      one (lt-or-le m (length (blocks_in (listed c.tree.runs)))) (data-longer d (m + 1) g)
     where
       inside : m < length (blocks_in (listed c.tree.runs)) → (t : Bool) → is_staged c.tree.held c.old c.size x bytes m ≡ t
-          → Lists (content_in v i c x bytes) a (ascending (data_stores v c x bytes (m + 1))) → Lists (content_in v i c x bytes) a (ascending (data_stores v c x bytes m))
+          → 32 < length (ascending (data_stores v c x bytes (m + 1))) → 32 < length (ascending (data_stores v c x bytes m))
       inside k true s g =
-          place-taken m (get_or (blocks_in (listed c.tree.runs)) m 0) k refl true (sym s) a refl
-          (insert-over (content_in v i c x bytes) a (get_or (blocks_in (listed c.tree.runs)) m 0) (6 + m) (ascending (data_stores v c x bytes (m + 1))) g h)
-      inside k false s g = place-left m (get_or (blocks_in (listed c.tree.runs)) m 0) k refl false (sym s) a refl g
+          rw (data-one m (get_or (blocks_in (listed c.tree.runs)) m 0) k refl s)
+          (longer-first (put (get_or (blocks_in (listed c.tree.runs)) m 0) (content_in v i c x bytes (get_or (blocks_in (listed c.tree.runs)) m 0) (Data (record { 0 = m })))) (data_stores v c x bytes (m + 1)) g)
+      inside k false s g = rw (data-skip m (get_or (blocks_in (listed c.tree.runs)) m 0) k refl s) g
 
       one : (m < length (blocks_in (listed c.tree.runs))) ⊎ (length (blocks_in (listed c.tree.runs)) ≤ m)
-          → Lists (content_in v i c x bytes) a (ascending (data_stores v c x bytes (m + 1))) → Lists (content_in v i c x bytes) a (ascending (data_stores v c x bytes m))
+          → 32 < length (ascending (data_stores v c x bytes (m + 1))) → 32 < length (ascending (data_stores v c x bytes m))
       one (inl k) g = inside k (is_staged c.tree.held c.old c.size x bytes m) refl g
-      one (inr k) g = rw (data-none m k) (rw (data-none (m + 1) (omega arith)) at g)
+      one (inr k) g = rw (data-none m k ∙ sym (data-none (m + 1) (omega arith))) g
+
+  pub data-below : (m n : ℕ) → m ≤ n → 32 < length (ascending (data_stores v c x bytes n)) → 32 < length (ascending (data_stores v c x bytes m))
+  data-below m n l h = let z : m + (n - m) ≡ n = omega arith in data-longer (n - m) m (rw z h)
 
   pub data-all : data_stores v c x bytes 0 ≡ stores_of v (data_edits c.tree.held c.old c.size x bytes (blocks_in (listed c.tree.runs)))
   unfolding data_stores
@@ -157,7 +188,7 @@ module _ (v : Disk) (i : ℕ) (c : Change) (x : ℕ) (bytes : List ℕ) where
   after = data_edits c.tree.held c.old c.size x bytes (blocks_in (listed c.tree.runs))
 
   -- one edit before others, where it changes the block
-  changed-front : (b tag : ℕ) (g : List ℕ → List ℕ) (es : List Edit) → content_in v i c x bytes b tag ≡ g (v b)
+  changed-front : (b : ℕ) (tag : Content) (g : List ℕ → List ℕ) (es : List Edit) → content_in v i c x bytes b tag ≡ g (v b)
       → stores_of v (if_changed v (edit b g) ++ es) ≡ with_changed v (content_in v i c x bytes b tag) b (stores_of v es)
   unfolding with_changed
   changed-front b tag g es e = go (same (g (v b)) (v b)) refl
@@ -171,31 +202,28 @@ module _ (v : Disk) (i : ℕ) (c : Change) (x : ℕ) (bytes : List ℕ) where
   append-edits [] fs gs = refl
   append-edits (e ∷ es) fs gs = ap (λ (l : List BlockStore). put e.block (e.change (v e.block)) ∷ l) (append-edits es fs gs)
 
-  module _ (j : ℕ) (h : j < c.tree.nodes) (few : c.tree.nodes ≤ 4) (l : length c.tree.node ≡ 4) where
-    next-node : drop j (nodes_in c.tree) ≡ get_or c.tree.node j 0 ∷ drop (j + 1) (nodes_in c.tree)
-    unfolding nodes_in
-    next-node =
-        let q : j < length (take c.tree.nodes c.tree.node) = simp length-take (omega arith) in
-        drop-cons (take c.tree.nodes c.tree.node) j 0 q ∙ rw (get_or-take c.tree.nodes c.tree.node j 0 h, add-one j)
+  module _ (j : ℕ) (h : j < length (nodes_in c.tree)) where
+    next-node : drop j (nodes_in c.tree) ≡ get_or (nodes_in c.tree) j 0 ∷ drop (j + 1) (nodes_in c.tree)
+    next-node = drop-cons (nodes_in c.tree) j 0 h ∙ rw (add-one j)
 
     next-slots : drop 128 (drop (128 * j) (listed c.tree.runs)) ≡ drop (128 * (j + 1)) (listed c.tree.runs)
     next-slots =
         let z : 128 * j + 128 ≡ 128 * (j + 1) = omega arith in
         drop-drop 128 (128 * j) (listed c.tree.runs) ∙ ap (λ (n : ℕ). drop n (listed c.tree.runs)) z
 
-    own : content_in v i c x bytes (get_or c.tree.node j 0) (2 + j) ≡ node_bytes (take 128 (drop (128 * j) (listed c.tree.runs)))
+    own : content_in v i c x bytes (get_or (nodes_in c.tree) j 0) (Node j) ≡ node_bytes (take 128 (drop (128 * j) (listed c.tree.runs)))
     unfolding content_in
-    own = content-node i c x bytes (v (get_or c.tree.node j 0)) j (omega arith)
+    own = content-node i c x bytes (v (get_or (nodes_in c.tree) j 0)) j
 
     b : ℕ
-    b = get_or c.tree.node j 0
+    b = get_or (nodes_in c.tree) j 0
 
     slots : List Extent
     slots = drop (128 * j) (listed c.tree.runs)
 
     -- a node that was held
     pub node-held : j < c.tree.before
-        → node_stores v c x bytes j ≡ with_changed v (content_in v i c x bytes (get_or c.tree.node j 0) (2 + j)) (get_or c.tree.node j 0) (node_stores v c x bytes (j + 1))
+        → node_stores v c x bytes j ≡ with_changed v (content_in v i c x bytes (get_or (nodes_in c.tree) j 0) (Node j)) (get_or (nodes_in c.tree) j 0) (node_stores v c x bytes (j + 1))
     unfolding node_stores after b slots
     node-held k =
         let n : c.tree.before - j ≡ suc (c.tree.before - (j + 1)) = omega arith in
@@ -203,53 +231,63 @@ module _ (v : Disk) (i : ℕ) (c : Change) (x : ℕ) (bytes : List ℕ) where
         let rest = node_edits v (c.tree.before - (j + 1)) (drop (j + 1) (nodes_in c.tree)) (drop 128 slots) in
         ap₂ (λ (m : ℕ) (l : List ℕ). stores_of v (node_edits v m l slots ++ after)) n next-node
         ∙ append-edits (if_changed v (edit b g)) rest after
-        ∙ changed-front b (2 + j) g (rest ++ after) own
-        ∙ ap (λ (s : List Extent). with_changed v (content_in v i c x bytes b (2 + j)) b (stores_of v (node_edits v (c.tree.before - (j + 1)) (drop (j + 1) (nodes_in c.tree)) s ++ after))) next-slots
+        ∙ changed-front b (Node j) g (rest ++ after) own
+        ∙ ap (λ (s : List Extent). with_changed v (content_in v i c x bytes b (Node j)) b (stores_of v (node_edits v (c.tree.before - (j + 1)) (drop (j + 1) (nodes_in c.tree)) s ++ after))) next-slots
 
     -- a new one
     pub node-new : c.tree.before ≤ j
-        → node_stores v c x bytes j ≡ put (get_or c.tree.node j 0) (content_in v i c x bytes (get_or c.tree.node j 0) (2 + j)) ∷ node_stores v c x bytes (j + 1)
+        → node_stores v c x bytes j ≡ put (get_or (nodes_in c.tree) j 0) (content_in v i c x bytes (get_or (nodes_in c.tree) j 0) (Node j)) ∷ node_stores v c x bytes (j + 1)
     unfolding node_stores after b slots
     node-new k =
         let n : c.tree.before - j ≡ 0 = omega arith in
         let m : 0 ≡ c.tree.before - (j + 1) = omega arith in
         ap₂ (λ (m : ℕ) (l : List ℕ). stores_of v (node_edits v m l slots ++ after)) n next-node
         ∙ ap₂ (λ (y : List ℕ) (s : List Extent). put b y ∷ stores_of v (node_edits v 0 (drop (j + 1) (nodes_in c.tree)) s ++ after)) (sym own) next-slots
-        ∙ ap (λ (m : ℕ). put b (content_in v i c x bytes b (2 + j)) ∷ stores_of v (node_edits v m (drop (j + 1) (nodes_in c.tree)) (drop (128 * (j + 1)) (listed c.tree.runs)) ++ after)) m
+        ∙ ap (λ (m : ℕ). put b (content_in v i c x bytes b (Node j)) ∷ stores_of v (node_edits v m (drop (j + 1) (nodes_in c.tree)) (drop (128 * (j + 1)) (listed c.tree.runs)) ++ after)) m
 
-    module _ (d : ℕ) (e : d ≡ get_or c.tree.node j 0) (q : Agenda) where
+    module _ (d : ℕ) (e : d ≡ get_or (nodes_in c.tree) j 0) (t : Result Unit Refusal) (q : Agenda) where
       pub held-lists : j < c.tree.before
-          → Lists (content_in v i c x bytes) q (ascending (with_changed v (content_in v i c x bytes d (2 + j)) d (node_stores v c x bytes (j + 1))))
-          → Lists (content_in v i c x bytes) q (ascending (node_stores v c x bytes j))
+          → Told t (content_in v i c x bytes) q (ascending (with_changed v (content_in v i c x bytes d (Node j)) d (node_stores v c x bytes (j + 1))))
+          → Told t (content_in v i c x bytes) q (ascending (node_stores v c x bytes j))
       held-lists k g = rw (node-held k, ← e) g
 
       pub new-lists : c.tree.before ≤ j
-          → Lists (content_in v i c x bytes) q (insert (put d (content_in v i c x bytes d (2 + j))) (ascending (node_stores v c x bytes (j + 1))))
-          → Lists (content_in v i c x bytes) q (ascending (node_stores v c x bytes j))
-      new-lists k g = rw (node-new k, ← e) (rw (← ascending-more (put d (content_in v i c x bytes d (2 + j))) (node_stores v c x bytes (j + 1))) g)
+          → Told t (content_in v i c x bytes) q (insert (put d (content_in v i c x bytes d (Node j))) (ascending (node_stores v c x bytes (j + 1))))
+          → Told t (content_in v i c x bytes) q (ascending (node_stores v c x bytes j))
+      new-lists k g = rw (node-new k, ← e) (rw (← ascending-more (put d (content_in v i c x bytes d (Node j))) (node_stores v c x bytes (j + 1))) g)
+
+    node-more : 32 < length (ascending (node_stores v c x bytes (j + 1))) → 32 < length (ascending (node_stores v c x bytes j))
+    node-more g = go (lt-or-le j c.tree.before)
+      where
+        go : (j < c.tree.before) ⊎ (c.tree.before ≤ j) → 32 < length (ascending (node_stores v c x bytes j))
+        go (inl k) = rw (node-held k) (longer-changed v (content_in v i c x bytes (get_or (nodes_in c.tree) j 0) (Node j)) (get_or (nodes_in c.tree) j 0) (node_stores v c x bytes (j + 1)) g)
+        go (inr k) = rw (node-new k) (longer-first (put (get_or (nodes_in c.tree) j 0) (content_in v i c x bytes (get_or (nodes_in c.tree) j 0) (Node j))) (node_stores v c x bytes (j + 1)) g)
+
+  -- more than 32 from some node on are more than 32 from the first
+  pub nodes-longer : (j : ℕ) → j ≤ length (nodes_in c.tree) → 32 < length (ascending (node_stores v c x bytes j)) → 32 < length (ascending (node_stores v c x bytes 0))
+  nodes-longer zero h g = g
+  nodes-longer (suc j) h g = nodes-longer j (omega arith) (node-more j (omega arith) (rw (add-one j) g))
 
   pub node-cast : (a : Agenda) (m n : ℕ) → m ≡ n → Lists (content_in v i c x bytes) a (ascending (node_stores v c x bytes m)) → Lists (content_in v i c x bytes) a (ascending (node_stores v c x bytes n))
   node-cast a m n e l = rw (← e) l
 
-  pub nodes-none : node_stores v c x bytes c.tree.nodes ≡ data_stores v c x bytes 0
-  unfolding node_stores nodes_in
-  nodes-none =
-      let z : length (take c.tree.nodes c.tree.node) ≤ c.tree.nodes = simp length-take (omega arith) in
-      rw (drop_of_length-le (take c.tree.nodes c.tree.node) z) (sym data-all)
+  pub nodes-none : node_stores v c x bytes (length (nodes_in c.tree)) ≡ data_stores v c x bytes 0
+  unfolding node_stores
+  nodes-none = rw (drop-length (nodes_in c.tree)) (sym data-all)
 
   -- ---- the record and the bitmap
 
-  pub record-changed : record_stores v i c x bytes ≡ with_changed v (content_in v i c x bytes (block_of_inode i) 1) (block_of_inode i) (node_stores v c x bytes 0)
+  pub record-changed : record_stores v i c x bytes ≡ with_changed v (content_in v i c x bytes (block_of_inode i) Record) (block_of_inode i) (node_stores v c x bytes 0)
   unfolding record_stores node_stores content_in after
   record-changed =
-      changed-front (block_of_inode i) 1 (patch (place_of_inode i) c.record) (node_edits v c.tree.before (nodes_in c.tree) (listed c.tree.runs) ++ after)
+      changed-front (block_of_inode i) Record (patch (place_of_inode i) c.record) (node_edits v c.tree.before (nodes_in c.tree) (listed c.tree.runs) ++ after)
       (content-record i c x bytes (v (block_of_inode i)))
       ∙ rw (sub-zero c.tree.before)
 
-  pub bitmap-changed : change_stores v i c x bytes ≡ with_changed v (content_in v i c x bytes 33 0) 33 (record_stores v i c x bytes)
+  pub bitmap-changed : change_stores v i c x bytes ≡ with_changed v (content_in v i c x bytes 33 Bitmap) 33 (record_stores v i c x bytes)
   unfolding change_stores record_stores content_in after
   bitmap-changed =
-      changed-front 33 0 (λ old. c.tree.table)
+      changed-front 33 Bitmap (λ old. c.tree.table)
       (if_changed v (inode_edit i c.record) ++ (node_edits v c.tree.before (nodes_in c.tree) (listed c.tree.runs) ++ after))
       (content-bitmap i c x bytes (v 33))
 
@@ -259,14 +297,24 @@ module _ (v : Disk) (i : ℕ) (c : Change) (x : ℕ) (bytes : List ℕ) where
   unfolding ascending
   data-start a m e l = rw (data-none m (omega arith)) l
 
-  pub nodes-start : (a : Agenda) → Lists (content_in v i c x bytes) a (ascending (data_stores v c x bytes 0)) → Lists (content_in v i c x bytes) a (ascending (node_stores v c x bytes c.tree.nodes))
+  pub nodes-start : (a : Agenda) → Lists (content_in v i c x bytes) a (ascending (data_stores v c x bytes 0)) → Lists (content_in v i c x bytes) a (ascending (node_stores v c x bytes (length (nodes_in c.tree))))
   nodes-start a l = rw nodes-none l
 
-  pub record-lists : (a : Agenda)
-      → Lists (content_in v i c x bytes) a (ascending (with_changed v (content_in v i c x bytes (block_of_inode i) 1) (block_of_inode i) (node_stores v c x bytes 0)))
-      → Lists (content_in v i c x bytes) a (ascending (record_stores v i c x bytes))
-  record-lists a l = rw record-changed l
+  module _ (t : Result Unit Refusal) (a : Agenda) where
+    pub record-lists : Told t (content_in v i c x bytes) a (ascending (with_changed v (content_in v i c x bytes (block_of_inode i) Record) (block_of_inode i) (node_stores v c x bytes 0)))
+        → Told t (content_in v i c x bytes) a (ascending (record_stores v i c x bytes))
+    record-lists l = rw record-changed l
 
-  pub change-lists : (a : Agenda) → Lists (content_in v i c x bytes) a (ascending (with_changed v (content_in v i c x bytes 33 0) 33 (record_stores v i c x bytes)))
-      → Lists (content_in v i c x bytes) a (ascending (change_stores v i c x bytes))
-  change-lists a l = rw bitmap-changed l
+    pub change-lists : Told t (content_in v i c x bytes) a (ascending (with_changed v (content_in v i c x bytes 33 Bitmap) 33 (record_stores v i c x bytes)))
+        → Told t (content_in v i c x bytes) a (ascending (change_stores v i c x bytes))
+    change-lists l = rw bitmap-changed l
+
+  -- more than 32 on the way are more than 32 in all
+  pub over-record : 32 < length (ascending (record_stores v i c x bytes)) → 32 < length (ascending (change_stores v i c x bytes))
+  over-record h = rw bitmap-changed (longer-changed v (content_in v i c x bytes 33 Bitmap) 33 (record_stores v i c x bytes) h)
+
+  pub over-nodes : 32 < length (ascending (node_stores v c x bytes 0)) → 32 < length (ascending (change_stores v i c x bytes))
+  over-nodes h = over-record (rw record-changed (longer-changed v (content_in v i c x bytes (block_of_inode i) Record) (block_of_inode i) (node_stores v c x bytes 0) h))
+
+  pub over-data : 32 < length (ascending (data_stores v c x bytes 0)) → 32 < length (ascending (change_stores v i c x bytes))
+  over-data h = over-nodes (nodes-longer (length (nodes_in c.tree)) (omega arith) (rw nodes-none h))

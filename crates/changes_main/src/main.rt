@@ -2,15 +2,11 @@
 // File k has the name k 02 03 04 05 06 07 08, so file 1 is A and file 2 is B.
 #![tactic(auto)]
 
-ghost use Rattle.std.specs.Prelude.{◌≤◌};
-
 use block::{load, load2, load4};
-use spec::{
-    ByteOffset, Counted, Done, FileBlock, Finished, Limits, Recorded, Refusal, Run, Session,
-    Started, Stored,
-};
+use spec::{Answered, BlockStored, ByteOffset, FileBlock, Limits, Refusal, Session};
 use std::io;
 use transaction::staged_count;
+use trial::number;
 
 // ---- text
 
@@ -18,58 +14,28 @@ fn say(rt: &impl Print, text: &[u8]) -> io::Result<()> {
     rt.write_all(text)
 }
 
-fn number(rt: &impl Print, n: usize) -> io::Result<()> {
-    say(rt, b" ")?;
-    rt.print(n)
-}
-
 fn end_line(rt: &impl Print) -> io::Result<()> {
     say(rt, b"\n")
 }
 
-// The numbers of document 01.
-fn refusal_number(why: Refusal) -> usize {
-    match why {
-        Refusal::DeviceSize => 1,
-        Refusal::WorkSize => 2,
-        Refusal::BadName => 3,
-        Refusal::TooLarge => 4,
-        Refusal::BadHeader(_) => 10,
-        Refusal::Unsound => 11,
-        Refusal::NotReady => 12,
-        Refusal::Unknown => 13,
-        Refusal::Taken => 14,
-        Refusal::NoInode => 15,
-        Refusal::NoSpace => 16,
-        Refusal::TooManyExtents => 17,
-        Refusal::TooManyStaged => 18,
-        Refusal::ListShort => 19,
-    }
-}
-
 fn refused(rt: &impl Print, why: Refusal) -> io::Result<()> {
     say(rt, b" refused")?;
-    number(rt, refusal_number(why))
+    number(rt, why.number())
 }
 
 // The answer told, the session kept.
-fn told(rt: &impl Print, r: Finished) -> io::Result<Session> {
-    let a = r.answer;
-    match a {
-        Done::Refused(why) => {
-            refused(rt, why)?;
-        }
-        Done::Done => {
-            say(rt, b" done")?;
-        }
+fn told(rt: &impl Print, r: Answered<()>) -> io::Result<Session> {
+    match r.answer {
+        Err(why) => refused(rt, why)?,
+        Ok(()) => say(rt, b" done")?,
     }
     Ok(r.session)
 }
 
-fn counted(rt: &impl Print, a: Counted) -> io::Result<()> {
+fn counted(rt: &impl Print, a: Result<usize, Refusal>) -> io::Result<()> {
     match a {
-        Counted::Refused(why) => refused(rt, why),
-        Counted::Count(n) => number(rt, n),
+        Err(why) => refused(rt, why),
+        Ok(n) => number(rt, n),
     }
 }
 
@@ -103,7 +69,7 @@ fn create(
 ) -> io::Result<Session> {
     let file = name(k);
     say(rt, b", create")?;
-    number(rt, k as usize)?;
+    number(rt, k)?;
     told(rt, store::create(device, work, s, &file))
 }
 
@@ -117,7 +83,7 @@ fn set_size(
 ) -> io::Result<Session> {
     let file = name(k);
     say(rt, b", set")?;
-    number(rt, k as usize)?;
+    number(rt, k)?;
     say(rt, b" to")?;
     number(rt, n)?;
     told(rt, store::set_size(device, work, s, &file, n))
@@ -147,59 +113,39 @@ fn extent<'a>(
         Limits::MAX_FILE_BLOCKS,
         i,
     ) {
-        Run::Refused(why) => refused(rt, why),
-        Run::Extent(e) => {
-            number(rt, e.first as usize)?;
+        Err(why) => refused(rt, why),
+        Ok(Some(e)) => {
+            number(rt, e.first)?;
             say(rt, b"+")?;
             rt.print(e.count)
         }
-        Run::Nothing => say(rt, b" -"),
+        Ok(None) => say(rt, b" -"),
     }
 }
 
 // ---- what stands on the device and in the session
 
 fn bytes(rt: &impl Print, x: &[u8], from: usize, end: usize) -> io::Result<()> {
-    let mut k = from;
-    while k < end {
-        number(rt, load(x, k) as usize)?;
-        k += 1;
+    for k in from..end {
+        number(rt, load(x, k))?;
     }
     Ok(())
 }
 
-// 1 where a byte stands at a place.
-fn is_at(x: &[u8], k: usize, byte: u32) -> usize
-    ensures { result ≤ 1 }
-{
-    if load(x, k) == byte {
-        return 1;
-    }
-    0
-}
-
 // How many of some bytes are one byte.
 fn count(x: &[u8], from: usize, end: usize, byte: u32) -> usize {
-    let mut n: usize = 0;
-    let mut k = from;
-    while k < end {
-        n += is_at(x, k, byte);
-        k += 1;
-    }
-    n
+    (from..end).filter(|k| load(x, *k) == byte).count()
 }
 
 fn staged(rt: &impl Print, s: Session) -> io::Result<()> {
-    let l = s.staged;
+    let staged = s.staged;
     let n = staged_count(s);
     say(rt, b", staged")?;
     if n == 0 {
         say(rt, b" none")?;
     }
-    let mut i: usize = 0;
-    while i < n {
-        number(rt, l[i] as usize)?;
-        i += 1;
+    for b in &staged[..n] {
+        number(rt, *b)?;
     }
     Ok(())
 }
@@ -212,66 +158,47 @@ fn many_staged(rt: &impl Print, s: Session) -> io::Result<()> {
 // Size, depth and slot 0 of record 0.
 fn record_bytes(rt: &impl Print, device: &[u8]) -> io::Result<()> {
     say(rt, b", record 0: size")?;
-    number(rt, load4(device, 17416) as usize)?;
+    number(rt, load4(device, 17416))?;
     say(rt, b", depth")?;
-    number(rt, load(device, 17420) as usize)?;
+    number(rt, load(device, 17420))?;
     say(rt, b", slot")?;
-    number(rt, load2(device, 17424) as usize)?;
-    number(rt, load2(device, 17426) as usize)
+    number(rt, load2(device, 17424))?;
+    number(rt, load2(device, 17426))
 }
 
 // ---- stores
 
 // The block stored.
-fn stored(rt: &impl Print, a: Stored) -> io::Result<()> {
+fn stored(rt: &impl Print, a: Result<Option<BlockStored>, Refusal>) -> io::Result<()> {
     match a {
-        Stored::Refused(why) => refused(rt, why),
-        Stored::Stored {
-            block,
-            last: _,
-            number: _,
-        } => number(rt, block.0 as usize),
-        Stored::Idle => say(rt, b" idle"),
+        Err(why) => refused(rt, why),
+        Ok(Some(stored)) => number(rt, stored.block.0),
+        Ok(None) => say(rt, b" idle"),
     }
 }
 
 // n advances with no word.
 fn advance_quietly(device: &mut [u8], work: &[u8], s: Session, n: usize) -> Session {
     let mut t = s;
-    let mut k: usize = 0;
-    while k < n {
-        let r = store::advance(device, work, t);
-        t = r.session;
-        k += 1;
+    for _ in 0..n {
+        t = store::advance(device, work, t).session;
     }
     t
-}
-
-// How many stores a commit has started.
-fn stores(a: Started) -> usize {
-    match a {
-        Started::Refused(_) => 0,
-        Started::Stores(n) => n,
-    }
 }
 
 // A commit with all its stores.
 fn commit(rt: &impl Print, device: &mut [u8], work: &[u8], s: Session) -> io::Result<Session> {
     let r = store::commit(device, work, s);
-    let a = r.answer;
-    let n = stores(a);
-    let t = r.session;
+    let n = r.answer.unwrap_or(0);
     say(rt, b", commit")?;
     number(rt, n)?;
-    Ok(advance_quietly(device, work, t, n))
+    Ok(advance_quietly(device, work, r.session, n))
 }
 
 fn commit_quietly(device: &mut [u8], work: &[u8], s: Session) -> Session {
     let r = store::commit(device, work, s);
-    let a = r.answer;
-    let n = stores(a);
-    let t = r.session;
-    advance_quietly(device, work, t, n)
+    let n = r.answer.unwrap_or(0);
+    advance_quietly(device, work, r.session, n)
 }
 
 // A file's size set with no word.
@@ -280,8 +207,7 @@ fn grow(device: &[u8], work: &mut [u8], s: Session, k: u8, blocks: usize) -> Ses
     if Limits::MAX_FILE_BLOCKS < blocks {
         return s;
     }
-    let r = store::set_size(device, work, s, &file, Limits::BLOCK_SIZE * blocks);
-    r.session
+    store::set_size(device, work, s, &file, Limits::BLOCK_SIZE * blocks).session
 }
 
 // Up to 20 bytes from x on, in a buffer of 20 nines.
@@ -296,7 +222,7 @@ fn read<'a>(
     let file = name(k);
     let mut buffer = [9u8; 20];
     say(rt, b", read")?;
-    number(rt, k as usize)?;
+    number(rt, k)?;
     say(rt, b" at")?;
     number(rt, x)?;
     say(rt, b":")?;
@@ -336,17 +262,16 @@ fn record<'a>(
 ) -> io::Result<()> {
     say(rt, b", record")?;
     number(rt, i)?;
-    let r = store::record_at(device, work, s, i);
-    let a = r.answer;
-    match a {
-        Recorded::Refused(why) => refused(rt, why),
-        Recorded::File => {
+    match store::record_at(device, work, s, i) {
+        Err(why) => refused(rt, why),
+        Ok(Some(file)) => {
+            let name = file.name;
             say(rt, b" of file")?;
-            bytes(rt, &r.name, 0, 1)?;
+            number(rt, name[0])?;
             say(rt, b" with")?;
-            number(rt, r.size as usize)
+            number(rt, file.size)
         }
-        Recorded::Empty => say(rt, b" empty"),
+        Ok(None) => say(rt, b" empty"),
     }
 }
 
@@ -360,12 +285,10 @@ fn extents<'a>(
     n: usize,
 ) -> io::Result<()> {
     say(rt, b", extents of")?;
-    number(rt, k as usize)?;
+    number(rt, k)?;
     say(rt, b":")?;
-    let mut i: usize = 0;
-    while i < n {
+    for i in 0..n {
         extent(rt, device, work, s, k, i)?;
-        i += 1;
     }
     Ok(())
 }
@@ -374,7 +297,7 @@ fn extents<'a>(
 fn bit(rt: &impl Print, device: &[u8], b: u32) -> io::Result<()> {
     let mask = 1u32 << (b % 8);
     say(rt, b", block")?;
-    number(rt, b as usize)?;
+    number(rt, b)?;
     if load(device, 16896 + (b / 8) as usize) & mask == 0 {
         say(rt, b" free")
     } else {
@@ -391,14 +314,11 @@ fn advance(
     n: usize,
 ) -> io::Result<Session> {
     let mut t = s;
-    let mut k: usize = 0;
     say(rt, b", stores to")?;
-    while k < n {
+    for _ in 0..n {
         let r = store::advance(device, work, t);
-        let a = r.answer;
-        stored(rt, a)?;
+        stored(rt, r.answer)?;
         t = r.session;
-        k += 1;
     }
     Ok(t)
 }
@@ -412,13 +332,11 @@ fn in_turn(
     n: usize,
 ) -> io::Result<Session> {
     let mut t = s;
-    let mut i: usize = 0;
     say(rt, b", 1 and 2 grown in turn to blocks")?;
     number(rt, n)?;
-    while i < n {
-        i += 1;
-        let u = grow(device, work, t, 1, i);
-        t = grow(device, work, u, 2, i);
+    for i in 0..n {
+        let u = grow(device, work, t, 1, i + 1);
+        t = grow(device, work, u, 2, i + 1);
     }
     Ok(t)
 }
@@ -438,7 +356,7 @@ impl Till {
         let mut device = [0u8; 32768];
         let s = begin(rt, title, &mut device)?;
         Ok(Till {
-            device: device,
+            device,
             work: [9; Limits::WORK_SIZE],
             session: s,
         })
@@ -448,9 +366,9 @@ impl Till {
     fn with(self, work: [u8; Limits::WORK_SIZE], session: Session) -> Till {
         let device = self.device;
         Till {
-            device: device,
-            work: work,
-            session: session,
+            device,
+            work,
+            session,
         }
     }
 
@@ -466,7 +384,7 @@ impl Till {
         let device = self.device;
         let mut work = self.work;
         say(rt, b", remove")?;
-        number(rt, k as usize)?;
+        number(rt, k)?;
         let s = told(rt, store::remove(&device, &mut work, self.session, &file))?;
         Ok(self.with(work, s))
     }
@@ -477,9 +395,9 @@ impl Till {
         let device = self.device;
         let mut work = self.work;
         say(rt, b", rename")?;
-        number(rt, k as usize)?;
+        number(rt, k)?;
         say(rt, b" to")?;
-        number(rt, l as usize)?;
+        number(rt, l)?;
         let s = told(
             rt,
             store::rename(&device, &mut work, self.session, &old, &new),
@@ -501,7 +419,7 @@ impl Till {
         say(rt, b", write")?;
         number(rt, bytes.len())?;
         say(rt, b" to")?;
-        number(rt, k as usize)?;
+        number(rt, k)?;
         say(rt, b" at")?;
         number(rt, x)?;
         let s = told(
@@ -531,8 +449,8 @@ impl Till {
         let work = self.work;
         let s = commit(rt, &mut device, &work, self.session)?;
         Ok(Till {
-            device: device,
-            work: work,
+            device,
+            work,
             session: s,
         })
     }
@@ -542,11 +460,9 @@ impl Till {
         let device = self.device;
         let work = self.work;
         let r = store::commit(&device, &work, self.session);
-        let a = r.answer;
-        let s = r.session;
         say(rt, b", commit")?;
-        number(rt, stores(a))?;
-        Ok(self.with(work, s))
+        number(rt, r.answer.unwrap_or(0))?;
+        Ok(self.with(work, r.session))
     }
 
     // n advances, each with the block stored.
@@ -555,8 +471,8 @@ impl Till {
         let work = self.work;
         let s = advance(rt, &mut device, &work, self.session, n)?;
         Ok(Till {
-            device: device,
-            work: work,
+            device,
+            work,
             session: s,
         })
     }
@@ -582,7 +498,7 @@ impl Till {
         let device = self.device;
         let work = self.work;
         say(rt, b", size of")?;
-        number(rt, k as usize)?;
+        number(rt, k)?;
         say(rt, b":")?;
         counted(rt, store::size(&device, &work, self.session, &file))?;
         Ok(self)
@@ -892,12 +808,8 @@ fn aborted(rt: &impl Print) -> io::Result<()> {
 // Files 0 to n - 1 made.
 fn create_all(device: &[u8], work: &mut [u8], s: Session, n: u8) -> Session {
     let mut t = s;
-    let mut k: u8 = 0;
-    while k < n {
-        let file = name(k);
-        let r = store::create(device, work, t, &file);
-        t = r.session;
-        k += 1;
+    for k in 0..n {
+        t = store::create(device, work, t, &name(k)).session;
     }
     t
 }
@@ -921,13 +833,11 @@ fn in_turn_committed(
     n: usize,
 ) -> io::Result<Session> {
     let mut t = s;
-    let mut i: usize = 0;
     say(rt, b", 1 and 2 grown in turn to blocks")?;
     number(rt, n)?;
-    while i < n {
-        i += 1;
-        let u = grow(device, work, t, 1, i);
-        let v = grow(device, work, u, 2, i);
+    for i in 0..n {
+        let u = grow(device, work, t, 1, i + 1);
+        let v = grow(device, work, u, 2, i + 1);
         t = commit_quietly(device, work, v);
     }
     Ok(t)

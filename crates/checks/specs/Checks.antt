@@ -1,20 +1,20 @@
 -- The answers of the tests, for the contracts of this crate.
-use Rattle.std.specs.Prelude.{ℕ, Bool, true, ◌&&◌, List, ◌≡◌}
+use Rattle.std.specs.Prelude.{ℕ, Bool, true, ◌&&◌, List, ◌≡◌, Ok, Err}
+use Rattle.std.specs.Prelude.{Result as Returned}
 use Rattle.spec.specs.declared.Phase.{Phase}
 use Rattle.spec.specs.declared.Session.{Session}
-use Rattle.spec.specs.declared.Phase.TheVariants.{Closed, Ready, Committing, Recovering}
+use Rattle.spec.specs.declared.Refusal.{Refusal}
 use Rattle.spec.specs.declared.Refusal.TheVariants.{BadName, TooLarge, NotReady}
 use Rattle.spec.specs.Session.{staged_in}
 use Rattle.spec.specs.Inode.{is_name}
-use Rattle.spec.specs.Answers.{Result, refuse, accept, require, ◌>>◌}
+use Rattle.spec.specs.Answers.{Answer, done, refusal_of, Result, refuse, accept, require, ◌>>◌}
 use Rattle.spec.specs.Transaction.{State}
 use Rattle.spec.specs.Calls.{lent_ok, size_fits, is_ready}
-use Rattle.checks.specs.declared.Checked.{Checked}
-use Rattle.checks.specs.declared.Checked.TheVariants.{Fine, Bad}
 
-abbrev pub result_of : Checked → Result Bool
-result_of Fine = accept true
-result_of (Bad r) = refuse r
+-- what the tests of a call return: nothing where all pass, or the first that failed
+abbrev pub result_of : Returned (Unit {0}) Refusal → Result Bool
+result_of (Ok _) = accept true
+result_of (Err r) = refuse r
 
 -- a session on so many blocks, in this phase: all of it that the tests read
 pub record Of (blocks : ℕ) (phase : Phase) (s : Session) : Type 0 where
@@ -25,12 +25,6 @@ pub record Of (blocks : ℕ) (phase : Phase) (s : Session) : Type 0 where
 pub record Seen (blocks : ℕ) (phase : Phase) (staged : List ℕ) (s : Session) : Type 0 where
   pub head : Of blocks phase s
   pub numbers : staged_in s ≡ staged
-
-abbrev pub ready_phase : Phase → Checked
-ready_phase Closed = Bad NotReady
-ready_phase Ready = Fine
-ready_phase (Committing d) = Bad NotReady
-ready_phase (Recovering d) = Bad NotReady
 
 -- 1, 2, 3 of two names, and 12: the head of rename
 unfoldable pub names_ok : State → List ℕ → List ℕ → Result Bool
@@ -46,3 +40,14 @@ name_size_ok s name size = do
   require (is_name name) BadName
   require (size_fits size) TooLarge
   require (is_ready s.session.phase) NotReady
+
+-- ---- a call that is lent a session's cells, so many of them in use: it returns how many are in use behind it, or why it is refused
+
+abbrev pub changed_of : Returned ℕ Refusal → Answer
+changed_of (Ok count) = done
+changed_of (Err r) = refusal_of r
+
+-- as many as before where it is refused
+abbrev pub in_use : ℕ → Returned ℕ Refusal → ℕ
+in_use before (Ok count) = count
+in_use before (Err r) = before

@@ -1,26 +1,24 @@
 // The tests at the head of a call, in the order of the refusals' numbers.
 #![tactic(auto)]
 
-ghost use Rattle.std.specs.Prelude.{◌≡◌, ◌+◌, ◌*◌, eqb, leb};
+ghost use Rattle.std.specs.Prelude.{◌≡◌, ◌+◌, ◌*◌, eqb, leb, Ok, Err};
 ghost use Rattle.spec.specs.declared.Session.{Session};
+ghost use Rattle.spec.specs.Session.{with_cells};
+ghost use Rattle.spec.specs.Answers.{require, done_of};
+ghost use Rattle.spec.specs.declared.Refusal.TheVariants.{NotReady};
 ghost use Rattle.spec.specs.Disk.{is_allowed};
 ghost use Rattle.spec.specs.Inode.{is_name};
-ghost use Rattle.spec.specs.Transaction.{state_of};
-ghost use Rattle.spec.specs.Calls.{lent_ok, ready_ok, name_ok};
-ghost use Rattle.spec.specs.declared.Done.TheVariants as answers;
-ghost use Rattle.checks.specs.Checks.{Of, result_of, ready_phase, names_ok, name_size_ok};
+ghost use Rattle.spec.specs.Transaction.{State, state_of};
+ghost use Rattle.transaction.specs.Volumes.{Shows};
+ghost use Rattle.spec.specs.Calls.{is_ready, lent_ok, ready_ok, name_ok};
+ghost use Rattle.checks.specs.Checks.{result_of, names_ok, name_size_ok, changed_of, in_use};
 
 use block::key_of;
-use spec::{ByteOffset, Done, Finished, Limits, Phase, Refusal, Session};
-
-// Passed, or the first test that failed.
-#[derive(Clone, Copy)]
-pub enum Checked {
-    Fine,
-    Bad(Refusal),
-}
+use spec::{Answered, ByteOffset, Limits, Phase, Refusal, Session};
+use transaction::Volume;
 
 // "512 times an allowed N"
+#[tactic(auto, unfolding(spec::specs::Disk::is_allowed))]
 pub fn is_allowed(size: usize) -> bool
     ensures { result ≡ is_allowed size }
 {
@@ -44,41 +42,48 @@ fn same_size(size: usize, blocks: usize) -> bool
 }
 
 // 1 and 2, of every session on so many blocks
-pub fn lent(device: &[u8], work: &[u8], blocks: usize) -> Checked
+#[tactic(auto, unfolding(spec::specs::Calls::lent_ok))]
+pub fn lent(device: &[u8], work: &[u8], blocks: usize) -> Result<(), Refusal>
     ensures { (s : Session) → s.blocks ≡ blocks → result_of result ≡ lent_ok (state_of s device.now work.now) }
 {
     if !is_allowed(device.len()) {
-        return Checked::Bad(Refusal::DeviceSize);
+        return Err(Refusal::DeviceSize);
     }
     if !same_size(device.len(), blocks) {
-        return Checked::Bad(Refusal::DeviceSize);
+        return Err(Refusal::DeviceSize);
     }
     if work.len() != Limits::WORK_SIZE {
-        return Checked::Bad(Refusal::WorkSize);
+        return Err(Refusal::WorkSize);
     }
-    Checked::Fine
+    Ok(())
 }
 
 // 12
-fn ready_phase(phase: Phase) -> Checked
-    ensures { result ≡ ready_phase phase }
+fn ready_phase(phase: Phase) -> Result<(), Refusal>
+    ensures { result_of result ≡ require (is_ready phase) NotReady }
 {
     match phase {
-        Phase::Closed => Checked::Bad(Refusal::NotReady),
-        Phase::Ready => Checked::Fine,
-        Phase::Committing(_) => Checked::Bad(Refusal::NotReady),
-        Phase::Recovering(_) => Checked::Bad(Refusal::NotReady),
+        Phase::Closed => Err(Refusal::NotReady),
+        Phase::Ready => Ok(()),
+        Phase::Committing(_) => Err(Refusal::NotReady),
+        Phase::Recovering(_) => Err(Refusal::NotReady),
     }
 }
 
-// 1, 2 and 12
-pub fn ready(device: &[u8], work: &[u8], blocks: usize, phase: Phase) -> Checked
-    ensures { (s : Session) → Of blocks phase s → result_of result ≡ ready_ok (state_of s device.now work.now) }
+// 1 and 2, of a volume
+fn lent_volume(volume: &Volume) -> Result<(), Refusal>
+    ensures { (s : State) → Shows volume.now s → result_of result ≡ lent_ok s }
 {
-    match lent(device, work, blocks) {
-        Checked::Bad(why) => Checked::Bad(why),
-        Checked::Fine => ready_phase(phase),
-    }
+    lent(volume.copy.device, volume.copy.work, volume.blocks)
+}
+
+// 1, 2 and 12
+#[tactic(auto, unfolding(spec::specs::Calls::ready_ok))]
+pub fn ready(volume: &Volume) -> Result<(), Refusal>
+    ensures { (s : State) → Shows volume.now s → result_of result ≡ ready_ok s }
+{
+    lent_volume(volume)?;
+    ready_phase(volume.phase)
 }
 
 // 3
@@ -92,43 +97,30 @@ pub fn is_name(name: &[u8]) -> bool
 }
 
 // 1, 2, 3 and 12
-pub fn named(device: &[u8], work: &[u8], blocks: usize, phase: Phase, name: &[u8]) -> Checked
-    ensures { (s : Session) → Of blocks phase s → result_of result ≡ name_ok (state_of s device.now work.now) name.now }
+#[tactic(auto, unfolding(spec::specs::Calls::name_ok))]
+pub fn named(volume: &Volume, name: &[u8]) -> Result<(), Refusal>
+    ensures { (s : State) → Shows volume.now s → result_of result ≡ name_ok s name.now }
 {
-    match lent(device, work, blocks) {
-        Checked::Bad(why) => Checked::Bad(why),
-        Checked::Fine => {
-            if !is_name(name) {
-                return Checked::Bad(Refusal::BadName);
-            }
-            ready_phase(phase)
-        }
+    lent_volume(volume)?;
+    if !is_name(name) {
+        return Err(Refusal::BadName);
     }
+    ready_phase(volume.phase)
 }
 
 // 1, 2, 3 of two names, and 12
-pub fn both_named(
-    device: &[u8],
-    work: &[u8],
-    blocks: usize,
-    phase: Phase,
-    name: &[u8],
-    new: &[u8],
-) -> Checked
-    ensures { (s : Session) → Of blocks phase s → result_of result ≡ names_ok (state_of s device.now work.now) name.now new.now }
+#[tactic(auto, unfolding(crate::specs::Checks::names_ok))]
+pub fn both_named(volume: &Volume, name: &[u8], new: &[u8]) -> Result<(), Refusal>
+    ensures { (s : State) → Shows volume.now s → result_of result ≡ names_ok s name.now new.now }
 {
-    match lent(device, work, blocks) {
-        Checked::Bad(why) => Checked::Bad(why),
-        Checked::Fine => {
-            if !is_name(name) {
-                return Checked::Bad(Refusal::BadName);
-            }
-            if !is_name(new) {
-                return Checked::Bad(Refusal::BadName);
-            }
-            ready_phase(phase)
-        }
+    lent_volume(volume)?;
+    if !is_name(name) {
+        return Err(Refusal::BadName);
     }
+    if !is_name(new) {
+        return Err(Refusal::BadName);
+    }
+    ready_phase(volume.phase)
 }
 
 // 4, "x plus data length" as whole numbers
@@ -142,91 +134,52 @@ fn size_fits(x: ByteOffset, n: usize) -> bool
 }
 
 // 1, 2, 3, 4 and 12
-pub fn sized(
-    device: &[u8],
-    work: &[u8],
-    blocks: usize,
-    phase: Phase,
-    name: &[u8],
-    x: ByteOffset,
-    n: usize,
-) -> Checked
-    ensures { (s : Session) → Of blocks phase s → result_of result ≡ name_size_ok (state_of s device.now work.now) name.now (x.0 + n) }
+#[tactic(auto, unfolding(crate::specs::Checks::name_size_ok))]
+pub fn sized(volume: &Volume, name: &[u8], x: ByteOffset, n: usize) -> Result<(), Refusal>
+    ensures { (s : State) → Shows volume.now s → result_of result ≡ name_size_ok s name.now (x.0 + n) }
 {
-    match lent(device, work, blocks) {
-        Checked::Bad(why) => Checked::Bad(why),
-        Checked::Fine => {
-            if !is_name(name) {
-                return Checked::Bad(Refusal::BadName);
-            }
-            if !size_fits(x, n) {
-                return Checked::Bad(Refusal::TooLarge);
-            }
-            ready_phase(phase)
-        }
+    lent_volume(volume)?;
+    if !is_name(name) {
+        return Err(Refusal::BadName);
     }
+    if !size_fits(x, n) {
+        return Err(Refusal::TooLarge);
+    }
+    ready_phase(volume.phase)
 }
 
 // A call refused: the session is the one it was given.
-pub fn refused(session: Session, why: Refusal) -> Finished
-    ensures { (result.session ≡ session) × (result.answer ≡ answers.Refused why) }
+pub fn refused(session: Session, why: Refusal) -> Answered<()>
+    ensures { (result.session ≡ session) × (result.answer ≡ Err why) }
 {
-    Finished {
-        session: session,
-        answer: Done::Refused(why),
+    Answered {
+        session,
+        answer: Err(why),
     }
 }
 
 // A call done, with the session it leaves.
-pub fn done(session: Session) -> Finished
-    ensures { (result.session ≡ session) × (result.answer ≡ answers.Done) }
+pub fn done(session: Session) -> Answered<()>
+    ensures { (result.session ≡ session) × (result.answer ≡ Ok tt) }
 {
-    Finished {
-        session: session,
-        answer: Done::Done,
+    Answered {
+        session,
+        answer: Ok(()),
     }
 }
 
-// What a call that is lent a session's cells answers, and how many of them are in use behind it.
-#[derive(Clone, Copy)]
-pub struct Changed {
-    pub count: usize,
-    pub answer: Done,
-}
-
-// Such a call refused: as many are in use as were.
-pub fn refused_with(count: usize, why: Refusal) -> Changed
-    ensures { (result.count ≡ count) × (result.answer ≡ answers.Refused why) }
-{
-    Changed {
-        count: count,
-        answer: Done::Refused(why),
-    }
-}
-
-// Such a call done.
-pub fn done_with(count: usize) -> Changed
-    ensures { (result.count ≡ count) × (result.answer ≡ answers.Done) }
-{
-    Changed {
-        count: count,
-        answer: Done::Done,
-    }
-}
-
-// The same of a session by value: its other numbers are kept.
+// What a call that is lent a session's cells has changed, told of the session by value: its other numbers are kept.
 pub fn finished(
     blocks: usize,
     phase: Phase,
     cells: [u32; Limits::LOG_LENGTH],
-    c: Changed,
-) -> Finished
-    ensures { (result.session ≡ record { blocks = blocks; phase = phase; staged = cells; count = c.count }) × (result.answer ≡ c.answer) }
+    count: usize,
+    changed: Result<usize, Refusal>,
+) -> Answered<()>
+    ensures { (result.session ≡ with_cells blocks phase cells (in_use count changed)) × (done_of result.answer ≡ changed_of changed) }
 {
-    let answer = c.answer;
-    let session = Session::with_cells(blocks, phase, cells, c.count);
-    Finished {
-        session: session,
-        answer: answer,
+    match changed {
+        Ok(after) => done(Session::with_cells(blocks, phase, cells, after)),
+        Err(why) => refused(Session::with_cells(blocks, phase, cells, count), why),
     }
 }

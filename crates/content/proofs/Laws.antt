@@ -9,62 +9,68 @@ use native.Mathlib.Nat.{add-zero}
 use native.Mathlib.Numerals.{add-one}
 use borrow.Author.Tests.{eqb-true, leb-true, le-leb, lt-leb, lt-ltb, le-ltb}
 use lib.Dec.{eqb, leb, ltb}
-use lib.ListN.{length, take, drop, get_or, set, length-set, length-take, length-drop, length-append, take-append-drop, drop_of_length-le}
-use lib.Seq.{paste, paste-zero, paste-suc, take-suc-set, take_all, drop-cons, drop-drop}
+use lib.ListN.{length, take, drop, get_or, replicate, length-take, length-drop, take-append-drop, drop_of_length-le}
+use lib.Seq.{take_all, take-take, take-suc, drop-cons, drop-drop}
+use Rattle.std.proofs.lemmas.List.{drop-take}
 use Rattle.lists.specs.Tests.{both_true}
-use Rattle.block.proofs.Steps.{set-exactly}
-use Rattle.spec.specs.Bytes.{exactly, zeros}
-use Rattle.block.proofs.Laws.{lt-or-le, length-exactly, exactly-all, exactly-nil}
+use Rattle.spec.specs.Bytes.{exactly, zeros, bytes2}
+use Rattle.block.proofs.Laws.{lt-or-le, length-exactly, exactly-nil}
 use Rattle.spec.specs.declared.Extent.{Extent}
 use Rattle.spec.specs.Inode.{extent, bytes_of_slots}
 use Rattle.spec.specs.Plan.{overlay, clear_tail, is_last_kept}
-use Rattle.runs.specs.Tree.{Runs}
-use Rattle.runs.specs.Runs.{extents_from, listed}
-use Rattle.content.specs.Content.{with_record, node_content, laid_over, cut_to, kept_content, data_content}
+use Rattle.runs.specs.declared.ExtentList.{ExtentList}
+use Rattle.runs.specs.Runs.{listed}
+use Rattle.content.specs.Content.{with_record, node_content, laid_over, kept_content, data_content}
 
 -- ---- a record
 
--- the first k bytes of a record laid over a block
-unfoldable pub laid_to : ℕ → List ℕ → ℕ → List ℕ → List ℕ
-laid_to at new k old = paste old at new k
-
-pub laid_none : (at : ℕ) (new old : List ℕ) → old ≡ laid_to at new 0 old
-unfolding laid_to
-laid_none at new old = paste-zero old at new
-
-pub laid_more : (at k : ℕ) (q new old : List ℕ) → q ≡ laid_to at new k old → at + k < length old → k < length new
-    → set q (at + k) (get_or new k 0) ≡ laid_to at new (k + 1) old
-unfolding laid_to
-laid_more at k q new old e h l = rw (add-one k, ← paste-suc old at new k 0 h l, e)
-
-pub laid-all : (i at k : ℕ) (q new old : List ℕ) → at ≡ 32 * (i % 16) → k ≡ length new → q ≡ laid_to at new k old → q ≡ with_record i new old
-unfolding laid_to with_record
-laid-all i at k q new old ea ek e =
-    e ∙ rw (ek, take_all (length new) new (omega arith), ea) (append_assoc (take (32 * (i % 16)) old) new (drop (32 * (i % 16) + length new) old))
+-- the bytes of a record put in where the record stands
+pub record-laid : (i at : ℕ) (q new old : List ℕ) → at ≡ 32 * (i % 16) → q ≡ new
+    → take at old ++ (q ++ drop (at + length new - at) (drop at old)) ≡ with_record i new old
+unfolding with_record
+record-laid i at q new old ea eq =
+    let z : at + length new - at ≡ length new = omega arith in
+    rw (z, drop-drop (length new) at old, eq, ea)
 
 -- ---- a node
+
+-- n extents from a place on, as far as the list goes, are at most 128 of those listed
+pub extents-of : (cs : List Extent) (len s n : ℕ) → n ≡ min (len - s) 128 → take (s + n - s) (drop s cs) ≡ take 128 (drop s (take len cs))
+extents-of cs len s n e = ap (λ (m : ℕ). take m (drop s cs)) z ∙ go (lt-or-le len s) (lt-or-le 128 (len - s))
+  where
+    z : s + n - s ≡ n
+    z = omega arith
+
+    go : (len < s) ⊎ (s ≤ len) → (128 < len - s) ⊎ (len - s ≤ 128) → take n (drop s cs) ≡ take 128 (drop s (take len cs))
+    go (inl h) w =
+        let y : n ≡ 0 = omega arith in
+        let l : length (take len cs) ≤ s = simp length-take (omega arith) in
+        rw (y, drop_of_length-le (take len cs) l)
+    go (inr h) (inl m) =
+        let y : n ≡ 128 = omega arith in
+        let u : s + (len - s) ≡ len = omega arith in
+        rw (y, ← u, drop-take s (len - s) cs, take-take 128 (len - s) (drop s cs) (omega arith))
+    go (inr h) (inr m) =
+        let y : n ≡ len - s = omega arith in
+        let u : s + (len - s) ≡ len = omega arith in
+        let l : length (take (len - s) (drop s cs)) ≤ 128 = simp length-take (omega arith) in
+        rw y (sym (ap (λ (k : ℕ). take 128 (drop s (take k cs))) (sym u) ∙ ap (take 128) (drop-take s (len - s) cs) ∙ take_all 128 (take (len - s) (drop s cs)) l))
 
 unfoldable pub filled : List ℕ → List ℕ
 filled xs = exactly 512 xs
 
-set-filled : (n : ℕ) (xs : List ℕ) (a : ℕ) → n ≡ length xs → set (filled xs) n a ≡ filled (xs ++ (a ∷ []))
+pub length-filled : (xs : List ℕ) → length (filled xs) ≡ 512
 unfolding filled
-set-filled n xs a e = rw e (set-exactly 512 xs a)
+length-filled xs = length-exactly 512 xs
 
--- four bytes stored behind xs
-filled_more : (n : ℕ) (xs : List ℕ) (a b c d : ℕ) → n ≡ length xs
-    → set (set (set (set (filled xs) n a) (n + 1) b) (n + 2) c) (n + 3) d ≡ filled (xs ++ (a ∷ b ∷ c ∷ d ∷ []))
-filled_more n xs a b c d e =
-    let l1 : n + 1 ≡ length (xs ++ (a ∷ [])) = simp length-append (omega arith) in
-    let l2 : n + 2 ≡ length ((xs ++ (a ∷ [])) ++ (b ∷ [])) = simp length-append (omega arith) in
-    let l3 : n + 3 ≡ length (((xs ++ (a ∷ [])) ++ (b ∷ [])) ++ (c ∷ [])) = simp length-append (omega arith) in
-    rw (
-      set-filled n xs a e,
-      set-filled (n + 1) (xs ++ (a ∷ [])) b l1,
-      set-filled (n + 2) ((xs ++ (a ∷ [])) ++ (b ∷ [])) c l2,
-      set-filled (n + 3) (((xs ++ (a ∷ [])) ++ (b ∷ [])) ++ (c ∷ [])) d l3,
-    )
-    (ap filled (simp append_assoc))
+-- bytes stored behind xs
+exactly-paste : (n : ℕ) (xs bs : List ℕ) → length xs + length bs ≤ n
+    → take (length xs) (exactly n xs) ++ (bs ++ drop (length bs) (drop (length xs) (exactly n xs))) ≡ exactly n (xs ++ bs)
+exactly-paste n [] [] h = refl
+exactly-paste zero [] (b ∷ bs) h = absurd (omega arith)
+exactly-paste (suc n) [] (b ∷ bs) h = ap (λ (l : List ℕ). b ∷ l) (exactly-paste n [] bs (omega arith))
+exactly-paste zero (x ∷ xs) bs h = absurd (omega arith)
+exactly-paste (suc n) (x ∷ xs) bs h = ap (λ (l : List ℕ). x ∷ l) (exactly-paste n xs bs (omega arith))
 
 bytes-append : (xs ys : List Extent) → bytes_of_slots (xs ++ ys) ≡ bytes_of_slots xs ++ bytes_of_slots ys
 bytes-append [] ys = refl
@@ -74,60 +80,30 @@ length-bytes : (es : List Extent) → length (bytes_of_slots es) ≡ 4 * length 
 length-bytes [] = refl
 length-bytes (e ∷ es) = let h = length-bytes es in omega arith
 
-module _ (fs cs : List ℕ) where
-  pub length-extents : (k n : ℕ) → length (extents_from fs cs k n) ≡ n
-  unfolding extents_from
-  length-extents k zero = refl
-  length-extents k (suc n) = ap suc (length-extents (suc k) n)
+-- one more slot
+pub slots-more : (out q : List ℕ) (es : List Extent) (k : ℕ) → out ≡ filled (bytes_of_slots (take k es)) → k < length es → length es ≤ 128
+    → q ≡ bytes2 (get_or es k (extent 0 0)).first ++ bytes2 (get_or es k (extent 0 0)).count
+    → take (4 * k) out ++ (q ++ drop (4 * k + 4 - 4 * k) (drop (4 * k) out)) ≡ filled (bytes_of_slots (take (k + 1) es))
+unfolding filled
+slots-more out q es k eo h few eq =
+    let xs = bytes_of_slots (take k es) in
+    let e = get_or es k (extent 0 0) in
+    let bs = bytes2 e.first ++ bytes2 e.count in
+    let lk : length (take k es) ≡ k = simp length-take (omega arith) in
+    let l : length xs ≡ 4 * k = omega (arith, length-bytes (take k es)) in
+    let z : 4 * k + 4 - 4 * k ≡ 4 = omega arith in
+    let p : take (4 * k) (exactly 512 xs) ++ (bs ++ drop 4 (drop (4 * k) (exactly 512 xs))) ≡ exactly 512 (xs ++ bs) =
+    rw (← l) (exactly-paste 512 xs bs (omega arith)) in
+    rw (eo, eq, z, add-one k, take-suc es k (extent 0 0) h) (p ∙ ap (exactly 512) (sym (bytes-append (take k es) (e ∷ []))))
 
-  pub extents-more : (k n j : ℕ) → k + n ≡ j → extents_from fs cs k (suc n) ≡ extents_from fs cs k n ++ (extent (get_or fs j 0) (get_or cs j 0) ∷ [])
-  unfolding extents_from
-  extents-more k zero j e = let z : k ≡ j = omega arith in rw z
-  extents-more k (suc n) j e = ap (λ (l : List Extent). extent (get_or fs k 0) (get_or cs k 0) ∷ l) (extents-more (suc k) n j (omega arith))
+pub slots-none : (es : List Extent) → exactly 512 [] ≡ filled (bytes_of_slots (take 0 es))
+unfolding filled
+slots-none es = refl
 
-  pub extents-drop : (m k n : ℕ) → drop m (extents_from fs cs k n) ≡ extents_from fs cs (m + k) (n - m)
-  unfolding extents_from
-  extents-drop zero k n = let z : n - 0 ≡ n = omega arith in let y : 0 + k ≡ k = omega arith in rw (z, y)
-  extents-drop (suc m) k zero = let z : zero - suc m ≡ 0 = omega arith in rw z
-  extents-drop (suc m) k (suc n) =
-      let z : suc n - suc m ≡ n - m = omega arith in
-      let y : m + suc k ≡ suc m + k = omega arith in
-      rw z (extents-drop m (suc k) n ∙ ap (λ (j : ℕ). extents_from fs cs j (n - m)) y)
-
-  pub extents-take : (m k n : ℕ) → take m (extents_from fs cs k n) ≡ extents_from fs cs k (min m n)
-  unfolding extents_from
-  extents-take zero k n = let z : min 0 n ≡ 0 = omega arith in rw z
-  extents-take (suc m) k zero = let z : min (suc m) 0 ≡ 0 = omega arith in rw z
-  extents-take (suc m) k (suc n) =
-      let z : min (suc m) (suc n) ≡ suc (min m n) = omega arith in
-      rw z (ap (λ (l : List Extent). extent (get_or fs k 0) (get_or cs k 0) ∷ l) (extents-take m (suc k) n))
-
-  -- one more slot
-  pub slots-more : (out : List ℕ) (at k : ℕ) → out ≡ filled (bytes_of_slots (extents_from fs cs at k))
-      → (f c : ℕ) → f ≡ get_or fs (at + k) 0 → c ≡ get_or cs (at + k) 0
-      → set (set (set (set out (4 * k) (f % 256)) (4 * k + 1) (f / 256 % 256)) (4 * k + 2) (c % 256)) (4 * k + 3) (c / 256 % 256)
-      ≡ filled (bytes_of_slots (extents_from fs cs at (k + 1)))
-  slots-more out at k e f c p q =
-      let l : 4 * k ≡ length (bytes_of_slots (extents_from fs cs at k)) = omega (arith, length-bytes (extents_from fs cs at k), length-extents at k) in
-      rw (
-        e,
-        filled_more (4 * k) (bytes_of_slots (extents_from fs cs at k)) (f % 256) (f / 256 % 256) (c % 256) (c / 256 % 256) l,
-        add-one k,
-        extents-more at k (at + k) refl,
-        p,
-        q,
-      )
-      (ap filled (sym (bytes-append (extents_from fs cs at k) (extent (get_or fs (at + k) 0) (get_or cs (at + k) 0) ∷ []))))
-
-pub slots-none : (fs cs : List ℕ) (at : ℕ) → filled [] ≡ filled (bytes_of_slots (extents_from fs cs at 0))
-unfolding extents_from
-slots-none fs cs at = refl
-
-pub slots-all : (r : Runs) (j k : ℕ) (out : List ℕ) → k ≡ min 128 (r.len - 128 * j) → out ≡ filled (bytes_of_slots (extents_from r.first r.count (128 * j) k))
-    → out ≡ node_content r j
-unfolding node_content filled listed
-slots-all r j k out ek e =
-    e ∙ rw (extents-drop r.first r.count (128 * j) 0 r.len, extents-take r.first r.count 128 (128 * j + 0) (r.len - 128 * j), add-zero (128 * j), ek)
+pub slots-all : (r : ExtentList) (j k : ℕ) (own : List Extent) (out : List ℕ) → own ≡ take 128 (drop (128 * j) (listed r)) → length own ≤ k
+    → out ≡ filled (bytes_of_slots (take k own)) → out ≡ node_content r j
+unfolding node_content filled
+slots-all r j k own out eo l e = e ∙ ap (λ (es : List Extent). exactly 512 (bytes_of_slots es)) (take_all k own l ∙ eo)
 
 -- ---- a data block
 
@@ -187,12 +163,6 @@ module _ (x : ℕ) (bytes : List ℕ) (p : ℕ) (old : List ℕ) (whole : length
     many : 512 * p + end - x - (512 * p + from - x) ≡ end - from
     many = omega (arith, h.low, h.ahead)
 
-    pub part-even : length (take (512 * p + end - x - (512 * p + from - x)) (drop (512 * p + from - x) bytes)) ≡ length (take (end - from) (drop from old))
-    part-even =
-        let l : length (take (end - from) (drop (512 * p + from - x) bytes)) ≡ end - from = simp (length-take, length-drop) (omega (arith, h.low, h.high, h.ahead)) in
-        let m : length (take (end - from) (drop from old)) ≡ end - from = simp (length-take, length-drop) (omega (arith, h.ahead, h.inside)) in
-        rw many (l ∙ sym m)
-
     pub part-laid : (y : List ℕ) → y ≡ take (512 * p + end - x - (512 * p + from - x)) (drop (512 * p + from - x) bytes)
         → take from old ++ (y ++ drop (end - from) (drop from old)) ≡ laid_over x bytes p old
     unfolding laid_over
@@ -215,48 +185,13 @@ module _ (x : ℕ) (bytes : List ℕ) (p : ℕ) (old : List ℕ) (whole : length
 
 -- ---- a block cleared from a place on
 
-exactly-more : (k : ℕ) (xs : List ℕ) → length xs ≤ k → exactly (suc k) xs ≡ exactly k xs ++ (0 ∷ [])
-exactly-more zero [] h = refl
-exactly-more zero (x ∷ xs) h = absurd (omega arith)
-exactly-more (suc k) [] h = ap (λ (l : List ℕ). 0 ∷ l) (exactly-more k [] (omega arith))
-exactly-more (suc k) (x ∷ xs) h = ap (λ (l : List ℕ). x ∷ l) (exactly-more k xs (omega arith))
-
--- the first n bytes are as they were, those from there to k are zero
-pub record ClearedTo (n : ℕ) (old q : List ℕ) (k : ℕ) : Type 0 where
-  pub low : n ≤ k
-  pub high : k ≤ 512
-  pub long : length q ≡ 512
-  pub front : take k q ≡ exactly k (take n old)
-
-pub clear-start : (n : ℕ) (old : List ℕ) → length old ≡ 512 → n ≤ 512 → ClearedTo n old old n
-clear-start n old l h =
-    let m : length (take n old) ≡ n = simp length-take (omega arith) in
-    record { low = omega arith; high = h; long = l; front = sym (exactly-all n (take n old) m) }
-
-module _ (n : ℕ) (old q : List ℕ) (k : ℕ) (c : ClearedTo n old q k) where
-  pub clear-more : k < length q → ClearedTo n old (set q k 0) (k + 1)
-  clear-more h =
-      let low = c.low in
-      let long = c.long in
-      let m : length (take n old) ≤ k = simp length-take (omega arith) in
-      record {
-        low = omega arith;
-        high = omega arith;
-        long = length-set q k 0 ∙ c.long;
-        front = rw (add-one k) (take-suc-set q k 0 h ∙ ap (λ (l : List ℕ). l ++ (0 ∷ [])) c.front ∙ sym (exactly-more k (take n old) m));
-      }
-
-  pub clear-end : length q ≤ k → q ≡ cut_to n old
-  unfolding cut_to
-  clear-end h =
-      let high = c.high in
-      let long = c.long in
-      let e : k ≡ 512 = omega arith in
-      sym (take_all k q h) ∙ c.front ∙ ap (λ (m : ℕ). exactly m (take n old)) e
-
-pub cut-none : (old q : List ℕ) → q ≡ cut_to 0 old → q ≡ zeros 512
-unfolding cut_to
-cut-none old q e = e ∙ exactly-nil 512
+exactly-zeros : (n m : ℕ) (xs : List ℕ) → length xs + m ≡ n → xs ++ replicate m 0 ≡ exactly n xs
+exactly-zeros zero zero [] h = refl
+exactly-zeros zero (suc m) [] h = absurd (omega arith)
+exactly-zeros zero m (x ∷ xs) h = absurd (omega arith)
+exactly-zeros (suc n) zero [] h = absurd (omega arith)
+exactly-zeros (suc n) (suc m) [] h = ap (λ (l : List ℕ). 0 ∷ l) (exactly-zeros n m [] (omega arith))
+exactly-zeros (suc n) m (x ∷ xs) h = ap (λ (l : List ℕ). x ∷ l) (exactly-zeros n m xs (omega arith))
 
 -- the size of the last kept block
 last-kept : (old_size size p : ℕ) → is_last_kept old_size size p ≡ true → size - 512 * p ≡ size % 512
@@ -269,13 +204,20 @@ last-kept old_size size p h = go (ltb size old_size) (eqb (size % 512) 0) (eqb p
     go false b false ea eb ec = let z : false ≡ true = rw ea at h in absurd (true≢false (sym z))
 
 module _ (held old_size size p : ℕ) (old : List ℕ) where
-  pub kept_new : held ≤ p → (q : List ℕ) → q ≡ zeros 512 → q ≡ kept_content held old_size size p old
-  unfolding kept_content
-  kept_new h q e = e ∙ rw (le-leb held p h)
+  pub kept_new : held ≤ p → length old ≡ 512 → (q : List ℕ) → q ≡ replicate (length old) 0 → q ≡ kept_content held old_size size p old
+  unfolding kept_content zeros
+  kept_new h l q e = rw (e, l, le-leb held p h)
 
-  pub kept-cut : p < held → is_last_kept old_size size p ≡ true → (q : List ℕ) → q ≡ cut_to (size % 512) old → q ≡ kept_content held old_size size p old
-  unfolding kept_content cut_to
-  kept-cut h l q e = e ∙ rw (lt-leb held p h, l, last-kept old_size size p l)
+  pub kept-cut : p < held → is_last_kept old_size size p ≡ true → length old ≡ 512 → (q : List ℕ) → q ≡ replicate (length (take (length old - size % 512) (drop (size % 512) old))) 0
+      → take (size % 512) old ++ (q ++ drop (length old - size % 512) (drop (size % 512) old)) ≡ kept_content held old_size size p old
+  unfolding kept_content
+  kept-cut h t l q e =
+      let n = size % 512 in
+      let m : length (take n old) ≡ n = simp length-take (omega arith) in
+      let r : length (take (length old - n) (drop n old)) ≡ length old - n = simp (length-take, length-drop) (omega arith) in
+      let z : length (drop n old) ≤ length old - n = simp length-drop (omega arith) in
+      rw (lt-leb held p h, t, last-kept old_size size p t, e, drop_of_length-le (drop n old) z, r)
+      (ap (λ (xs : List ℕ). take n old ++ xs) (append-nil (replicate (length old - n) 0)) ∙ exactly-zeros 512 (length old - n) (take n old) (omega arith))
 
   pub kept_same : p < held → is_last_kept old_size size p ≡ false → old ≡ kept_content held old_size size p old
   unfolding kept_content

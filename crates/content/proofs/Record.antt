@@ -1,88 +1,62 @@
 -- Laws of the bytes of a file record. Assumes nothing.
-use Prim.Native.Nat.{ℕ, zero, suc, ◌+◌, ◌*◌, ◌-◌, ◌<◌, ◌≤◌, min}
+use Prim.Native.Nat.{ℕ, zero, suc, ◌+◌, ◌*◌, ◌/◌, ◌%◌, ◌<◌, ◌≤◌}
 use mathlib.Core.Path.{◌≡◌, refl, sym, ap, ◌∙◌}
-use mathlib.Core.Bool.{cond}
+use mathlib.Core.Bool.{Bool, true, false, cond}
 use mathlib.Core.List.{List, [], ◌∷◌, ◌++◌}
 use native.Mathlib.Omega.{arith}
-use native.Mathlib.Nat.{add-zero}
-use native.Mathlib.Numerals.{add-one}
 use borrow.Author.Tests.{eq-eqb, ne_eqb}
 use lib.Dec.{eqb}
-use lib.ListN.{length, take, drop, get_or, length-take}
+use lib.ListN.{length, take, drop, get_or, length-take, get_or-eq_default, take-append-drop}
 use lib.Seq.{get_or-take, drop-drop}
+use Rattle.std.specs.Prelude.{sum_by}
+use Rattle.std.specs.Int.{w32, to_le_bytes}
+use Rattle.std.proofs.lemmas.List.Sums.{sum_by-cons}
 use Rattle.spec.specs.declared.Extent.{Extent}
 use Rattle.spec.specs.Bytes.{exactly, bytes2, bytes4}
 use Rattle.spec.specs.Inode.{extent, counts, bytes_of_slots, node_slots, top_slots, bytes_of_inode, inode_with}
-use Rattle.runs.specs.Tree.{Runs, Tree}
-use Rattle.runs.specs.Runs.{extents_from, listed, nodes_in, levels_in, Bounded}
+use Rattle.runs.specs.Tree.{Tree}
+use Rattle.runs.specs.declared.ExtentList.{ExtentList}
+use Rattle.runs.specs.declared.Nodes.{Nodes}
+use Rattle.runs.specs.Runs.{listed, nodes_in, levels_in, Bounded}
 use Rattle.lists.specs.Extents.{counts-append}
 use Rattle.content.specs.Content.{tree_of, counts_below, slots_above}
-use Rattle.content.proofs.Laws.{extents-drop, extents-take, extents-more}
 
 -- ---- extents
 
-module _ (fs cs : List ℕ) where
-  pub extents-join : (k n m : ℕ) → extents_from fs cs k (n + m) ≡ extents_from fs cs k n ++ extents_from fs cs (k + n) m
-  unfolding extents_from
-  extents-join k zero m = let z : 0 + m ≡ m = omega arith in let y : k + 0 ≡ k = omega arith in rw (z, y)
-  extents-join k (suc n) m =
-      let z : suc n + m ≡ suc (n + m) = omega arith in
-      let y : suc k + n ≡ k + suc n = omega arith in
-      rw z (ap (λ (l : List Extent). extent (get_or fs k 0) (get_or cs k 0) ∷ l) (extents-join (suc k) n m ∙ ap (λ (i : ℕ). extents_from fs cs (suc k) n ++ extents_from fs cs i m) y))
-
-  extent-in : (a n k j : ℕ) → k < n → a + k ≡ j → get_or (extents_from fs cs a n) k (extent 0 0) ≡ extent (get_or fs j 0) (get_or cs j 0)
-  unfolding extents_from
-  extent-in a zero k j h e = absurd (omega arith)
-  extent-in a (suc n) zero j h e = let z : a ≡ j = omega arith in rw z
-  extent-in a (suc n) (suc k) j h e = extent-in (suc a) n k j (omega arith) (omega arith)
-
-  extent-past : (a n k : ℕ) → n ≤ k → get_or (extents_from fs cs a n) k (extent 0 0) ≡ extent 0 0
-  unfolding extents_from
-  extent-past a zero k h = refl
-  extent-past a (suc n) zero h = absurd (omega arith)
-  extent-past a (suc n) (suc k) h = extent-past (suc a) n k (omega arith)
-
-  counts-one : (a k : ℕ) → counts (extents_from fs cs a (k + 1)) ≡ counts (extents_from fs cs a k) + get_or cs (a + k) 0
-  counts-one a k =
-      let s = counts-append (extents_from fs cs a k) (extent (get_or fs (a + k) 0) (get_or cs (a + k) 0) ∷ []) in
-      rw (add-one k, extents-more fs cs a k (a + k) refl) (s ∙ omega arith)
-
-module _ (r : Runs) (k : ℕ) where
-  pub extent-is : k < r.len → extent (get_or r.first k 0) (get_or r.count k 0) ≡ get_or (listed r) k (extent 0 0)
+module _ (r : ExtentList) (k : ℕ) where
+  pub extent-is : k < r.len → get_or r.cells k (extent 0 0) ≡ get_or (listed r) k (extent 0 0)
   unfolding listed
-  extent-is h = sym (extent-in r.first r.count 0 r.len k k h (omega arith))
+  extent-is h = sym (get_or-take r.len r.cells k (extent 0 0) h)
 
   pub extent-none : r.len ≤ k → extent 0 0 ≡ get_or (listed r) k (extent 0 0)
   unfolding listed
-  extent-none h = sym (extent-past r.first r.count 0 r.len k h)
+  extent-none h = let l : length (take r.len r.cells) ≤ k = simp length-take (omega arith) in sym (get_or-eq_default (take r.len r.cells) (extent 0 0) l)
 
 -- ---- the data blocks below a node
 
--- the counts of k extents from a place on
-unfoldable pub counts_from : List ℕ → ℕ → ℕ → ℕ
-counts_from cs a k = counts (extents_from [] cs a k)
+-- the sum in the code
+pub counts-by : (es : List Extent) → sum_by (λ (e : Extent). e.count) es ≡ counts es
+counts-by [] = refl
+counts-by (e ∷ es) = sum_by-cons (λ (e : Extent). e.count) e es ∙ ap (λ (n : ℕ). e.count + n) (counts-by es)
 
--- where extents begin plays no part in how many blocks they have
-pub any-first : (fs gs cs : List ℕ) (a k : ℕ) → counts (extents_from fs cs a k) ≡ counts (extents_from gs cs a k)
-unfolding extents_from
-any-first fs gs cs a zero = refl
-any-first fs gs cs a (suc k) = ap (λ (n : ℕ). get_or cs a 0 + n) (any-first fs gs cs (suc a) k)
+-- a part has no more blocks than the whole
+pub counts-take : (n : ℕ) (es : List Extent) → counts (take n es) ≤ counts es
+counts-take n es = let s = ap counts (take-append-drop n es) in let a = counts-append (take n es) (drop n es) in omega arith
 
-module _ (cs : List ℕ) (a : ℕ) where
-  pub below_none : 0 ≡ counts_from cs a 0
-  unfolding counts_from extents_from
-  below_none = refl
+counts-drop : (n : ℕ) (es : List Extent) → counts (drop n es) ≤ counts es
+counts-drop n es = let s = ap counts (take-append-drop n es) in let a = counts-append (take n es) (drop n es) in omega arith
 
-  pub below_more : (n k : ℕ) → n ≡ counts_from cs a k → n + get_or cs (a + k) 0 ≡ counts_from cs a (k + 1)
-  unfolding counts_from
-  below_more n k e = let s = counts-one [] cs a k in omega arith
+module _ (r : ExtentList) (j : ℕ) (own : List Extent) (e : own ≡ take 128 (drop (128 * j) (listed r))) where
+  pub below-is : (n : ℕ) → n ≡ sum_by (λ (e : Extent). e.count) own → n ≡ counts_below r j
+  unfolding counts_below
+  below-is n h = h ∙ counts-by own ∙ ap counts e
 
-module _ (r : Runs) (j : ℕ) where
-  pub below_all : (n k : ℕ) → n ≡ counts_from r.count (128 * j) k → k ≡ min 128 (r.len - 128 * j) → n ≡ counts_below r j
-  unfolding counts_from counts_below listed
-  below_all n k e q =
-      e ∙ any-first [] r.first r.count (128 * j) k
-      ∙ rw (extents-drop r.first r.count (128 * j) 0 r.len, extents-take r.first r.count 128 (128 * j + 0) (r.len - 128 * j), add-zero (128 * j), q)
+  pub below-few : sum_by (λ (e : Extent). e.count) own ≤ counts (listed r)
+  below-few =
+      let c = counts-by own ∙ ap counts e in
+      let a = counts-take 128 (drop (128 * j) (listed r)) in
+      let b = counts-drop (128 * j) (listed r) in
+      omega arith
 
 -- ---- the slots of the record
 
@@ -125,15 +99,23 @@ module _ (t : Tree) (k : ℕ) where
         let q : length (take t.nodes t.node) ≤ k = simp length-take (omega arith) in
         sym (rw (ne_eqb t.nodes 0 deep) (node-none (take t.nodes t.node) (listed t.runs) k q))
 
-pub depth-flat : (t : Tree) → t.nodes ≡ 0 → 0 ≡ length (levels_in t)
+pub depth-is : (t : Tree) → cond (eqb t.nodes 0) 0 1 ≡ length (levels_in t)
 unfolding levels_in
-depth-flat t h = rw (eq-eqb t.nodes 0 h)
-
-pub depth-deep : (t : Tree) → (t.nodes ≡ 0 → ⊥) → 1 ≡ length (levels_in t)
-unfolding levels_in
-depth-deep t h = rw (ne_eqb t.nodes 0 h)
+depth-is t = go (eqb t.nodes 0)
+  where
+    go : (b : Bool) → cond b 0 1 ≡ length (cond b [] (nodes_in t ∷ []))
+    go true = refl
+    go false = refl
 
 -- ---- the bytes
+
+-- the four bytes that the code takes, the low one first
+pub size-bytes : (n : ℕ) → to_le_bytes w32 n ≡ bytes4 n
+size-bytes n =
+    let a : n % 65536 % 256 ≡ n % 256 = omega arith in
+    let b : n % 65536 / 256 % 256 ≡ n / 256 % 256 = omega arith in
+    let d : n / 65536 / 256 % 256 ≡ n / 16777216 % 256 = omega arith in
+    rw (a, b, d)
 
 abbrev pub slot_bytes : Extent → List ℕ
 slot_bytes e = bytes2 e.first ++ bytes2 e.count
@@ -195,13 +177,10 @@ module _ (t : Tree) (n z a b c e q : List ℕ) (d size : ℕ) (ea eb ec ee : Ext
       (ap (λ (xs : List ℕ). n ++ (bytes4 size ++ (length (levels_in t) ∷ 0 ∷ 0 ∷ 0 ∷ xs))) (sym (four-slots (top_slots (levels_in t) (listed t.runs)))))
 
 -- a tree and its parts
-module _ (t : Tree) where
-  abbrev parts : Tree
-  parts = tree_of t.runs.first t.runs.count (record { len = t.runs.len; next = t.runs.next }) t.node t.nodes
-
-  pub parts-levels : levels_in parts ≡ levels_in t
+module _ (table : List ℕ) (extents : ExtentList) (nodes : Nodes) (before held : ℕ) where
+  pub parts-levels : levels_in (tree_of extents nodes) ≡ levels_in (record { table = table; runs = extents; node = nodes.node; nodes = nodes.len; before = before; held = held })
   unfolding levels_in nodes_in
   parts-levels = refl
 
-  pub parts-bounded : Bounded t → Bounded parts
+  pub parts-bounded : Bounded (record { table = table; runs = extents; node = nodes.node; nodes = nodes.len; before = before; held = held }) → Bounded (tree_of extents nodes)
   parts-bounded b = record { extents = b.extents; nodes = b.nodes; blocks = b.blocks; first = b.first; count = b.count; held = omega arith }

@@ -4,25 +4,25 @@ use Rattle.spec.specs.Bytes.{exactly, patch, zeros}
 use Rattle.spec.specs.declared.Extent.{Extent}
 use Rattle.spec.specs.Inode.{place_of_inode, node_bytes, counts, top_slots}
 use Rattle.spec.specs.Plan.{overlay, clear_tail, is_last_kept, new_content}
-use Rattle.runs.specs.Tree.{Runs, Tree}
-use Rattle.runs.specs.declared.End.{End}
-use Rattle.runs.specs.Push.{columns}
+use Rattle.runs.specs.Tree.{Tree}
+use Rattle.runs.specs.declared.ExtentList.{ExtentList}
+use Rattle.runs.specs.declared.Nodes.{Nodes}
 use Rattle.runs.specs.Runs.{listed, levels_in}
 
 -- a tree from its extents and nodes; bitmap and what was held before play no part in its record
-abbrev pub tree_of : List ℕ → List ℕ → End → List ℕ → ℕ → Tree
-tree_of first count end node nodes = record { table = []; runs = columns first count end; node = node; nodes = nodes; before = 0; held = 0 }
+abbrev pub tree_of : ExtentList → Nodes → Tree
+tree_of extents nodes = record { table = []; runs = extents; node = nodes.node; nodes = nodes.len; before = 0; held = 0 }
 
 -- the block of record i with the first bytes of the record replaced
 unfoldable pub with_record : ℕ → List ℕ → List ℕ → List ℕ
 with_record i new old = patch (place_of_inode i) new old
 
 -- node j of a tree with these extents
-unfoldable pub node_content : Runs → ℕ → List ℕ
+unfoldable pub node_content : ExtentList → ℕ → List ℕ
 node_content r j = node_bytes (take 128 (drop (128 * j) (listed r)))
 
 -- how many blocks the extents of node j have
-unfoldable pub counts_below : Runs → ℕ → ℕ
+unfoldable pub counts_below : ExtentList → ℕ → ℕ
 counts_below r j = counts (take 128 (drop (128 * j) (listed r)))
 
 -- the slots of the record of a tree
@@ -33,11 +33,7 @@ slots_above t = top_slots (levels_in t) (listed t.runs)
 unfoldable pub laid_over : ℕ → List ℕ → ℕ → List ℕ → List ℕ
 laid_over x bytes p old = overlay x bytes (512 * p) old
 
--- the first n bytes of a block, and zeros
-unfoldable pub cut_to : ℕ → List ℕ → List ℕ
-cut_to n old = exactly 512 (take n old)
-
--- what they are laid over
+-- block p of a file, before the bytes are laid over it
 unfoldable pub kept_content : ℕ → ℕ → ℕ → ℕ → List ℕ → List ℕ
 kept_content held old_size size p old = cond (leb held p) (zeros 512) (cond (is_last_kept old_size size p) (clear_tail size p old) old)
 

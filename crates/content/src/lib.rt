@@ -1,17 +1,15 @@
 // The content of a block after a change: a file record's block, a node, a data block.
 #![tactic(auto)]
 
-ghost use Rattle.std.specs.Prelude.{◌≡◌, ◌&&◌, List, [], ◌∷◌, ◌++◌, ℕ, ◌+◌, ◌*◌, ◌-◌, ◌<◌, ◌≤◌, min, leb, length, get_or};
-ghost use Rattle.spec.specs.Bytes.{bytes2, bytes4};
+ghost use Rattle.std.specs.Prelude.{◌≡◌, ◌&&◌, [], ◌∷◌, ◌++◌, ◌+◌, ◌*◌, ◌<◌, ◌≤◌, take, drop, cond, eqb, leb, length, get_or};
+ghost use Rattle.spec.specs.Bytes.{bytes2};
 ghost use Rattle.spec.specs.Inode.{extent, bytes_of_inode, inode_with};
 ghost use Rattle.spec.specs.Plan.{is_last_kept, holds_data, is_staged};
-ghost use Rattle.runs.specs.Tree.{Tree};
 ghost use Rattle.runs.specs.Runs.{Bounded, listed, levels_in};
-ghost use Rattle.runs.specs.Push.{columns};
-ghost use Rattle.content.specs.Content.{tree_of, with_record, node_content, counts_below, slots_above, laid_over, cut_to, kept_content, data_content};
+ghost use Rattle.content.specs.Content.{tree_of, with_record, node_content, counts_below, slots_above, laid_over, kept_content, data_content};
 
-use block::{copy, place_in_block};
-use runs::End;
+use block::place_in_block;
+use runs::{ExtentList, Nodes, block_count};
 use spec::{ByteOffset, Extent, FileBlock, Limits};
 
 // The first bytes of file record i replaced in its block.
@@ -20,147 +18,76 @@ pub fn lay_record(block: &mut [u8], i: usize, new: &[u8])
     ensures { block.new ≡ with_record i new.now block.old }
 {
     let at = place_in_block(i);
-    let mut k: usize = 0;
-    while k < new.len() {
-        block[at + k] = new[k];
-        k += 1;
-    }
+    block[at..at + new.len()].copy_from_slice(new);
 }
 
-// How many of so many extents stand in node j.
-fn slots_in(len: usize, j: usize) -> usize
-    requires { j < 4 }
-    ensures { result ≡ min 128 (len - 128 * j) }
+// The extents of node j.
+fn extents_of(extents: &ExtentList, j: usize) -> &[Extent]
+    requires { (extents.now.len ≤ 512) × (j < 4) }
+    ensures { result.now ≡ take 128 (drop (128 * j) (listed extents.now)) }
 {
     let start = Limits::SLOTS_PER_NODE * j;
-    if len <= start {
-        return 0;
-    }
-    if Limits::SLOTS_PER_NODE < len - start {
-        return Limits::SLOTS_PER_NODE;
-    }
-    len - start
-}
-
-// The content of node j.
-pub fn node_content<'a>(
-    first: &'a [u32; Limits::MAX_EXTENTS],
-    count: &'a [u32; Limits::MAX_EXTENTS],
-    end: End,
-    j: usize,
-) -> [u8; Limits::BLOCK_SIZE]
-    requires { (end.len ≤ 512) × (j < 4) }
-    ensures { result ≡ node_content (columns first.now count.now end) j }
-{
-    let start = Limits::SLOTS_PER_NODE * j;
-    let n = slots_in(end.len, j);
-    let mut out = [0u8; Limits::BLOCK_SIZE];
-    let mut k: usize = 0;
-    while k < n {
-        let f = first[start + k];
-        let c = count[start + k];
-        let at = 4 * k;
-        out[at] = (f % 256) as u8;
-        out[at + 1] = (f / 256 % 256) as u8;
-        out[at + 2] = (c % 256) as u8;
-        out[at + 3] = (c / 256 % 256) as u8;
-        k += 1;
-    }
-    out
-}
-
-// The extent at place k, of no blocks past the last one.
-fn extent_at<'a>(
-    first: &'a [u32; Limits::MAX_EXTENTS],
-    count: &'a [u32; Limits::MAX_EXTENTS],
-    end: End,
-    k: usize,
-) -> Extent
-    requires { k < 512 }
-    ensures { result ≡ get_or (listed (columns first.now count.now end)) k (extent 0 0) }
-{
-    if k < end.len {
-        let b = first[k];
-        let n = count[k];
-        return Extent { first: b, count: n };
-    }
-    Extent { first: 0, count: 0 }
-}
-
-// How many data blocks are below node j.
-fn blocks_below(count: &[u32; Limits::MAX_EXTENTS], end: End, j: usize) -> u32
-    requires { (end.len ≤ 512) × (j < 4) × ((k : ℕ) → get_or count.now k 0 ≤ 8192) }
-    ensures { (first : List ℕ) → result ≡ counts_below (columns first count.now end) j }
-{
-    let start = Limits::SLOTS_PER_NODE * j;
-    let m = slots_in(end.len, j);
-    let mut n: u32 = 0;
-    let mut k: usize = 0;
-    while k < m {
-        n += count[start + k];
-        k += 1;
-    }
-    n
-}
-
-// Slot k of the record: an extent, or a node with the data blocks below it.
-fn top_slot<'a>(
-    first: &'a [u32; Limits::MAX_EXTENTS],
-    count: &'a [u32; Limits::MAX_EXTENTS],
-    end: End,
-    node: [u32; 4],
-    nodes: usize,
-    k: usize,
-) -> Extent
-    requires { (k < 4) × Bounded (tree_of first.now count.now end node nodes) }
-    ensures { result ≡ get_or (slots_above (tree_of first.now count.now end node nodes)) k (extent 0 0) }
-{
-    if nodes == 0 {
-        return extent_at(first, count, end, k);
-    }
-    if k < nodes {
-        let b = node[k];
-        return Extent {
-            first: b,
-            count: blocks_below(count, end, k),
-        };
-    }
-    Extent { first: 0, count: 0 }
+    let n = extents
+        .len
+        .saturating_sub(start)
+        .min(Limits::SLOTS_PER_NODE);
+    &extents.cells[start..start + n]
 }
 
 fn slot_bytes(e: Extent) -> [u8; 4]
     ensures { result ≡ bytes2 e.first ++ bytes2 e.count }
 {
-    let f = e.first;
-    let n = e.count;
-    [
-        (f % 256) as u8,
-        (f / 256 % 256) as u8,
-        (n % 256) as u8,
-        (n / 256 % 256) as u8,
-    ]
+    let first = e.first.to_le_bytes();
+    let count = e.count.to_le_bytes();
+    [first[0], first[1], count[0], count[1]]
 }
 
-fn size_bytes(size: usize) -> [u8; 4]
-    ensures { result ≡ bytes4 size }
+// The content of node j.
+pub fn node_content(extents: &ExtentList, j: usize) -> [u8; Limits::BLOCK_SIZE]
+    requires { (extents.now.len ≤ 512) × (j < 4) }
+    ensures { result ≡ node_content extents.now j }
 {
-    let low = size % 65536;
-    let high = size / 65536;
-    [
-        (low % 256) as u8,
-        (low / 256 % 256) as u8,
-        (high % 256) as u8,
-        (high / 256 % 256) as u8,
-    ]
-}
-
-fn depth_of(nodes: usize) -> u8
-    ensures { (t : Tree) → t.nodes ≡ nodes → result ≡ length (levels_in t) }
-{
-    if nodes == 0 {
-        return 0;
+    let own = extents_of(extents, j);
+    let mut out = [0u8; Limits::BLOCK_SIZE];
+    for k in 0..own.len() {
+        let at = 4 * k;
+        out[at..at + 4].copy_from_slice(&slot_bytes(own[k]));
     }
-    1
+    out
+}
+
+// The extent at place k, of no blocks past the last one.
+fn extent_at(extents: &ExtentList, k: usize) -> Extent
+    requires { k < 512 }
+    ensures { result ≡ get_or (listed extents.now) k (extent 0 0) }
+{
+    if k < extents.len {
+        return extents.cells[k];
+    }
+    Extent { first: 0, count: 0 }
+}
+
+// Slot k of the record: an extent, or a node with the data blocks below it.
+fn top_slot(extents: &ExtentList, nodes: Nodes, k: usize) -> Extent
+    requires { (k < 4) × Bounded (tree_of extents.now nodes) }
+    ensures { result ≡ get_or (slots_above (tree_of extents.now nodes)) k (extent 0 0) }
+{
+    if nodes.len == 0 {
+        return extent_at(extents, k);
+    }
+    if k < nodes.len {
+        return Extent {
+            first: nodes.node[k],
+            count: block_count(extents_of(extents, k)),
+        };
+    }
+    Extent { first: 0, count: 0 }
+}
+
+fn depth_of(nodes: Nodes) -> u8
+    ensures { result ≡ cond (eqb nodes.len 0) 0 1 }
+{
+    if nodes.len == 0 { 0 } else { 1 }
 }
 
 // The fields of a record, one after the other.
@@ -182,136 +109,108 @@ fn joined(
 }
 
 // "Bytes 0 to 7 name; 8 to 11 size in bytes; 12 depth, 0 or 1; 13 to 15 zero; 16 to 31 four slots."
-pub fn record_bytes<'a>(
+pub fn record_bytes(
     name: [u8; 8],
     size: usize,
-    first: &'a [u32; Limits::MAX_EXTENTS],
-    count: &'a [u32; Limits::MAX_EXTENTS],
-    end: End,
-    node: [u32; 4],
-    nodes: usize,
+    extents: &ExtentList,
+    nodes: Nodes,
 ) -> [u8; Limits::INODE_SIZE]
-    requires { Bounded (tree_of first.now count.now end node nodes) × (size < 4294967296) }
-    ensures { result ≡ bytes_of_inode (inode_with name size (listed (columns first.now count.now end)) (levels_in (tree_of first.now count.now end node nodes))) }
+    requires { Bounded (tree_of extents.now nodes) × (size < 4294967296) }
+    ensures { result ≡ bytes_of_inode (inode_with name size (listed extents.now) (levels_in (tree_of extents.now nodes))) }
 {
-    let z = size_bytes(size);
+    let z = (size as u32).to_le_bytes();
     let d = depth_of(nodes);
-    let a = slot_bytes(top_slot(first, count, end, node, nodes, 0));
-    let b = slot_bytes(top_slot(first, count, end, node, nodes, 1));
-    let c = slot_bytes(top_slot(first, count, end, node, nodes, 2));
-    let e = slot_bytes(top_slot(first, count, end, node, nodes, 3));
+    let a = slot_bytes(top_slot(extents, nodes, 0));
+    let b = slot_bytes(top_slot(extents, nodes, 1));
+    let c = slot_bytes(top_slot(extents, nodes, 2));
+    let e = slot_bytes(top_slot(extents, nodes, 3));
     joined(name, z, d, a, b, c, e)
 }
 
-// Where a place of the file lies in the block that begins at `start`: at most at its end.
-fn within(start: ByteOffset, at: ByteOffset) -> usize
-    ensures { result ≡ min 512 (at.0 - start.0) }
-{
-    if at.0 <= start.0 {
-        return 0;
+// How a change treats the data blocks of a file: how many it held, its size before and after, and the bytes laid over it at x.
+#[derive(Clone, Copy)]
+pub struct Rewrite<'a> {
+    pub held: usize,
+    pub old: usize,
+    pub size: usize,
+    pub x: ByteOffset,
+    pub bytes: &'a [u8],
+    pub ghost fits: { x.0 + length bytes.now ≤ 1048576 },
+}
+
+impl Rewrite<'_> {
+    // The data laid over block p of the file.
+    fn lay_over(&self, block: &mut [u8], p: FileBlock)
+        requires { (length block.old ≡ 512) × (p.0 < 4294967296) }
+        ensures { block.new ≡ laid_over self.now.x.0 self.now.bytes.now p.0 block.old }
+    {
+        let start = Limits::BLOCK_SIZE * p.0;
+        let x = self.x.0;
+        let from = Limits::BLOCK_SIZE.min(x.saturating_sub(start));
+        let end = Limits::BLOCK_SIZE.min((x + self.bytes.len()).saturating_sub(start));
+        if from < end {
+            let part = &self.bytes[start + from - x..start + end - x];
+            block[from..end].copy_from_slice(part);
+        }
     }
-    if Limits::BLOCK_SIZE < at.0 - start.0 {
-        return Limits::BLOCK_SIZE;
+
+    // Whether the data covers the whole of block p of the file.
+    fn is_covered(&self, p: FileBlock) -> bool
+        requires { p.0 < 4294967296 }
+        ensures { result ≡ leb self.now.x.0 (512 * p.0) && leb (512 * p.0 + 512) (self.now.x.0 + length self.now.bytes.now) }
+    {
+        let start = Limits::BLOCK_SIZE * p.0;
+        (self.x.0 <= start) & (start + Limits::BLOCK_SIZE <= self.x.0 + self.bytes.len())
     }
-    at.0 - start.0
-}
 
-// The data from place x of the file on, laid over the file's block p.
-fn lay_over(block: &mut [u8], x: ByteOffset, bytes: &[u8], p: FileBlock)
-    requires { (length block.old ≡ 512) × (p.0 < 4294967296) × (x.0 + length bytes.now ≤ 1048576) }
-    ensures { block.new ≡ laid_over x.0 bytes.now p.0 block.old }
-{
-    let start = ByteOffset(Limits::BLOCK_SIZE * p.0);
-    let from = within(start, x);
-    let end = within(start, ByteOffset(x.0 + bytes.len()));
-    if from < end {
-        let a = start.0 + from - x.0;
-        let b = start.0 + end - x.0;
-        copy(&bytes[a..b], &mut block[from..end]);
+    // "on shortening to a size not divisible by 512, the last kept block"
+    fn is_last_kept(&self, p: FileBlock) -> bool
+        ensures { result ≡ is_last_kept self.now.old self.now.size p.0 }
+    {
+        (self.size < self.old)
+            & !(self.size % Limits::BLOCK_SIZE == 0)
+            & (p.0 == self.size / Limits::BLOCK_SIZE)
     }
-}
 
-// Whether the data covers the whole of the file's block p.
-fn is_covered(x: ByteOffset, bytes: &[u8], p: FileBlock) -> bool
-    requires { (p.0 < 4294967296) × (x.0 + length bytes.now ≤ 1048576) }
-    ensures { result ≡ leb x.0 (512 * p.0) && leb (512 * p.0 + 512) (x.0 + length bytes.now) }
-{
-    let start = Limits::BLOCK_SIZE * p.0;
-    (x.0 <= start) & (start + Limits::BLOCK_SIZE <= x.0 + bytes.len())
-}
-
-// "on shortening to a size not divisible by 512, the last kept block"
-fn is_last_kept(was: usize, size: usize, p: FileBlock) -> bool
-    ensures { result ≡ is_last_kept was size p.0 }
-{
-    (size < was) & !(size % Limits::BLOCK_SIZE == 0) & (p.0 == size / Limits::BLOCK_SIZE)
-}
-
-// "each data block holding a byte of the data"
-fn holds_data(x: ByteOffset, bytes: &[u8], p: FileBlock) -> bool
-    requires { (p.0 < 4294967296) × (x.0 + length bytes.now ≤ 1048576) }
-    ensures { result ≡ holds_data x.0 bytes.now p.0 }
-{
-    let n = bytes.len();
-    (0 < n) & (x.0 < Limits::BLOCK_SIZE * (p.0 + 1)) & (Limits::BLOCK_SIZE * p.0 < x.0 + n)
-}
-
-// "each data block holding a byte of the data; each new data .. block; .. the last kept block"
-pub fn is_staged(
-    held: usize,
-    was: usize,
-    size: usize,
-    x: ByteOffset,
-    bytes: &[u8],
-    p: FileBlock,
-) -> bool
-    requires { (p.0 < 4294967296) × (x.0 + length bytes.now ≤ 1048576) }
-    ensures { result ≡ is_staged held was size x.0 bytes.now p.0 }
-{
-    (held <= p.0) | holds_data(x, bytes, p) | is_last_kept(was, size, p)
-}
-
-// The bytes of a block from place n on made zero.
-fn clear_from(block: &mut [u8], n: usize)
-    requires { (length block.old ≡ 512) × (n ≤ 512) }
-    ensures { block.new ≡ cut_to n block.old }
-{
-    let mut k = n;
-    while k < block.len() {
-        block[k] = 0;
-        k += 1;
+    // "each data block holding a byte of the data"
+    fn holds_data(&self, p: FileBlock) -> bool
+        requires { p.0 < 4294967296 }
+        ensures { result ≡ holds_data self.now.x.0 self.now.bytes.now p.0 }
+    {
+        let n = self.bytes.len();
+        (0 < n)
+            & (self.x.0 < Limits::BLOCK_SIZE * (p.0 + 1))
+            & (Limits::BLOCK_SIZE * p.0 < self.x.0 + n)
     }
-}
 
-// Block p of the file before the data is laid over it: a new one is zeros, in the last kept one the bytes from the size on are.
-fn clear_block(block: &mut [u8], held: usize, was: usize, size: usize, p: FileBlock)
-    requires { length block.old ≡ 512 }
-    ensures { block.new ≡ kept_content held was size p.0 block.old }
-{
-    if held <= p.0 {
-        clear_from(block, 0);
-        return;
+    // "each data block holding a byte of the data; each new data .. block; .. the last kept block"
+    pub fn is_staged(&self, p: FileBlock) -> bool
+        requires { p.0 < 4294967296 }
+        ensures { result ≡ is_staged self.now.held self.now.old self.now.size self.now.x.0 self.now.bytes.now p.0 }
+    {
+        (self.held <= p.0) | self.holds_data(p) | self.is_last_kept(p)
     }
-    if is_last_kept(was, size, p) {
-        clear_from(block, size % Limits::BLOCK_SIZE);
-    }
-}
 
-// Block p of the file as the change leaves it. Where the data covers it, what it held plays no part.
-pub fn lay_data(
-    block: &mut [u8],
-    held: usize,
-    was: usize,
-    size: usize,
-    x: ByteOffset,
-    bytes: &[u8],
-    p: FileBlock,
-)
-    requires { (length block.old ≡ 512) × (p.0 < 4294967296) × (x.0 + length bytes.now ≤ 1048576) }
-    ensures { block.new ≡ data_content held was size x.0 bytes.now p.0 block.old }
-{
-    if !is_covered(x, bytes, p) {
-        clear_block(block, held, was, size, p);
+    // Block p of the file before the data is laid over it: a new one is zeros, in the last kept one the bytes from the size on are.
+    fn clear(&self, block: &mut [u8], p: FileBlock)
+        requires { length block.old ≡ 512 }
+        ensures { block.new ≡ kept_content self.now.held self.now.old self.now.size p.0 block.old }
+    {
+        if self.held <= p.0 {
+            block.fill(0);
+        } else if self.is_last_kept(p) {
+            block[self.size % Limits::BLOCK_SIZE..].fill(0);
+        }
     }
-    lay_over(block, x, bytes, p);
+
+    // Block p of the file as the change leaves it. Where the data covers it, what it held plays no part.
+    pub fn lay(&self, block: &mut [u8], p: FileBlock)
+        requires { (length block.old ≡ 512) × (p.0 < 4294967296) }
+        ensures { block.new ≡ data_content self.now.held self.now.old self.now.size self.now.x.0 self.now.bytes.now p.0 block.old }
+    {
+        if !self.is_covered(p) {
+            self.clear(block, p);
+        }
+        self.lay_over(block, p);
+    }
 }

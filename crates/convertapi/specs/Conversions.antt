@@ -1,7 +1,7 @@
 -- A conversion's answer in the numbers in which it crosses to C.
 use Rattle.std.specs.Prelude.{ℕ, ◌≡◌, List}
-use Rattle.spec.specs.Answers.{Answer, count_of}
-use Rattle.mirror.specs.Mirror.{refusal_number, fault_in}
+use Rattle.spec.specs.Answers.{Answer, refusal_number, count_of}
+use Rattle.mirror.specs.Mirror.{fault_in}
 use Rattle.converter.specs.Convert.{ConvertOutcome}
 use Rattle.convertapi.specs.declared.CConverted.{CConverted}
 

@@ -3,11 +3,12 @@
 #![tactic(auto)]
 
 ghost use Rattle.std.specs.Prelude.{◌≡◌};
-ghost use Rattle.converter.specs.declared.Spelling.TheVariants.{Hexadecimal, Decimal};
+ghost use Rattle.cardfile.specs.declared.Spelling.TheVariants.{Hexadecimal, Decimal};
 ghost use Rattle.converter.specs.Convert.{convert, converted_of};
 ghost use Rattle.convertapi.specs.Conversions.{refused_numbers, converted_numbers, Converts};
 
-use converter::{Converted, Spelling, convert};
+use cardfile::Spelling;
+use converter::{ConvertFault, convert};
 
 // refusal: 0 where the file is converted. line: the line refused, counted from 1; 0 with 25. length: of the output, 0 where there is none.
 #[repr(C)]
@@ -29,19 +30,19 @@ fn refused(number: u32, line: usize) -> CConverted
 }
 
 // An answer in numbers.
-fn numbers_of(answer: Converted) -> CConverted
+fn numbers_of(answer: Result<usize, ConvertFault>) -> CConverted
     ensures { result ≡ converted_numbers (converted_of answer) }
 {
     match answer {
-        Converted::Length(n) => CConverted {
+        Ok(n) => CConverted {
             refusal: 0,
             line: 0,
             length: n as u64,
         },
-        Converted::TooLong(line) => refused(20, line),
-        Converted::Malformed(line) => refused(21, line),
-        Converted::SameSpelling(line) => refused(24, line),
-        Converted::TooSmall => refused(25, 0),
+        Err(ConvertFault::TooLong(line)) => refused(20, line),
+        Err(ConvertFault::Malformed(line)) => refused(21, line),
+        Err(ConvertFault::SameSpelling(line)) => refused(24, line),
+        Err(ConvertFault::TooSmall) => refused(25, 0),
     }
 }
 

@@ -5,7 +5,7 @@ use mathlib.Core.List.{List, [], ◌∷◌}
 use Rattle.spec.specs.Answers.{counted}
 use Rattle.cardfile.specs.Cards.{number_of, bytes_of, padded, spell, digit_value, hex_value, hex_byte, read_hex, read_decimal, serial_h, serial_d, serial_of, amount_of, before, split, entry_of}
 use Rattle.cardfile.specs.Lines.{split_lines}
-use Rattle.converter.specs.declared.Spelling.TheVariants.{Hexadecimal, Decimal}
+use Rattle.cardfile.specs.declared.Spelling.TheVariants.{Hexadecimal, Decimal}
 use Rattle.converter.specs.Convert.{cents, line_with, line_converted, last_converted, convert_lines, convert_file, left_buffer, convert}
 
 -- 04A1B2C3;H;12 and its feed, in front of other bytes

@@ -13,12 +13,13 @@ use borrow.Author.Tests.{eqb-false, ne_eqb, le-ltb, ltb-false, le-leb}
 use Rattle.spec.specs.Answers.{refused, counted}
 use Rattle.cardfile.specs.Cards.{Proper, Entry, letter_h, letter_d, spell, line_text, before, split, entry_of}
 use Rattle.cardfile.specs.Lines.{split_lines}
-use Rattle.cardfile.proofs.Spelling.{read_back, read_is}
+use Rattle.cardfile.proofs.Spellings.{read_back, read_is}
 use Rattle.cardfile.proofs.Texts.{line-printed, line-short}
 use Rattle.cardfile.proofs.Splits.{joined, joined-split, split-some, split-nil, split-front}
-use Rattle.converter.specs.declared.Spelling.{Spelling}
-use Rattle.converter.specs.declared.Spelling.TheVariants.{Hexadecimal, Decimal}
-use Rattle.converter.specs.Convert.{letter_of, cents, line_with, Conversion, output, refusal, onto, entry_converted, line_converted, last_converted, convert_lines, convert_file, left_buffer, settled, convert}
+use Rattle.cardfile.specs.declared.Spelling.{Spelling}
+use Rattle.cardfile.specs.declared.Spelling.TheVariants.{Hexadecimal, Decimal}
+use Rattle.cardfile.specs.Lines.{letter_of}
+use Rattle.converter.specs.Convert.{cents, line_with, Conversion, output, refusal, onto, entry_converted, line_converted, last_converted, convert_lines, convert_file, left_buffer, settled, convert}
 use Rattle.converter.specs.Verdicts.{verdict, last_verdict, verdict_at, other, in_spelling, cards_of, cards_in}
 
 pub no-refusal : {A : Type 0} (u : List ℕ) (k n : ℕ) → refusal k n ≡ output u → A

@@ -4,26 +4,33 @@ use mathlib.Core.Path.{◌≡◌, refl, sym, ap, ◌∙◌}
 use mathlib.Core.Bool.{Bool, true, false, cond}
 use mathlib.Core.List.{List, [], ◌∷◌, ◌++◌}
 use mathlib.Core.Option.{none, some}
+use Rattle.std.specs.Prelude.{Option, Some, None, Result, Ok, Err, IfSome, ok_or}
+use Rattle.std.specs.Bool.{then_some}
 use mathlib.Core.Logic.{◌⊎◌, inl, inr}
 use native.Mathlib.Omega.{arith}
 use lib.ListN.{length, drop, length-append, length-drop}
 use lib.Seq.{drop-drop}
-use lib.Dec.{eqb, ltb}
-use borrow.Author.Tests.{eq-eqb, ne_eqb, lt-ltb, le-ltb, le-leb, lt-leb}
-use Rattle.spec.specs.Answers.{Answer, refused, counted}
+use lib.Dec.{eqb, ltb, leb}
+use borrow.Author.Tests.{eq-eqb, ne_eqb, lt-ltb, le-ltb, le-leb, lt-leb, leb-true, leb-false}
+use Rattle.spec.specs.Answers.{refused}
 use Rattle.spec.specs.Listing.{decimal, hexadecimal}
-use Rattle.cardfile.specs.Cards.{Entry, number_of, bytes_of, padded, digits_for, spell, before, entry_of}
-use Rattle.cardfile.specs.Lines.{split_lines, card_for, line_at}
+use Rattle.cardfile.specs.Cards.{Entry, letter_h, letter_d, number_of, bytes_of, padded, digits_for, spell, before, entry_of}
+use Rattle.cardfile.specs.Lines.{split_lines, letter_of, spelling_for, card_for, line_at}
 use Rattle.cardfile.specs.declared.Card.{Card}
-use Rattle.cardfile.specs.declared.Line.TheVariants.{Found, TooLong, BadForm, NoLine}
+use Rattle.cardfile.specs.declared.Spelling.{Spelling}
+use Rattle.cardfile.specs.declared.Spelling.TheVariants.{Hexadecimal, Decimal}
+use Rattle.cardfile.specs.declared.Line.{Line}
+use Rattle.cardfile.specs.declared.LineFault.{LineFault}
+use Rattle.cardfile.specs.declared.LineFault.TheVariants as line-cases
+use Rattle.converter.specs.declared.ConvertFault.{ConvertFault}
+use Rattle.converter.specs.declared.ConvertFault.TheVariants.{TooLong, Malformed, TooSmall}
 use Rattle.cardfile.proofs.Laws.{no_byte}
 use Rattle.cardfile.proofs.Splits.{split-some, split-feed, split-last, split-nil}
-use Rattle.cardfile.proofs.Spelling.{read_is, bytes-number, digits-few, length-hex, length-padded}
+use Rattle.cardfile.proofs.Spellings.{read_is, bytes-number, digits-few, length-hex, length-padded}
 use Rattle.cardfile.proofs.Names.{width_fits, number_fits}
 use Rattle.cardfile.proofs.Places.{Stands, stands, too-long-at, malformed-at, nothing-at, long-at, bad-at, none-at, found_at}
-use Rattle.converter.specs.declared.Room.{Room}
-use Rattle.converter.specs.Convert.{cents, line_with, Conversion, output, refusal, onto, entry_converted, line_converted, last_converted, convert_lines, convert_file}
-use Rattle.converter.specs.Passes.{answer_behind, answer_for, spelt_size}
+use Rattle.converter.specs.Convert.{cents, line_with, Conversion, output, refusal, onto, entry_converted, line_converted, last_converted, convert_lines, convert_file, converted_of}
+use Rattle.converter.specs.Passes.{answer_behind, answer_for, with_line, fault_at, spelt_size}
 
 -- ---- the lines from a place on
 
@@ -74,25 +81,30 @@ module _ (w : ℕ) (text : List ℕ) (at : ℕ) where
   left : at < length text → 0 < length (drop at text)
   left h = let z = length-drop at text in omega arith
 
-  pub line-long : line_at text at ≡ TooLong → (n : ℕ) → convert_lines w n (split_lines (drop at text)) ≡ refusal 20 n
+  pub line-long : line_at text at ≡ Err line-cases.TooLong → (n : ℕ) → convert_lines w n (split_lines (drop at text)) ≡ refusal 20 n
   line-long e n = let r = too-long-at text at (long-at text at e) in lines_long w n (drop at text) r.over r.fed
 
-  pub line-bad : line_at text at ≡ BadForm → (n : ℕ) → convert_lines w n (split_lines (drop at text)) ≡ refusal 21 n
+  pub line-bad : line_at text at ≡ Err line-cases.BadForm → (n : ℕ) → convert_lines w n (split_lines (drop at text)) ≡ refusal 21 n
   line-bad e n = let r = malformed-at text at (bad-at text at e) in lines-bad w n (drop at text) r.short (left r.some_left) r.why
 
-  pub line-none : at < length text → line_at text at ≡ NoLine → ⊥
-  line-none h e = nothing-at text at h (none-at text at e)
+  -- no line stands behind the end alone
+  pub line-none : line_at text at ≡ Ok None → length text ≤ at
+  line-none e = go (leb (length text) at) refl
+    where
+      go : (b : Bool) → leb (length text) at ≡ b → length text ≤ at
+      go true q = leb-true (length text) at q
+      go false q = absurd (nothing-at text at (leb-false (length text) at q) (none-at text at e))
 
   pub line-end : length text ≤ at → (n : ℕ) → convert_lines w n (split_lines (drop at text)) ≡ output []
   unfolding convert_lines last_converted
   line-end h n = rw (no_byte text at h, split-nil)
 
-  pub line-found : (c : Card) (next : ℕ) → line_at text at ≡ Found c next → Next w text at c next
-  line-found c next e =
-      let f = found_at text at c next e in
-      let s = stands text at f.entry next f.is in
-      let j : at + (length (before 10 (drop at text)) + 1) ≡ next = omega (arith, s.feed) in
-      let d : drop (length (before 10 (drop at text)) + 1) (drop at text) ≡ drop next text
+  pub line-found : (x : Line) → line_at text at ≡ Ok (Some x) → Next w text at x.card x.next
+  line-found x e =
+      let f = found_at text at x e in
+      let s = stands text at f.entry x.next f.is in
+      let j : at + (length (before 10 (drop at text)) + 1) ≡ x.next = omega (arith, s.feed) in
+      let d : drop (length (before 10 (drop at text)) + 1) (drop at text) ≡ drop x.next text
       = drop-drop (length (before 10 (drop at text)) + 1) at text ∙ ap (λ (y : ℕ). drop y text) j in
       record {
         entry = f.entry;
@@ -106,49 +118,47 @@ module _ (w : ℕ) (text : List ℕ) (at : ℕ) where
 
 -- what the code knows of a card that was found
 module _ (w : ℕ) (text : List ℕ) (at : ℕ) (c : Card) (next : ℕ) (s : Next w text at c next) where
-  letter-is : c.letter ≡ s.entry.letter
+  spelling-is : c.spelling ≡ spelling_for s.entry.letter
   unfolding card_for
-  letter-is = ap (λ (x : Card). x.letter) s.card
+  spelling-is = ap (λ (x : Card). x.spelling) s.card
 
-  bytes-are : c.bytes ≡ length s.entry.serial
+  bytes-are : c.serial.bytes ≡ length s.entry.serial
   unfolding card_for
-  bytes-are = ap (λ (x : Card). x.bytes) s.card
+  bytes-are = ap (λ (x : Card). x.serial.bytes) s.card
 
-  number_is : c.number ≡ number_of s.entry.serial
+  number_is : c.serial.number ≡ number_of s.entry.serial
   unfolding card_for
-  number_is = ap (λ (x : Card). x.number) s.card
+  number_is = ap (λ (x : Card). x.serial.number) s.card
 
   pub digits_are : c.digits ≡ length (decimal s.entry.amount)
   unfolding card_for
   digits_are = ap (λ (x : Card). x.digits) s.card
 
-  pub bytes_fit : c.bytes ≤ 7
+  pub bytes_fit : c.serial.bytes ≤ 7
   bytes_fit = let z = width_fits s.entry s.stood.proper in omega (arith, bytes-are)
 
-  pub number-fit : c.number < 256 ^ c.bytes
+  pub number-fit : c.serial.number < 256 ^ c.serial.bytes
   number-fit = rw (number_is, bytes-are) (number_fits s.entry s.stood.proper)
 
   pub digits-fit : c.digits ≤ 8
   digits-fit = let z : length (decimal s.entry.amount) ≤ 8 = digits-few 20 7 s.entry.amount s.stood.proper.amount in omega (arith, digits_are)
 
-  pub serial-is : bytes_of c.bytes c.number ≡ s.entry.serial
+  pub serial-is : bytes_of c.serial.bytes c.serial.number ≡ s.entry.serial
   serial-is = rw (number_is, bytes-are) (bytes-number s.entry.serial s.stood.proper.serial.bytes)
 
   pub cents-are : cents (before 10 (drop at text)) ≡ decimal s.entry.amount
   unfolding cents
   cents-are = (read_is (before 10 (drop at text)) s.entry s.stood.says).cents
 
+  -- its letter is that of its spelling
+  letter-is : s.entry.letter ≡ letter_of c.spelling
+  letter-is = go s.stood.proper.letter ∙ ap letter_of (sym spelling-is)
+    where
+      go : (s.entry.letter ≡ letter_h) ⊎ (s.entry.letter ≡ letter_d) → s.entry.letter ≡ letter_of (spelling_for s.entry.letter)
+      go (inl e) = rw e
+      go (inr e) = rw e
+
 -- ---- sizes
-
-module _ (w b : ℕ) where
-  pub size-h : w ≡ 72 → 2 * b ≡ spelt_size w b
-  size-h e = rw (eq-eqb w 72 e)
-
-  pub size-four : (w ≡ 72 → ⊥) → b ≡ 4 → 10 ≡ spelt_size w b
-  size-four e f = rw (ne_eqb w 72 e, eq-eqb b 4 f)
-
-  pub size-seven : (w ≡ 72 → ⊥) → (b ≡ 4 → ⊥) → 17 ≡ spelt_size w b
-  size-seven e f = rw (ne_eqb w 72 e, ne_eqb b 4 f)
 
 length-spell : (w : ℕ) (s : List ℕ) → length (spell w s) ≡ spelt_size w (length s)
 unfolding spell
@@ -171,83 +181,100 @@ line-size w s ds = together (spell w s) ds w ∙ ap (λ (k : ℕ). k + length ds
 -- ---- room
 
 module _ (most : ℕ) (t : List ℕ) where
-  more-closed : (total : ℕ) (c : Conversion) → answer_behind most (record { total = total; fits = false }) (onto t c) ≡ answer_behind most (record { total = total; fits = false }) c
+  more-closed : (c : Conversion) → answer_behind most None (onto t c) ≡ answer_behind most None c
   unfolding answer_behind
-  more-closed total (refusal a b) = refl
-  more-closed total (output u) = refl
+  more-closed (refusal a b) = refl
+  more-closed (output u) = refl
 
-  more-over : (total : ℕ) → most < total + length t → (c : Conversion) → answer_behind most (record { total = total; fits = true }) (onto t c) ≡ answer_behind most (record { total = 0; fits = false }) c
+  more-over : (total : ℕ) → most < total + length t → (c : Conversion) → answer_behind most (Some total) (onto t c) ≡ answer_behind most None c
   unfolding answer_behind
   more-over total h (refusal a b) = refl
   more-over total h (output u) = let z = length-append t u in rw (lt-leb (total + length (t ++ u)) most (omega arith))
 
-  more-fits : (total size : ℕ) → length t ≡ size → (c : Conversion) → answer_behind most (record { total = total; fits = true }) (onto t c) ≡ answer_behind most (record { total = total + size; fits = true }) c
+  more-fits : (total size : ℕ) → length t ≡ size → (c : Conversion) → answer_behind most (Some total) (onto t c) ≡ answer_behind most (Some (total + size)) c
   unfolding answer_behind
   more-fits total size h (refusal a b) = refl
   more-fits total size h (output u) =
       let z : total + length (t ++ u) ≡ total + size + length u = (let y = length-append t u in omega arith) in
       rw z
 
-module _ (most : ℕ) (room : Room) where
-  same : (b : Bool) → room.fits ≡ b → (t : List ℕ) (c : Conversion) → answer_behind most room (onto t c) ≡ answer_behind most (record { total = room.total; fits = b }) (onto t c)
-  same b e t c = ap (λ (b : Bool). answer_behind most (record { total = room.total; fits = b }) (onto t c)) e
+-- what is counted behind more bytes
+module _ (most size : ℕ) (room room' : Option ℕ) where
+  abbrev More : Type 0
+  More = (t : List ℕ) (c : Conversion) → length t ≡ size → answer_behind most room (onto t c) ≡ answer_behind most room' c
 
-  pub room-closed : room.fits ≡ false → (t : List ℕ) (c : Conversion) → answer_behind most room (onto t c) ≡ answer_behind most (record { total = room.total; fits = false }) c
-  room-closed e t c = same false e t c ∙ more-closed most t room.total c
+  pub room-closed : room ≡ None → room' ≡ None → More
+  room-closed e f t c l = rw (e, f) (more-closed most t c)
 
-  pub room-over : (size : ℕ) → room.fits ≡ true → most < room.total + size → (t : List ℕ) (c : Conversion) → length t ≡ size → answer_behind most room (onto t c) ≡ answer_behind most (record { total = 0; fits = false }) c
-  room-over size e h t c l = same true e t c ∙ more-over most t room.total (omega (arith, h, l)) c
+  pub room-over : (n : ℕ) → room ≡ Some n → most < n + size → room' ≡ None → More
+  room-over n e h f t c l = rw (e, f) (more-over most t n (omega (arith, h, l)) c)
 
-  pub room_fits : (size : ℕ) → room.fits ≡ true → (t : List ℕ) (c : Conversion) → length t ≡ size → answer_behind most room (onto t c) ≡ answer_behind most (record { total = room.total + size; fits = true }) c
-  room_fits size e t c l = same true e t c ∙ more-fits most t room.total size l c
+  pub room_fits : (n total : ℕ) → room ≡ Some n → total ≡ n + size → room' ≡ then_some (leb total most) total → More
+  room_fits n total e k f t c l = rw e (go (leb total most) refl f)
+    where
+      go : (b : Bool) → leb total most ≡ b → room' ≡ then_some b total → answer_behind most (Some n) (onto t c) ≡ answer_behind most room' c
+      go true q f = rw (f, k) (more-fits most t n size l c)
+      go false q f = rw f (more-over most t n (omega (arith, leb-false total most q, k, l)) c)
 
-  pub end-closed : room.fits ≡ false → refused 25 [] ≡ answer_behind most room (output [])
-  unfolding answer_behind
-  end-closed e = rw e
-
-  pub end-over : room.fits ≡ true → most < room.total → refused 25 [] ≡ answer_behind most room (output [])
-  unfolding answer_behind
-  end-over e h = rw (e, lt-leb (room.total + 0) most (omega arith))
-
-  pub end_fits : room.fits ≡ true → room.total ≤ most → counted room.total ≡ answer_behind most room (output [])
-  unfolding answer_behind
-  end_fits e h =
-      let z : room.total + 0 ≡ room.total = omega arith in
-      rw (z, e, le-leb room.total most h)
+-- two spellings have two letters
+pub apart : (s t : Spelling) → (s ≡ t → ⊥) → letter_of t ≡ letter_of s → ⊥
+apart Hexadecimal Hexadecimal n e = n refl
+apart Hexadecimal Decimal n e = omega (arith, e)
+apart Decimal Hexadecimal n e = omega (arith, e)
+apart Decimal Decimal n e = n refl
 
 -- ---- the loop
 
-pub record Tested (w : ℕ) (text : List ℕ) (most : ℕ) (at line : ℕ) (room : Room) : Type 0 where
+pub record Tested (w : ℕ) (text : List ℕ) (most : ℕ) (at line : ℕ) (room : Option ℕ) : Type 0 where
   pub inside : at ≤ length text
   pub count : line ≤ at + 1
+  pub fits : IfSome room (λ n. n ≤ most)
   pub rest : answer_behind most room (convert_lines w line (split_lines (drop at text))) ≡ answer_for most (convert_file w text)
 
-pub tested-none : (w : ℕ) (text : List ℕ) (most : ℕ) → Tested w text most 0 1 (record { total = 0; fits = true })
+pub tested-none : (w : ℕ) (text : List ℕ) (most : ℕ) → Tested w text most 0 1 (Some 0)
 unfolding convert_file
-tested-none w text most = record { inside = omega arith; count = omega arith; rest = refl }
+tested-none w text most = record { inside = omega arith; count = omega arith; fits = omega arith; rest = refl }
 
-module _ (w : ℕ) (text : List ℕ) (most at line : ℕ) (room : Room) (p : Tested w text most at line room) where
+module _ (w : ℕ) (text : List ℕ) (most at line : ℕ) (room : Option ℕ) (p : Tested w text most at line room) where
   told : (k : ℕ) → convert_lines w line (split_lines (drop at text)) ≡ refusal k line → refused k (line ∷ []) ≡ answer_for most (convert_file w text)
   unfolding answer_behind
   told k e = ap (answer_behind most room) (sym e) ∙ p.rest
 
-  pub tested-long : line_at text at ≡ TooLong → refused 20 (line ∷ []) ≡ answer_for most (convert_file w text)
-  tested-long e = told 20 (line-long w text at e line)
+  pub tested-fault : (f : ConvertFault) → Err f ≡ fault_at text at line → converted_of (Err f) ≡ answer_for most (convert_file w text)
+  tested-fault f h = go (line_at text at) refl h
+    where
+      go : (r : Result (Option Line) LineFault) → line_at text at ≡ r → Err f ≡ with_line line r → converted_of (Err f) ≡ answer_for most (convert_file w text)
+      go (Ok x) q h = cc
+      go (Err line-cases.TooLong) q h = let z : f ≡ TooLong line = cc in rw z (told 20 (line-long w text at q line))
+      go (Err line-cases.BadForm) q h = let z : f ≡ Malformed line = cc in rw z (told 21 (line-bad w text at q line))
 
-  pub tested-bad : line_at text at ≡ BadForm → refused 21 (line ∷ []) ≡ answer_for most (convert_file w text)
-  tested-bad e = told 21 (line-bad w text at e line)
+  tested-found : (o : Option Line) → Ok o ≡ fault_at text at line → line_at text at ≡ Ok o
+  tested-found o h = go (line_at text at) h
+    where
+      go : (r : Result (Option Line) LineFault) → Ok o ≡ with_line line r → r ≡ Ok o
+      go (Ok x) h = cc
+      go (Err line-cases.TooLong) h = cc
+      go (Err line-cases.BadForm) h = cc
 
-  pub tested-end : length text ≤ at → (a : Answer) → a ≡ answer_behind most room (output []) → a ≡ answer_for most (convert_file w text)
-  tested-end h a e = e ∙ ap (answer_behind most room) (sym (line-end w text at h line)) ∙ p.rest
+  pub tested-card : (o : Option Line) → Ok o ≡ fault_at text at line → (x : Line) → o ≡ Some x → Next w text at x.card x.next
+  tested-card o h x e = line-found w text at x (tested-found o h ∙ ap Ok e)
+
+  pub tested-end : (o : Option Line) → Ok o ≡ fault_at text at line → o ≡ None → (r : Result ℕ ConvertFault) → r ≡ ok_or room TooSmall → converted_of r ≡ answer_for most (convert_file w text)
+  unfolding answer_behind
+  tested-end o h n r e = rw e (go room p.fits refl ∙ ap (answer_behind most room) (sym (line-end w text at (line-none w text at (tested-found o h ∙ ap Ok n)) line)) ∙ p.rest)
+    where
+      go : (o : Option ℕ) → IfSome o (λ n. n ≤ most) → room ≡ o → converted_of (ok_or room TooSmall) ≡ answer_behind most room (output [])
+      go None f q = rw q
+      go (Some n) f q = let z : n + 0 ≡ n = omega arith in rw (q, z, le-leb n most f)
 
   module _ (c : Card) (next : ℕ) (s : Next w text at c next) where
-    pub tested-same : c.letter ≡ w → refused 24 (line ∷ []) ≡ answer_for most (convert_file w text)
-    tested-same e = told 24 (s.step line ∙ rw (eq-eqb s.entry.letter w (sym (letter-is w text at c next s) ∙ e)))
+    pub tested-same : w ≡ letter_of c.spelling → refused 24 (line ∷ []) ≡ answer_for most (convert_file w text)
+    tested-same e = told 24 (s.step line ∙ rw (eq-eqb s.entry.letter w (letter-is w text at c next s ∙ sym e)))
 
-    pub tested-more : (c.letter ≡ w → ⊥) → (size : ℕ) → size ≡ spelt_size w c.bytes → (room' : Room)
+    pub tested-more : (w ≡ letter_of c.spelling → ⊥) → (size : ℕ) → size ≡ spelt_size w c.serial.bytes → (room' : Option ℕ)
         → ((t : List ℕ) (d : Conversion) → length t ≡ size + c.digits + 4 → answer_behind most room (onto t d) ≡ answer_behind most room' d)
-        → Tested w text most next (line + 1) room'
-    tested-more o size q room' f =
+        → IfSome room' (λ n. n ≤ most) → Tested w text most next (line + 1) room'
+    tested-more o size q room' f i =
         let a : spelt_size w (length s.entry.serial) ≡ size = ap (spelt_size w) (sym (bytes-are w text at c next s)) ∙ sym q in
         let b : length (cents (before 10 (drop at text))) ≡ c.digits = ap length (cents-are w text at c next s) ∙ sym (digits_are w text at c next s) in
         let g : length (line_with w s.entry.serial (cents (before 10 (drop at text)))) ≡ size + c.digits + 4
@@ -256,9 +283,10 @@ module _ (w : ℕ) (text : List ℕ) (most at line : ℕ) (room : Room) (p : Tes
         record {
           inside = s.stood.inside;
           count = omega (arith, p.count, s.later);
+          fits = i;
           rest =
               ap (λ (j : ℕ). answer_behind most room' (convert_lines w j (split_lines (drop next text)))) z
               ∙ sym (f (line_with w s.entry.serial (cents (before 10 (drop at text)))) (convert_lines w (suc line) (split_lines (drop next text))) g)
-              ∙ ap (answer_behind most room) (sym (s.step line ∙ rw (ne_eqb s.entry.letter w (λ e. o (letter-is w text at c next s ∙ e)))))
+              ∙ ap (answer_behind most room) (sym (s.step line ∙ rw (ne_eqb s.entry.letter w (λ e. o (sym e ∙ letter-is w text at c next s)))))
               ∙ p.rest;
         }

@@ -1,18 +1,12 @@
 -- The printer's file in the other supplier's spelling: "the serial is respelled, the letter changed, the amount copied".
-use Rattle.std.specs.Prelude.{ℕ, suc, ◌+◌, cond, List, [], ◌∷◌, ◌++◌, length, drop, eqb, ltb, leb}
+use Rattle.std.specs.Prelude.{ℕ, suc, ◌+◌, cond, List, [], ◌∷◌, ◌++◌, length, drop, eqb, ltb, leb, Result, Ok, Err}
 use Rattle.std.proofs.Math.Option.{Option, none, some}
 use Rattle.spec.specs.Answers.{Answer, refused, counted}
-use Rattle.cardfile.specs.Cards.{Entry, letter_h, letter_d, semicolon, spell, before, entry_of}
-use Rattle.cardfile.specs.Lines.{feed, split_lines}
-use Rattle.converter.specs.declared.Spelling.{Spelling}
-use Rattle.converter.specs.declared.Spelling.TheVariants.{Hexadecimal, Decimal}
-use Rattle.converter.specs.declared.Converted.{Converted}
-use Rattle.converter.specs.declared.Converted.TheVariants as converted-cases
-
--- the letter of the lines in a spelling
-abbrev pub letter_of : Spelling → ℕ
-letter_of Hexadecimal = letter_h
-letter_of Decimal = letter_d
+use Rattle.cardfile.specs.Cards.{Entry, semicolon, spell, before, entry_of}
+use Rattle.cardfile.specs.Lines.{feed, letter_of, split_lines}
+use Rattle.cardfile.specs.declared.Spelling.{Spelling}
+use Rattle.converter.specs.declared.ConvertFault.{ConvertFault}
+use Rattle.converter.specs.declared.ConvertFault.TheVariants.{TooLong, Malformed, SameSpelling, TooSmall}
 
 -- ---- a line
 
@@ -81,14 +75,9 @@ convert wanted text out = settled out (convert_file (letter_of wanted) text)
 
 -- ---- the form of the promise
 
-abbrev pub converted_of : Converted → Answer
-converted_of (converted-cases.Length n) = counted n
-converted_of (converted-cases.TooLong line) = refused 20 (line ∷ [])
-converted_of (converted-cases.Malformed line) = refused 21 (line ∷ [])
-converted_of (converted-cases.SameSpelling line) = refused 24 (line ∷ [])
-converted_of converted-cases.TooSmall = refused 25 []
-
--- opens what this module seals
-unfoldable pub open-Convert : Unit {0}
-unfolding cents line_with line_converted last_converted convert_lines convert_file convert
-open-Convert = tt
+abbrev pub converted_of : Result ℕ ConvertFault → Answer
+converted_of (Ok n) = counted n
+converted_of (Err (TooLong line)) = refused 20 (line ∷ [])
+converted_of (Err (Malformed line)) = refused 21 (line ∷ [])
+converted_of (Err (SameSpelling line)) = refused 24 (line ∷ [])
+converted_of (Err TooSmall) = refused 25 []

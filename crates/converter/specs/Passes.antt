@@ -1,18 +1,32 @@
 -- What the two passes over a file compute, for the contracts of this crate.
-use Rattle.std.specs.Prelude.{ℕ, ◌+◌, ◌*◌, true, cond, ◌&&◌, List, [], ◌∷◌, length, eqb, leb}
+use Rattle.std.specs.Prelude.{ℕ, ◌+◌, ◌*◌, cond, List, [], ◌∷◌, length, eqb, leb, Option, Some, None, Result, Ok, Err}
 use Rattle.spec.specs.Answers.{Answer, refused, counted}
+use Rattle.cardfile.specs.declared.Line.{Line}
+use Rattle.cardfile.specs.declared.LineFault.{LineFault}
+use Rattle.cardfile.specs.declared.LineFault.TheVariants as line-cases
 use Rattle.cardfile.specs.Cards.{letter_h, digits_for}
-use Rattle.converter.specs.declared.Room.{Room}
+use Rattle.cardfile.specs.Lines.{line_at}
+use Rattle.converter.specs.declared.ConvertFault.{ConvertFault}
+use Rattle.converter.specs.declared.ConvertFault.TheVariants.{TooLong, Malformed}
 use Rattle.converter.specs.Convert.{Conversion, output, refusal}
 
--- the answer for a buffer of so many bytes, behind the bytes already counted
-unfoldable pub answer_behind : ℕ → Room → Conversion → Answer
+-- the answer for a buffer of so many bytes, behind the bytes already counted; none where these do not fit
+unfoldable pub answer_behind : ℕ → Option ℕ → Conversion → Answer
 answer_behind most room (refusal k n) = refused k (n ∷ [])
-answer_behind most room (output u) =
-    cond (room.fits && leb (room.total + length u) most) (counted (room.total + length u)) (refused 25 [])
+answer_behind most None (output u) = refused 25 []
+answer_behind most (Some total) (output u) = cond (leb (total + length u) most) (counted (total + length u)) (refused 25 [])
 
 abbrev pub answer_for : ℕ → Conversion → Answer
-answer_for most c = answer_behind most (record { total = 0; fits = true }) c
+answer_for most c = answer_behind most (Some 0) c
+
+-- what stands at a place, with the line's number where it is refused
+abbrev pub with_line : ℕ → Result (Option Line) LineFault → Result (Option Line) ConvertFault
+with_line line (Ok found) = Ok found
+with_line line (Err line-cases.TooLong) = Err (TooLong line)
+with_line line (Err line-cases.BadForm) = Err (Malformed line)
+
+abbrev pub fault_at : List ℕ → ℕ → ℕ → Result (Option Line) ConvertFault
+fault_at text at line = with_line line (line_at text at)
 
 -- the output, none for a file that is refused
 abbrev pub output_of : Conversion → List ℕ

@@ -2,10 +2,9 @@
 use Rattle.std.specs.Prelude.{ℕ, zero, suc, cond, List, [], ◌∷◌, length, eqb, ltb}
 use Rattle.std.proofs.Math.Option.{Option, none, some}
 use Rattle.cardfile.specs.Cards.{Entry, entry_of}
-use Rattle.cardfile.specs.Lines.{split_lines}
-use Rattle.converter.specs.declared.Spelling.{Spelling}
-use Rattle.converter.specs.declared.Spelling.TheVariants.{Hexadecimal, Decimal}
-use Rattle.converter.specs.Convert.{letter_of}
+use Rattle.cardfile.specs.Lines.{letter_of, split_lines}
+use Rattle.cardfile.specs.declared.Spelling.{Spelling}
+use Rattle.cardfile.specs.declared.Spelling.TheVariants.{Hexadecimal, Decimal}
 
 -- ---- one line
 

@@ -1,7 +1,8 @@
 // The worked examples of the converter: the answer, then every byte of the buffer, which was dots before. What it writes is held to the file stdout.
 #![tactic(auto)]
 
-use converter::{Converted, Spelling, convert};
+use cardfile::Spelling;
+use converter::{ConvertFault, convert};
 use std::io;
 
 fn number(rt: &impl Print, n: usize) -> io::Result<()> {
@@ -15,16 +16,16 @@ fn refused(rt: &impl Print, why: usize, line: usize) -> io::Result<()> {
     number(rt, line)
 }
 
-fn show_answer(rt: &impl Print, answer: Converted) -> io::Result<()> {
+fn show_answer(rt: &impl Print, answer: Result<usize, ConvertFault>) -> io::Result<()> {
     match answer {
-        Converted::Length(n) => {
+        Ok(n) => {
             rt.write_all(b"length")?;
             number(rt, n)?;
         }
-        Converted::TooLong(line) => refused(rt, 20, line)?,
-        Converted::Malformed(line) => refused(rt, 21, line)?,
-        Converted::SameSpelling(line) => refused(rt, 24, line)?,
-        Converted::TooSmall => refused(rt, 25, 0)?,
+        Err(ConvertFault::TooLong(line)) => refused(rt, 20, line)?,
+        Err(ConvertFault::Malformed(line)) => refused(rt, 21, line)?,
+        Err(ConvertFault::SameSpelling(line)) => refused(rt, 24, line)?,
+        Err(ConvertFault::TooSmall) => refused(rt, 25, 0)?,
     }
     rt.write_all(b"\n")
 }
@@ -39,9 +40,8 @@ fn show(rt: &impl Print, wanted: Spelling, text: &[u8], out: &mut [u8]) -> io::R
 // Into a buffer of so many bytes.
 fn into(rt: &impl Print, wanted: Spelling, text: &[u8], size: usize) -> io::Result<()> {
     let mut dots = [b'.'; 99];
-    let out: &mut [u8] = &mut dots;
-    if size <= 99 {
-        show(rt, wanted, text, &mut out[0..size])?;
+    if let Some(out) = dots.get_mut(..size) {
+        show(rt, wanted, text, out)?;
     }
     Ok(())
 }

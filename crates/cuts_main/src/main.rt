@@ -2,8 +2,6 @@
 // and a third in the recovery of that, then recovers to the end and looks whether all three blocks are new, or none.
 #![tactic(auto)]
 
-ghost use Rattle.std.specs.Prelude.{◌≤◌};
-
 use block::{block_in, load, load2};
 use spec::{DiskBlock, Limits, Phase, Session};
 use std::io;
@@ -12,11 +10,8 @@ use trial::{number, stage};
 // At most n advances.
 fn advance(device: &mut [u8], work: &[u8], s: Session, n: usize) -> Session {
     let mut t = s;
-    let mut k: usize = 0;
-    while k < n {
-        let r = store::advance(device, work, t);
-        t = r.session;
-        k += 1;
+    for _ in 0..n {
+        t = store::advance(device, work, t).session;
     }
     t
 }
@@ -30,19 +25,18 @@ fn reopen(device: &[u8]) -> Session {
     Session::opened(64, Phase::Recovering(0))
 }
 
-// 1 where block b begins with a byte.
-fn is_new(device: &[u8], b: u32, byte: u32) -> u32
-    ensures { result ≤ 1 }
-{
-    if load(block_in(device, DiskBlock(b)), 0) == byte {
-        return 1;
-    }
-    0
+// Whether block b begins with a byte.
+fn is_new(device: &[u8], b: u32, byte: u32) -> bool {
+    load(block_in(device, DiskBlock(b)), 0) == byte
 }
 
-// Which of the three blocks are new: 0 none, 7 all.
-fn new_blocks(device: &[u8]) -> u32 {
-    is_new(device, 34, 1) + 2 * is_new(device, 50, 2) + 4 * is_new(device, 42, 3)
+// Which of the three blocks are new.
+fn new_blocks(device: &[u8]) -> [bool; 3] {
+    [
+        is_new(device, 34, 1),
+        is_new(device, 50, 2),
+        is_new(device, 42, 3),
+    ]
 }
 
 // The session of a commit of three blocks.
@@ -67,13 +61,13 @@ fn cut(device: &mut [u8], work: &[u8], n: usize) {
 }
 
 // The blocks that are new after cuts behind i stores of the commit, j of a recovery and m of the next one, and a recovery to the end.
-fn after_cuts(i: usize, j: usize, m: usize) -> u32 {
+fn after_cuts(i: usize, j: usize, m: usize) -> [bool; 3] {
     let mut device = [0u8; 32768];
     let mut work = [9u8; Limits::WORK_SIZE];
     cut_thrice(&mut device, &mut work, i, j, m)
 }
 
-fn cut_thrice(device: &mut [u8], work: &mut [u8], i: usize, j: usize, m: usize) -> u32 {
+fn cut_thrice(device: &mut [u8], work: &mut [u8], i: usize, j: usize, m: usize) -> [bool; 3] {
     let s = begin(device, work);
     advance(device, work, s, i);
     cut(device, work, j);
@@ -90,54 +84,33 @@ fn print_if(rt: &impl Print, word: &[u8], n: u64) -> io::Result<()> {
     Ok(())
 }
 
-// 1 where the run leaves these blocks new.
-fn leaves(i: usize, j: usize, m: usize, wanted: u32) -> u64
-    ensures { result ≤ 1 }
-{
-    if after_cuts(i, j, m) == wanted {
-        return 1;
-    }
-    0
-}
-
-// All third cuts behind cuts at i and j: how many runs leave these blocks new.
-fn third_cuts(i: usize, j: usize, wanted: u32) -> u64
-    ensures { result ≤ 5 }
-{
-    let mut n: u64 = 0;
-    let mut m: usize = 0;
-    while m < 5 {
-        n += leaves(i, j, m, wanted);
-        m += 1;
-    }
-    n
-}
-
-// The same of all second cuts behind a cut at i.
-fn second_cuts(i: usize, wanted: u32) -> u64 {
-    let mut n: u64 = 0;
-    let mut j: usize = 0;
-    while j < 5 {
-        n += third_cuts(i, j, wanted);
-        j += 1;
-    }
-    n
+// All second and third cuts behind a cut at i: how many of the 25 runs leave all three blocks new, or none of them.
+fn later_cuts(i: usize, new: bool) -> usize {
+    (0..25usize)
+        .filter(|k| after_cuts(i, *k / 5, *k % 5) == [new; 3])
+        .count()
 }
 
 fn line(rt: &impl Print, i: usize) -> io::Result<()> {
     rt.write_all(b"cut behind store")?;
     number(rt, i as u64)?;
     rt.write_all(b": of 25 runs")?;
-    print_if(rt, b", none of the blocks new in", second_cuts(i, 0))?;
-    print_if(rt, b", all of the blocks new in", second_cuts(i, 7))?;
+    print_if(
+        rt,
+        b", none of the blocks new in",
+        later_cuts(i, false) as u64,
+    )?;
+    print_if(
+        rt,
+        b", all of the blocks new in",
+        later_cuts(i, true) as u64,
+    )?;
     rt.write_all(b"\n")
 }
 
 fn main(rt: HostRuntime) -> io::Result<()> {
-    let mut i: usize = 0;
-    while i < 9 {
+    for i in 0..9 {
         line(&rt, i)?;
-        i += 1;
     }
     Ok(())
 }

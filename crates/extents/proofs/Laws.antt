@@ -3,7 +3,6 @@ use Prim.Native.Nat.{ℕ, zero, suc, ◌+◌, ◌-◌, ◌<◌, ◌≤◌, min}
 use mathlib.Core.Path.{◌≡◌, refl, sym, ap, ◌∙◌}
 use mathlib.Core.Bool.{Bool, true, false, cond}
 use mathlib.Core.List.{List, [], ◌∷◌, ◌++◌, append-nil, append_assoc}
-use mathlib.Core.Option.{Option, none, some}
 use native.Mathlib.Omega.{arith}
 use borrow.Author.Tests.{eq-eqb, ne_eqb}
 use lib.Dec.{eqb}
@@ -19,23 +18,19 @@ use Rattle.spec.specs.Session.{staged_in}
 use Rattle.spec.specs.Transaction.{State, state_of, view}
 use Rattle.spec.specs.Calls.{runs_of}
 use Rattle.transaction.specs.Places.{view_in}
-use Rattle.transaction.proofs.Laws.{staged-lent, view_of}
+use Rattle.transaction.specs.Volumes.{working, Shows}
+use Rattle.transaction.specs.declared.volume.Volume.{Volume}
+use Rattle.transaction.proofs.Laws.{shows-view}
 use Rattle.inode.specs.declared.Cursor.{Cursor}
 use Rattle.inode.specs.Walk.{Slot, live, leaf, rest, start_of, Onward, Inward, Ended}
 use Rattle.inode.proofs.Walk.{walk-leaf, walk-node, walk_end, extents-start, block_start, slot_of, step-leaf, no-leaf, step-node, step_end}
-use Rattle.extents.specs.declared.Sought.{Sought}
-use Rattle.extents.specs.declared.Sought.TheVariants as sought
 use Rattle.extents.specs.declared.Scan.{Scan}
-use Rattle.extents.specs.declared.Piece.{Piece}
-use Rattle.extents.specs.declared.Piece.TheVariants as piece
 use Rattle.extents.specs.declared.AtSlot.{AtSlot}
 use Rattle.extents.specs.declared.AtSlot.TheVariants as slot
-use Rattle.extents.specs.declared.AtNode.{AtNode}
-use Rattle.extents.specs.declared.AtNode.TheVariants as node
 use Rattle.extents.specs.declared.Growing.{Growing}
-use Rattle.extents.specs.declared.RunStep.{RunStep}
-use Rattle.extents.specs.declared.RunStep.TheVariants as step
-use Rattle.extents.specs.Stretches.{Reached, Seeks, Held, pending, Starts, NextPiece, Pieces, TakesPiece, GoesOn, Passes, moved, SlotSteps, NodeSteps, runs_in, rest_runs, Fits, NextRun, RunSteps, growing_from}
+use Rattle.std.specs.Prelude.{Option as Returned, Some, None, slice_get, option_map}
+use Rattle.extents.specs.Stretches.{run_of}
+use Rattle.extents.specs.Stretches.{Reached, Held, pending, Starts, NextPiece, TakesPiece, GoesOn, Passes, moved, SlotSteps, NodeSteps, runs_in, rest_runs, Fits, NextRun, RunSteps, growing_from}
 
 -- ---- lists of numbers in a row
 
@@ -97,13 +92,6 @@ data-stretch v i p n = ap (take n) (data-from v i p) ∙ take-both n (2048 - p) 
 
 -- ---- one block
 
-module _ (v : Disk) (tb : ℕ) (c : Cursor) (p : ℕ) where
-  pub sought-in : (r : Sought) (e : Extent) (k : ℕ) (d : Cursor) → Seeks v tb c p r → r ≡ sought.In e k d → Reached v tb c p e k d
-  sought-in r e k d s q = rw q at s
-
-  pub sought-none : (r : Sought) → Seeks v tb c p r → r ≡ sought.Nothing → drop p (blocks_in (rest v tb c)) ≡ []
-  sought-none r s q = rw q at s
-
 -- the blocks from place p on among those of some extents
 unfoldable pub blocks_from : ℕ → List Extent → List ℕ
 blocks_from p es = drop p (blocks_in es)
@@ -130,10 +118,10 @@ module _ (v : Disk) (tb : ℕ) (c₀ c : Cursor) (p k : ℕ) (h : blocks_from k 
   unfolding blocks_from blocks_in
   seek-end s = sym (walk_end (blocks_from k) v tb c _ h s) ∙ drop-nil k
 
-module _ (v : Disk) (i p tb : ℕ) (c : Cursor) (r : Sought) (t : tb ≡ block_of_inode i) (b : c ≡ start_of v i) (s : Seeks v tb c p r) where
-  pub held_in : (e : Extent) (k : ℕ) (d : Cursor) → p < 2048 → r ≡ sought.In e k d → Held v i p e k
-  held_in e k d low q =
-      let z : Reached v (block_of_inode i) (start_of v i) p e k d = rw (t, b) at (sought-in v tb c p r e k d s q) in
+module _ (v : Disk) (i p tb : ℕ) (c : Cursor) (t : tb ≡ block_of_inode i) (b : c ≡ start_of v i) where
+  pub held_in : (e : Extent) (k : ℕ) (d : Cursor) → p < 2048 → Reached v tb c p e k d → Held v i p e k
+  held_in e k d low s =
+      let z : Reached v (block_of_inode i) (start_of v i) p e k d = rw (t, b) at s in
       record {
         follow = λ m h g.
             let x : min m (2048 - p) ≡ m = omega arith in
@@ -146,9 +134,9 @@ module _ (v : Disk) (i p tb : ℕ) (c : Cursor) (r : Sought) (t : tb ≡ block_o
         count = z.count;
       }
 
-  pub held_none : r ≡ sought.Nothing → drop p (data_of v (inode_at v i)) ≡ []
-  held_none q =
-      let z : drop p (blocks_in (rest v (block_of_inode i) (start_of v i))) ≡ [] = rw (t, b) at (sought-none v tb c p r s q) in
+  pub held_none : drop p (blocks_in (rest v tb c)) ≡ [] → drop p (data_of v (inode_at v i)) ≡ []
+  held_none s =
+      let z : drop p (blocks_in (rest v (block_of_inode i) (start_of v i))) ≡ [] = rw (t, b) at s in
       data-from v i p ∙ rw z (take-nil (2048 - p))
 
 module _ (v : Disk) (i p : ℕ) where
@@ -163,12 +151,6 @@ module _ (v : Disk) (i from n : ℕ) (c : Scan) where
   stretch-start a k r = record { blocks = rw (a, k, r) (sym (data-stretch v i from n)); room = omega arith; block = ap (λ (x : Cursor). x.block) a ∙ block_start v i }
 
 module _ (v : Disk) (tb : ℕ) (c : Scan) where
-  pub on-piece : (r : Piece) (e : Extent) (d : Scan) → Pieces v tb c r → r ≡ piece.Blocks e d → NextPiece v tb c e d
-  on-piece r e d s q = rw q at s
-
-  pub on-last : (r : Piece) → Pieces v tb c r → r ≡ piece.End → pending v tb c ≡ []
-  on-last r s q = rw q at s
-
   pub no_room : c.room ≡ 0 → pending v tb c ≡ []
   unfolding pending
   no_room h = rw h
@@ -248,10 +230,10 @@ module _ (v : Disk) (tb : ℕ) (c : Scan) where
   pub on-slot-unused : (r : AtSlot) → SlotSteps v tb c r → r ≡ slot.Unused → leaf v c.at.block c.at.at c.at.left ≡ []
   on-slot-unused r s q = rw q at s
 
-  pub on-node-next : (r : AtNode) (b : DiskBlock) (d : Scan) → NodeSteps v tb c r → r ≡ node.Node b d → GoesOn v tb c d × (d.at.block ≡ b.0)
+  pub on-node-next : (r : Returned (DiskBlock × Scan)) (b : DiskBlock) (d : Scan) → NodeSteps v tb c r → r ≡ Some (b, d) → GoesOn v tb c d × (d.at.block ≡ b.0)
   on-node-next r b d s q = rw q at s
 
-  pub on-node-none : (r : AtNode) → NodeSteps v tb c r → r ≡ node.End → pending v tb c ≡ []
+  pub on-node-none : (r : Returned (DiskBlock × Scan)) → NodeSteps v tb c r → r ≡ None → pending v tb c ≡ []
   on-node-none r s q = rw q at s
 
 -- slots passed, one by one
@@ -388,30 +370,15 @@ module _ (v : Disk) (tb : ℕ) (g₀ g : Growing) (h : Grown v tb g₀ g) where
 -- ---- the runs of a stretch, one by one
 
 module _ (v : Disk) (tb : ℕ) (c : Growing) where
-  pub on-run : (r : RunStep) (e : Extent) (d : Growing) → RunSteps v tb c r → r ≡ step.Run e d → NextRun v tb c e d
+  pub on-run : (r : Returned (Extent × Growing)) (e : Extent) (d : Growing) → RunSteps v tb c r → r ≡ Some (e, d) → NextRun v tb c e d
   on-run r e d s q = rw q at s
 
-  pub on-stop : (r : RunStep) → RunSteps v tb c r → r ≡ step.End → rest_runs v tb c ≡ []
+  pub on-stop : (r : Returned (Extent × Growing)) → RunSteps v tb c r → r ≡ None → rest_runs v tb c ≡ []
   on-stop r s q = rw q at s
-
-  pub run_none : (k : ℕ) (o : Option Extent) → rest_runs v tb c ≡ [] → get_elem? (rest_runs v tb c) k ≡ o → none ≡ o
-  run_none k o s h = let q : get_elem? [] k ≡ o = rw s at h in q
 
   module _ (e : Extent) (d : Growing) (s : NextRun v tb c e d) where
     pub run-less : length (rest_runs v tb d) < length (rest_runs v tb c)
     run-less = omega (arith, ap length s.runs)
-
-    pub run-counted : (n m : ℕ) → n + length (rest_runs v tb c) ≡ m → n + 1 + length (rest_runs v tb d) ≡ m
-    run-counted n m h = omega (arith, ap length s.runs)
-
-    pub run-hit : (k : ℕ) (o : Option Extent) → get_elem? (rest_runs v tb c) k ≡ o → k ≡ 0 → some e ≡ o
-    run-hit k o h z = let q : get_elem? (e ∷ rest_runs v tb d) 0 ≡ o = rw (s.runs, z) at h in q
-
-    pub run-miss : (k : ℕ) (o : Option Extent) → get_elem? (rest_runs v tb c) k ≡ o → (k ≡ 0 → ⊥) → get_elem? (rest_runs v tb d) (k - 1) ≡ o
-    run-miss zero o h z = absurd (z refl)
-    run-miss (suc k) o h z =
-        let y : suc k - 1 ≡ k = omega arith in
-        rw y (let q : get_elem? (e ∷ rest_runs v tb d) (suc k) ≡ o = rw s.runs at h in q)
 
 -- no list has more runs than numbers
 pub runs-few : (xs : List ℕ) → length (runs xs) ≤ length xs
@@ -448,15 +415,9 @@ pub runs_of_lem : (s : State) (i from n : ℕ) → runs_in (view s) i from n ≡
 unfolding runs_in runs_of
 runs_of_lem s i from n = refl
 
--- of a session with these numbers staged
-pub runs_seen : (s : Session) (device work l : List ℕ) (i from n : ℕ) → staged_in s ≡ l → runs_in (view_in l device work) i from n ≡ runs_of (state_of s device work) i from n
-runs_seen s device work l i from n e = ap (λ (v : Disk). runs_in v i from n) (view_of s device work l e) ∙ runs_of_lem (state_of s device work) i from n
-
--- of a session whose staged numbers are lent
-pub runs-lent : (s : Session) (device work : List ℕ) (m i from n : ℕ) → length s.staged ≡ 32 → m ≡ length (staged_in s)
-    → runs_in (view_in (take (m - 0) (drop 0 s.staged)) device work) i from n ≡ runs_of (state_of s device work) i from n
-runs-lent s device work m i from n l e =
-    runs_seen s device work _ i from n (sym (staged-lent s l m e))
+-- of a state that is seen
+pub runs-seen : (v : Volume) (s : State) (i from n : ℕ) → Shows v s → runs_in (working v.copy) i from n ≡ runs_of s i from n
+runs-seen v s i from n e = ap (λ (d : Disk). runs_in d i from n) (shows-view v s e) ∙ runs_of_lem s i from n
 
 pub record Begun (s : State) (i from n tb : ℕ) (g : Growing) : Type 0 where
   pub runs : rest_runs (view s) tb g ≡ runs_of s i from n
@@ -467,3 +428,14 @@ pub begin : (s : State) (i from n tb : ℕ) (c : Scan) (g : Growing) → tb ≡ 
 begin s i from n tb c g t h q =
     let b = begin-in (view s) i from n tb c g t h q in
     record { runs = b.runs ∙ runs_of_lem s i from n; few = rw (← runs_of_lem s i from n) b.few; fits = b.fits }
+
+-- ---- the k-th of them, as code tells it
+
+pub as-given : (o : Returned Extent) → o ≡ option_map (λ (x : Extent). x) o
+as-given None = refl
+as-given (Some e) = refl
+
+pub nth-told : (es : List Extent) (k : ℕ) → slice_get es k ≡ run_of (get_elem? es k)
+nth-told [] k = refl
+nth-told (e ∷ es) zero = refl
+nth-told (e ∷ es) (suc k) = nth-told es k

@@ -1,6 +1,8 @@
 -- Stretches of a file's data blocks, as the steps of this crate go through them.
 use Rattle.std.specs.Prelude.{ℕ, ◌+◌, ◌-◌, ◌<◌, ◌≤◌, ◌≡◌, List, [], ◌∷◌, ◌++◌, take, drop}
+use Rattle.std.specs.Prelude.{Option as Returned, Some, None}
 use Rattle.std.proofs.Math.Option.{Option, none, some}
+use Rattle.spec.specs.declared.DiskBlock.{DiskBlock}
 use Rattle.spec.specs.declared.Extent.{Extent}
 use Rattle.spec.specs.Bytes.{up_from}
 use Rattle.spec.specs.Disk.{Disk}
@@ -8,21 +10,10 @@ use Rattle.spec.specs.Inode.{extent, inode_at, block_of_inode, blocks_in, data_o
 use Rattle.inode.specs.declared.Cursor.{Cursor}
 use Rattle.inode.specs.Walk.{rest, leaf, weight}
 use Rattle.extents.specs.declared.Place.{Place}
-use Rattle.extents.specs.declared.Place.TheVariants as place
-use Rattle.extents.specs.declared.Sought.{Sought}
-use Rattle.extents.specs.declared.Sought.TheVariants as sought
 use Rattle.extents.specs.declared.Scan.{Scan}
-use Rattle.extents.specs.declared.Piece.{Piece}
-use Rattle.extents.specs.declared.Piece.TheVariants as piece
 use Rattle.extents.specs.declared.AtSlot.{AtSlot}
 use Rattle.extents.specs.declared.AtSlot.TheVariants as slot
-use Rattle.extents.specs.declared.AtNode.{AtNode}
-use Rattle.extents.specs.declared.AtNode.TheVariants as node
 use Rattle.extents.specs.declared.Growing.{Growing}
-use Rattle.extents.specs.declared.RunStep.{RunStep}
-use Rattle.extents.specs.declared.RunStep.TheVariants as step
-use Rattle.extents.specs.declared.RunOf.{RunOf}
-use Rattle.extents.specs.declared.RunOf.TheVariants as of
 
 -- ---- one block
 
@@ -33,9 +24,9 @@ pub record Reached (v : Disk) (tb : ℕ) (c : Cursor) (p : ℕ) (e : Extent) (k 
   pub first : e.first < 65536
   pub count : e.count < 65536
 
-abbrev pub Seeks : Disk → ℕ → Cursor → ℕ → Sought → Type 0
-Seeks v tb c p (sought.In e k d) = Reached v tb c p e k d
-Seeks v tb c p sought.Nothing = drop p (blocks_in (rest v tb c)) ≡ []
+abbrev pub Seeks : Disk → ℕ → Cursor → ℕ → Returned (Place × Cursor) → Type 0
+Seeks v tb c p (Some (e, d)) = Reached v tb c p e.extent e.skip d
+Seeks v tb c p None = drop p (blocks_in (rest v tb c)) ≡ []
 
 -- block p of the file of record i is block k of the extent e, and the blocks behind it, to the end of e or of the largest file, follow it in the file
 pub record Held (v : Disk) (i p : ℕ) (e : Extent) (k : ℕ) : Type 0 where
@@ -45,9 +36,9 @@ pub record Held (v : Disk) (i p : ℕ) (e : Extent) (k : ℕ) : Type 0 where
   pub first : e.first < 65536
   pub count : e.count < 65536
 
-abbrev pub Places : Disk → ℕ → ℕ → Place → Type 0
-Places v i p (place.In e k) = Held v i p e k
-Places v i p place.Nothing = drop p (data_of v (inode_at v i)) ≡ []
+abbrev pub Places : Disk → ℕ → ℕ → Returned Place → Type 0
+Places v i p (Some e) = Held v i p e.extent e.skip
+Places v i p None = drop p (data_of v (inode_at v i)) ≡ []
 
 -- ---- a stretch
 
@@ -68,9 +59,9 @@ pub record NextPiece (v : Disk) (tb : ℕ) (c : Scan) (e : Extent) (d : Scan) : 
   pub first : e.first < 131072
   pub room : e.count + d.room ≡ c.room
 
-abbrev pub Pieces : Disk → ℕ → Scan → Piece → Type 0
-Pieces v tb c (piece.Blocks e d) = NextPiece v tb c e d
-Pieces v tb c piece.End = pending v tb c ≡ []
+abbrev pub Pieces : Disk → ℕ → Scan → Returned (Extent × Scan) → Type 0
+Pieces v tb c (Some (e, d)) = NextPiece v tb c e d
+Pieces v tb c None = pending v tb c ≡ []
 
 -- the first slot at c holds the blocks of e, and d is behind it
 pub record TakesPiece (v : Disk) (tb : ℕ) (c : Scan) (e : Extent) (d : Scan) : Type 0 where
@@ -99,9 +90,9 @@ SlotSteps v tb c (slot.Piece e d) = TakesPiece v tb c e d
 SlotSteps v tb c (slot.Passed d) = GoesOn v tb c d × (d.at.block ≡ c.at.block)
 SlotSteps v tb c slot.Unused = leaf v c.at.block c.at.at c.at.left ≡ []
 
-abbrev pub NodeSteps : Disk → ℕ → Scan → AtNode → Type 0
-NodeSteps v tb c (node.Node b d) = GoesOn v tb c d × (d.at.block ≡ b.0)
-NodeSteps v tb c node.End = pending v tb c ≡ []
+abbrev pub NodeSteps : Disk → ℕ → Scan → Returned (DiskBlock × Scan) → Type 0
+NodeSteps v tb c (Some (b, d)) = GoesOn v tb c d × (d.at.block ≡ b.0)
+NodeSteps v tb c None = pending v tb c ≡ []
 
 -- ---- its maximal runs
 
@@ -121,15 +112,15 @@ pub record NextRun (v : Disk) (tb : ℕ) (c : Growing) (e : Extent) (d : Growing
   pub runs : rest_runs v tb c ≡ e ∷ rest_runs v tb d
   pub fits : Fits d
 
-abbrev pub RunSteps : Disk → ℕ → Growing → RunStep → Type 0
-RunSteps v tb c (step.Run e d) = NextRun v tb c e d
-RunSteps v tb c step.End = rest_runs v tb c ≡ []
+abbrev pub RunSteps : Disk → ℕ → Growing → Returned (Extent × Growing) → Type 0
+RunSteps v tb c (Some (e, d)) = NextRun v tb c e d
+RunSteps v tb c None = rest_runs v tb c ≡ []
 
 -- at the start of a stretch: no run yet
 abbrev pub growing_from : Scan → Growing
 growing_from c = record { run = extent 0 0; scan = c }
 
 -- a run as the code tells it
-abbrev pub run_of : Option Extent → RunOf
-run_of none = of.Nothing
-run_of (some e) = of.Run e
+abbrev pub run_of : Option Extent → Returned Extent
+run_of none = None
+run_of (some e) = Some e

@@ -6,48 +6,37 @@ ghost use Rattle.std.proofs.Math.ListN.{get_elem?};
 ghost use Rattle.spec.specs.Bytes.{exactly};
 ghost use Rattle.spec.specs.Disk.{Disk};
 ghost use Rattle.spec.specs.Inode.{block_of_inode};
-ghost use Rattle.spec.specs.Transaction.{view, state_of};
-ghost use Rattle.transaction.specs.Places.{view_in};
+ghost use Rattle.transaction.specs.Volumes.{working};
 ghost use Rattle.inode.specs.Walk.{leaf};
 ghost use Rattle.extents.specs.Stretches.{Seeks, Places, Fits, Pieces, Starts, SlotSteps, NodeSteps, Passes, moved, RunSteps, growing_from, run_of, runs_in};
 
-use inode::{Cursor, Step, inode_block_in, is_live, next, slot_in, start, start_at, table_block};
-use spec::{DiskBlock, Extent, FileBlock, Limits, Session};
-use transaction::{staged_count, view_in};
+use inode::{Cursor, Step, inode_block, is_live, next, slot_in, start, start_at, table_block};
+use spec::{DiskBlock, Extent, FileBlock, Limits};
+use transaction::WorkingCopy;
 
 // Where a block of a file stands: so far into an extent.
 #[derive(Clone, Copy)]
-pub enum Place {
-    In { extent: Extent, skip: u32 },
-    Nothing,
+pub struct Place {
+    pub extent: Extent,
+    pub skip: u32,
 }
 
-// The same, with the cursor behind that extent.
-#[derive(Clone, Copy)]
-enum Sought {
-    In(Extent, u32, Cursor),
-    Nothing,
-}
-
-// The block that is `place` blocks on from a cursor.
-fn seek<'a>(
-    device: &'a [u8],
-    work: &'a [u8],
-    s: Session,
-    tb: DiskBlock,
-    cur: Cursor,
-    place: FileBlock,
-) -> Sought
-    ensures { Seeks (view (state_of s device.now work.now)) tb.0 cur place.0 result }
+// The block that is `place` blocks on from a cursor, with the cursor behind its extent.
+fn seek(copy: &WorkingCopy, tb: DiskBlock, cur: Cursor, place: FileBlock) -> Option<(Place, Cursor)>
+    ensures { Seeks (working copy.now) tb.0 cur place.0 result }
 {
     let mut at = cur;
     let mut left = place.0;
     loop {
-        match next(device, work, s, tb, at) {
+        match next(copy, tb, at) {
             Step::Leaf(e, then) => {
                 let count = e.count as usize;
                 if left < count {
-                    return Sought::In(e, left as u32, then);
+                    let found = Place {
+                        extent: e,
+                        skip: left as u32,
+                    };
+                    return Some((found, then));
                 }
                 left -= count;
                 at = then;
@@ -56,34 +45,23 @@ fn seek<'a>(
                 at = then;
             }
             Step::End => {
-                return Sought::Nothing;
+                return None;
             }
         }
     }
 }
 
 // Block `place` of the file of record i.
-pub fn extent_at<'a>(
-    device: &'a [u8],
-    work: &'a [u8],
-    s: Session,
-    i: usize,
-    place: FileBlock,
-) -> Place
+pub fn extent_at(copy: &WorkingCopy, i: usize, place: FileBlock) -> Option<Place>
     requires { i < 128 }
-    ensures { Places (view (state_of s device.now work.now)) i place.0 result }
+    ensures { Places (working copy.now) i place.0 result }
 {
     if Limits::MAX_FILE_BLOCKS <= place.0 {
-        return Place::Nothing;
+        return None;
     }
-    let cur = start(device, work, s, i);
-    match seek(device, work, s, table_block(i), cur, place) {
-        Sought::In(e, skip, _) => Place::In {
-            extent: e,
-            skip: skip,
-        },
-        Sought::Nothing => Place::Nothing,
-    }
+    let cur = start(copy, i);
+    let (found, _) = seek(copy, table_block(i), cur, place)?;
+    Some(found)
 }
 
 // What is left of a stretch: `room` blocks, from `skip` blocks behind a cursor on.
@@ -94,38 +72,18 @@ pub struct Scan {
     pub room: usize,
 }
 
-// The next blocks of a stretch that follow each other within one extent.
-#[derive(Clone, Copy)]
-pub enum Piece {
-    Blocks(Extent, Scan),
-    End,
-}
-
 fn room_from(from: FileBlock, n: usize) -> usize
     ensures { result ≡ min n (2048 - from.0) }
 {
-    if Limits::MAX_FILE_BLOCKS <= from.0 {
-        return 0;
-    }
-    let left = Limits::MAX_FILE_BLOCKS - from.0;
-    if n < left { n } else { left }
+    n.min(Limits::MAX_FILE_BLOCKS.saturating_sub(from.0))
 }
 
 // The n data blocks of record i from block `from` on, as far as there are.
-pub fn stretch<'a>(
-    device: &'a [u8],
-    work: &'a [u8],
-    s: Session,
-    i: usize,
-    from: FileBlock,
-    n: usize,
-) -> Scan
+pub fn stretch(copy: &WorkingCopy, i: usize, from: FileBlock, n: usize) -> Scan
     requires { i < 128 }
-    ensures { Starts (view (state_of s device.now work.now)) i from.0 n result }
+    ensures { Starts (working copy.now) i from.0 n result }
 {
-    let l = s.staged;
-    let count = staged_count(s);
-    stretch_at(inode_block_in(device, work, &l[0..count], i), i, from, n)
+    stretch_at(inode_block(copy, i), i, from, n)
 }
 
 // The same, of the block of the table that holds record i.
@@ -136,17 +94,10 @@ pub fn stretch_at(table: &[u8], i: usize, from: FileBlock, n: usize) -> Scan
     let at = start_at(table, i);
     let room = room_from(from, n);
     Scan {
-        at: at,
+        at,
         skip: from.0,
-        room: room,
+        room,
     }
-}
-
-fn at_most(n: u32, room: usize) -> u32
-    ensures { result ≡ min n room }
-{
-    let most = n as usize;
-    if most < room { n } else { room as u32 }
 }
 
 // What the first slot that is left of a leaf does to a stretch.
@@ -168,11 +119,9 @@ pub fn take_slot(block: &[u8], scan: Scan) -> AtSlot
         return AtSlot::Unused;
     }
     let then = Cursor {
-        block: cur.block,
         at: cur.at + Limits::SLOT_SIZE,
         left: cur.left - 1,
-        top: cur.top,
-        tops: cur.tops,
+        ..cur
     };
     let room = scan.room;
     let count = e.count as usize;
@@ -180,20 +129,19 @@ pub fn take_slot(block: &[u8], scan: Scan) -> AtSlot
         return AtSlot::Passed(Scan {
             at: then,
             skip: scan.skip - count,
-            room: room,
+            room,
         });
     }
-    let skip = scan.skip as u32;
-    let n = at_most(e.count - skip, room);
+    let here = (count - scan.skip).min(room);
     AtSlot::Piece(
         Extent {
-            first: e.first + skip,
-            count: n,
+            first: e.first + scan.skip as u32,
+            count: here as u32,
         },
         Scan {
             at: then,
             skip: 0,
-            room: room - (n as usize),
+            room: room - here,
         },
     )
 }
@@ -201,18 +149,15 @@ pub fn take_slot(block: &[u8], scan: Scan) -> AtSlot
 fn moved(scan: Scan, at: usize, left: usize, skip: usize) -> Scan
     ensures { result ≡ moved scan at left skip }
 {
-    let cur = scan.at;
     let then = Cursor {
-        block: cur.block,
-        at: at,
-        left: left,
-        top: cur.top,
-        tops: cur.tops,
+        at,
+        left,
+        ..scan.at
     };
     Scan {
         at: then,
-        skip: skip,
-        room: scan.room,
+        skip,
+        ..scan
     }
 }
 
@@ -240,15 +185,8 @@ pub fn pass_slots(block: &[u8], scan: Scan) -> Scan
     }
 }
 
-// The node that follows a leaf with no slot left.
-#[derive(Clone, Copy)]
-pub enum AtNode {
-    Node(DiskBlock, Scan),
-    End,
-}
-
-// The next node of a stretch, read from the block of its record.
-pub fn take_node(table: &[u8], scan: Scan) -> AtNode
+// The next node of a stretch, which follows a leaf with no slot left, read from the block of its record.
+pub fn take_node(table: &[u8], scan: Scan) -> Option<(DiskBlock, Scan)>
     requires { length table.now ≤ 512 }
     ensures { (v : Disk) (tb : ℕ) → exactly 512 table.now ≡ v tb
         → leaf v scan.at.block scan.at.at scan.at.left ≡ [] → NodeSteps v tb scan result }
@@ -256,7 +194,7 @@ pub fn take_node(table: &[u8], scan: Scan) -> AtNode
     let cur = scan.at;
     let t = slot_in(table, cur.top);
     if !is_live(cur.tops, t) {
-        return AtNode::End;
+        return None;
     }
     let then = Cursor {
         block: t.first,
@@ -265,51 +203,37 @@ pub fn take_node(table: &[u8], scan: Scan) -> AtNode
         top: cur.top + Limits::SLOT_SIZE,
         tops: cur.tops - 1,
     };
-    AtNode::Node(
-        DiskBlock(t.first),
-        Scan {
-            at: then,
-            skip: scan.skip,
-            room: scan.room,
-        },
-    )
+    Some((DiskBlock(t.first), Scan { at: then, ..scan }))
 }
 
-// The next piece of a stretch, where these blocks are staged.
-pub fn next_piece_in<'a>(
-    device: &'a [u8],
-    work: &'a [u8],
-    staged: &[u32],
-    tb: DiskBlock,
-    scan: Scan,
-) -> Piece
-    requires { length staged.now ≤ 32 }
-    ensures { Pieces (view_in staged.now device.now work.now) tb.0 scan result }
+// The next blocks of a stretch that follow each other within one extent: a walk over slots and nodes, whose number is not known before.
+pub fn next_piece(copy: &WorkingCopy, tb: DiskBlock, scan: Scan) -> Option<(Extent, Scan)>
+    ensures { Pieces (working copy.now) tb.0 scan result }
 {
-    let table = view_in(device, work, staged, tb);
+    let table = copy.block(tb);
     let cur = scan.at;
-    let mut block = view_in(device, work, staged, DiskBlock(cur.block));
+    let mut block = copy.block(DiskBlock(cur.block));
     let mut at = scan;
     while 0 < at.room {
         match take_slot(block, at) {
             AtSlot::Piece(e, then) => {
-                return Piece::Blocks(e, then);
+                return Some((e, then));
             }
             AtSlot::Passed(then) => {
                 at = pass_slots(block, then);
             }
             AtSlot::Unused => match take_node(table, at) {
-                AtNode::Node(b, then) => {
-                    block = view_in(device, work, staged, b);
+                Some((b, then)) => {
+                    block = copy.block(b);
                     at = then;
                 }
-                AtNode::End => {
-                    return Piece::End;
+                None => {
+                    return None;
                 }
             },
         }
     }
-    Piece::End
+    None
 }
 
 // A run that may go on, of no blocks at first, and what is left of the stretch behind it.
@@ -319,137 +243,104 @@ pub struct Growing {
     pub scan: Scan,
 }
 
-#[derive(Clone, Copy)]
-pub enum RunStep {
-    Run(Extent, Growing),
-    End,
-}
-
 // No run yet.
 pub fn growing_from(scan: Scan) -> Growing
     ensures { result ≡ growing_from scan }
 {
     let none = Extent { first: 0, count: 0 };
-    Growing {
-        run: none,
-        scan: scan,
-    }
+    Growing { run: none, scan }
 }
 
 // The next maximal run: extents that touch, as a damaged file may have them, are joined.
-pub fn next_run<'a>(
-    device: &'a [u8],
-    work: &'a [u8],
-    s: Session,
-    tb: DiskBlock,
-    from: Growing,
-) -> RunStep
+pub fn next_run(copy: &WorkingCopy, tb: DiskBlock, from: Growing) -> Option<(Extent, Growing)>
     requires { Fits from }
-    ensures { RunSteps (view (state_of s device.now work.now)) tb.0 from result }
-{
-    let l = s.staged;
-    let n = staged_count(s);
-    next_run_in(device, work, &l[0..n], tb, from)
-}
-
-// The same where these blocks are staged.
-pub fn next_run_in<'a>(
-    device: &'a [u8],
-    work: &'a [u8],
-    staged: &[u32],
-    tb: DiskBlock,
-    from: Growing,
-) -> RunStep
-    requires { Fits from × (length staged.now ≤ 32) }
-    ensures { RunSteps (view_in staged.now device.now work.now) tb.0 from result }
+    ensures { RunSteps (working copy.now) tb.0 from result }
 {
     let mut run = from.run;
     let mut scan = from.scan;
     loop {
-        match next_piece_in(device, work, staged, tb, scan) {
-            Piece::Blocks(e, then) => {
+        match next_piece(copy, tb, scan) {
+            Some((e, then)) => {
                 if run.count == 0 {
                     run = e;
                 } else if run.first + run.count == e.first {
                     run.count += e.count;
                 } else {
-                    return RunStep::Run(run, Growing { run: e, scan: then });
+                    return Some((run, Growing { run: e, scan: then }));
                 }
                 scan = then;
             }
-            Piece::End => {
+            None => {
                 if run.count == 0 {
-                    return RunStep::End;
+                    return None;
                 }
-                return RunStep::Run(run, growing_from(scan));
+                return Some((run, growing_from(scan)));
             }
         }
     }
 }
 
-// A run that was asked for.
+// The maximal runs of a stretch, one by one.
 #[derive(Clone, Copy)]
-pub enum RunOf {
-    Run(Extent),
-    Nothing,
+pub struct Runs<'a> {
+    copy: WorkingCopy<'a>,
+    record: DiskBlock,
+    at: Growing,
+    ghost fits: { Fits at },
+}
+
+impl<'a> Runs<'a> {
+    ghost use Rattle.extents.specs.Runs.{runs_left};
+
+    // The runs of the n data blocks of record i from block `from` on.
+    pub fn of(copy: &WorkingCopy<'a>, i: usize, from: FileBlock, n: usize) -> Runs<'a>
+        requires { i < 128 }
+        ensures { (runs_left result ≡ runs_in (working copy.now) i from.0 n) × (length (runs_left result) ≤ 2048) }
+    {
+        let scan = stretch(copy, i, from, n);
+        Runs {
+            copy: *copy,
+            record: table_block(i),
+            at: growing_from(scan),
+        }
+    }
+}
+
+impl<'a> Iterator for Runs<'a> {
+    ghost use Rattle.extents.specs.Runs.{runs_left};
+    ghost use Rattle.std.specs.Iterator.{YieldsFirst, item_count};
+
+    type Item = Extent;
+
+    ghost next_gives = { YieldsFirst runs_left };
+
+    ghost remaining = { item_count runs_left };
+
+    fn next(&mut self) -> Option<Extent> {
+        let (run, then) = next_run(&self.copy, self.record, self.at)?;
+        self.at = then;
+        Some(run)
+    }
 }
 
 // The k-th maximal run of the n data blocks of record i from block `from` on.
-pub fn nth_extent<'a>(
-    device: &'a [u8],
-    work: &'a [u8],
-    staged: &[u32],
+pub fn nth_extent(
+    copy: &WorkingCopy,
     i: usize,
     from: FileBlock,
     n: usize,
     k: usize,
-) -> RunOf
-    requires { (i < 128) × (length staged.now ≤ 32) }
-    ensures { result ≡ run_of (get_elem? (runs_in (view_in staged.now device.now work.now) i from.0 n) k) }
+) -> Option<Extent>
+    requires { i < 128 }
+    ensures { result ≡ run_of (get_elem? (runs_in (working copy.now) i from.0 n) k) }
 {
-    let tb = table_block(i);
-    let mut at = growing_from(stretch_at(inode_block_in(device, work, staged, i), i, from, n));
-    let mut left = k;
-    loop {
-        match next_run_in(device, work, staged, tb, at) {
-            RunStep::Run(e, then) => {
-                if left == 0 {
-                    return RunOf::Run(e);
-                }
-                left -= 1;
-                at = then;
-            }
-            RunStep::End => {
-                return RunOf::Nothing;
-            }
-        }
-    }
+    Runs::of(copy, i, from, n).nth(k)
 }
 
 // How many maximal runs these blocks have.
-pub fn count_runs<'a>(
-    device: &'a [u8],
-    work: &'a [u8],
-    staged: &[u32],
-    i: usize,
-    from: FileBlock,
-    n: usize,
-) -> usize
-    requires { (i < 128) × (length staged.now ≤ 32) }
-    ensures { result ≡ length (runs_in (view_in staged.now device.now work.now) i from.0 n) }
+pub fn count_runs(copy: &WorkingCopy, i: usize, from: FileBlock, n: usize) -> usize
+    requires { i < 128 }
+    ensures { result ≡ length (runs_in (working copy.now) i from.0 n) }
 {
-    let tb = table_block(i);
-    let mut at = growing_from(stretch_at(inode_block_in(device, work, staged, i), i, from, n));
-    let mut done: usize = 0;
-    loop {
-        match next_run_in(device, work, staged, tb, at) {
-            RunStep::Run(_, then) => {
-                done += 1;
-                at = then;
-            }
-            RunStep::End => {
-                return done;
-            }
-        }
-    }
+    Runs::of(copy, i, from, n).count()
 }

@@ -5,25 +5,23 @@ ghost use Rattle.std.specs.Prelude.{◌≡◌, ◌+◌, ◌*◌, ◌<◌, ◌≤
 ghost use Rattle.spec.specs.Bytes.{exactly};
 ghost use Rattle.spec.specs.Inode.{inode_at, block_of_inode};
 ghost use Rattle.spec.specs.Map.{content_of};
-ghost use Rattle.transaction.specs.Places.{view_in};
+ghost use Rattle.transaction.specs.Volumes.{working};
 ghost use Rattle.file.specs.Bytes.{run_bytes, block_bytes, Filled};
 
-use block::{copy, load};
-use extents::{AtNode, AtSlot, pass_slots, stretch_at, take_node, take_slot};
-use inode::{inode_block_in, size_of};
+use block::copy_of;
+use extents::{AtSlot, pass_slots, stretch_at, take_node, take_slot};
+use inode::{inode_block, size_of};
 use spec::{ByteOffset, DiskBlock, Extent, FileBlock, Limits};
-use transaction::view_in;
+use transaction::WorkingCopy;
 
-// Bytes of a block from a place on, zeros where the block's bytes end.
+// Bytes of a block from a place on, zeros where the block's bytes end: the rare case, with its copy of the block, is a function of its own.
 fn copy_padded(block: &[u8], off: usize, to: &mut [u8])
     requires { off + length to.old ≤ 512 }
     ensures { to.new ≡ take (length to.old) (drop off (exactly 512 block.now)) }
 {
-    let mut k: usize = 0;
-    while k < to.len() {
-        to[k] = load(block, off + k) as u8;
-        k += 1;
-    }
+    let whole = copy_of(block);
+    let end = off + to.len();
+    to.copy_from_slice(&whole[off..end]);
 }
 
 // The same; where the block has them all, they are copied at once.
@@ -33,85 +31,55 @@ fn copy_part(block: &[u8], off: usize, to: &mut [u8])
 {
     let end = off + to.len();
     if end <= block.len() {
-        copy(&block[off..end], to);
-        return;
+        to.copy_from_slice(&block[off..end]);
+    } else {
+        copy_padded(block, off, to);
     }
-    copy_padded(block, off, to);
-}
-
-fn least(a: usize, b: usize) -> usize
-    ensures { result ≡ min a b }
-{
-    if a < b {
-        return a;
-    }
-    b
 }
 
 // Bytes of blocks that follow each other, in the working copy: from byte `skip` of block `first` on, block by block.
-fn copy_blocks<'a>(
-    device: &'a [u8],
-    work: &'a [u8],
-    staged: &[u32],
-    run: Extent,
-    skip: usize,
-    to: &mut [u8],
-)
-    requires { (skip + length to.old ≤ 512 * run.count) × (run.first < 131072) × (run.count ≤ 2048) × (length staged.now ≤ 32) }
-    ensures { to.new ≡ take (length to.old) (drop skip (run_bytes (view_in staged.now device.now work.now) run.first run.count)) }
+// A `while` over bytes: the first and the last part are shorter than a block.
+fn copy_blocks(copy: &WorkingCopy, run: Extent, skip: usize, to: &mut [u8])
+    requires { (skip + length to.old ≤ 512 * run.count) × (run.first < 131072) × (run.count ≤ 2048) }
+    ensures { to.new ≡ take (length to.old) (drop skip (run_bytes (working copy.now) run.first run.count)) }
 {
     let first = run.first;
     let mut done: usize = 0;
     while done < to.len() {
         let at = skip + done;
         let off = at % Limits::BLOCK_SIZE;
-        let end = done + least(Limits::BLOCK_SIZE - off, to.len() - done);
-        let block = view_in(
-            device,
-            work,
-            staged,
-            DiskBlock(first + (at / Limits::BLOCK_SIZE) as u32),
-        );
+        let end = done + (Limits::BLOCK_SIZE - off).min(to.len() - done);
+        let block = copy.block(DiskBlock(first + (at / Limits::BLOCK_SIZE) as u32));
         copy_part(block, off, &mut to[done..end]);
         done = end;
     }
 }
 
 // The same; where nothing is staged and the device has them all, they are copied at once.
-fn copy_run<'a>(
-    device: &'a [u8],
-    work: &'a [u8],
-    staged: &[u32],
-    run: Extent,
-    skip: usize,
-    to: &mut [u8],
-)
-    requires { (skip + length to.old ≤ 512 * run.count) × (run.first < 131072) × (run.count ≤ 2048) × (length staged.now ≤ 32) }
-    ensures { to.new ≡ take (length to.old) (drop skip (run_bytes (view_in staged.now device.now work.now) run.first run.count)) }
+fn copy_run(copy: &WorkingCopy, run: Extent, skip: usize, to: &mut [u8])
+    requires { (skip + length to.old ≤ 512 * run.count) × (run.first < 131072) × (run.count ≤ 2048) }
+    ensures { to.new ≡ take (length to.old) (drop skip (run_bytes (working copy.now) run.first run.count)) }
 {
     let from = Limits::BLOCK_SIZE * (run.first as usize) + skip;
     let end = from + to.len();
-    if (staged.len() == 0) & (end <= device.len()) {
-        copy(&device[from..end], to);
-        return;
+    if (copy.staged.len() == 0) & (end <= copy.device.len()) {
+        to.copy_from_slice(&copy.device[from..end]);
+    } else {
+        copy_blocks(copy, run, skip, to);
     }
-    copy_blocks(device, work, staged, run, skip, to);
 }
 
 // Bytes of record i's data blocks from byte x on, as far as they reach, where `table` is the record's block; how many.
+// A walk over slots and nodes, whose number is not known before.
 fn read_blocks<'a>(
-    device: &'a [u8],
-    work: &'a [u8],
-    staged: &[u32],
+    copy: &WorkingCopy<'a>,
     table: &'a [u8],
     i: usize,
     x: ByteOffset,
     to: &mut [u8],
 ) -> usize
-    requires { (i < 128) × (length staged.now ≤ 32) × (length table.now ≤ 512)
-        × (exactly 512 table.now ≡ view_in staged.now device.now work.now (block_of_inode i)) }
-    ensures { Filled (take (length to.old) (drop x.0 (block_bytes (view_in staged.now device.now work.now) i)))
-        to.old to.new result }
+    requires { (i < 128) × (length table.now ≤ 512) × (exactly 512 table.now ≡ working copy.now (block_of_inode i)) }
+    ensures { Filled (take (length to.old) (drop x.0 (block_bytes (working copy.now) i))) to.old to.new result }
 {
     let from = x.0;
     let place = FileBlock(from / Limits::BLOCK_SIZE);
@@ -125,12 +93,9 @@ fn read_blocks<'a>(
         }
         match take_slot(block, scan) {
             AtSlot::Piece(run, then) => {
-                let end = done
-                    + least(
-                        Limits::BLOCK_SIZE * (run.count as usize) - skip,
-                        to.len() - done,
-                    );
-                copy_run(device, work, staged, run, skip, &mut to[done..end]);
+                let here = Limits::BLOCK_SIZE * (run.count as usize) - skip;
+                let end = done + here.min(to.len() - done);
+                copy_run(copy, run, skip, &mut to[done..end]);
                 done = end;
                 skip = 0;
                 scan = then;
@@ -139,11 +104,11 @@ fn read_blocks<'a>(
                 scan = pass_slots(block, then);
             }
             AtSlot::Unused => match take_node(table, scan) {
-                AtNode::Node(b, then) => {
-                    block = view_in(device, work, staged, b);
+                Some((b, then)) => {
+                    block = copy.block(b);
                     scan = then;
                 }
-                AtNode::End => {
+                None => {
                     return done;
                 }
             },
@@ -153,24 +118,17 @@ fn read_blocks<'a>(
 }
 
 // Bytes of record i's file from byte x on, into the buffer's front; how many.
-pub fn read_file<'a>(
-    device: &'a [u8],
-    work: &'a [u8],
-    staged: &[u32],
-    i: usize,
-    x: ByteOffset,
-    buffer: &mut [u8],
-) -> usize
-    requires { (i < 128) × (length staged.now ≤ 32) }
-    ensures { Filled (take (length buffer.old) (drop x.0 (content_of (view_in staged.now device.now work.now)
-        (inode_at (view_in staged.now device.now work.now) i)))) buffer.old buffer.new result }
+pub fn read_file(copy: &WorkingCopy, i: usize, x: ByteOffset, buffer: &mut [u8]) -> usize
+    requires { i < 128 }
+    ensures { Filled (take (length buffer.old) (drop x.0 (content_of (working copy.now) (inode_at (working copy.now) i))))
+        buffer.old buffer.new result }
 {
     let from = x.0;
-    let table = inode_block_in(device, work, staged, i);
+    let table = inode_block(copy, i);
     let size = size_of(table, i) as usize;
     if size <= from {
         return 0;
     }
-    let len = least(buffer.len(), size - from);
-    read_blocks(device, work, staged, table, i, x, &mut buffer[0..len])
+    let len = buffer.len().min(size - from);
+    read_blocks(copy, table, i, x, &mut buffer[0..len])
 }

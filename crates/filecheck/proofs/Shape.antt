@@ -1,27 +1,28 @@
 -- The tests of one record, by the running results. Assumes nothing.
-use Prim.Native.Nat.{ℕ, zero, suc, ◌+◌, ◌-◌, ◌/◌, ◌%◌, ◌<◌, ◌≤◌, min}
+use Prim.Native.Nat.{ℕ, zero, suc, ◌+◌, ◌-◌, ◌/◌, ◌%◌, ◌≤◌, min}
 use mathlib.Core.Path.{◌≡◌, refl, sym, ap, ◌∙◌}
 use mathlib.Core.Bool.{Bool, true, false, ◌&&◌, beq, true≢false}
 use mathlib.Core.List.{List, [], ◌∷◌, map, append-nil}
 use native.Mathlib.Omega.{arith}
-use borrow.Author.Tests.{eqb-false, eq-eqb, ne_eqb, leb-true, le-leb, lt-leb, le-ltb}
+use borrow.Author.Tests.{eqb-false, eq-eqb, ne_eqb, leb-true}
 use lib.Dec.{eqb, leb, ltb}
 use lib.ListN.{length, take, drop, get_or, length-drop, length-map, drop_of_length-le}
 use lib.Seq.{take_all, take-nil, drop-nil, take-take, drop-drop, get_or-take}
 use Rattle.spec.specs.Bytes.{exactly, part, all, all_zero, concat}
 use Rattle.spec.specs.Disk.{Disk, in_data}
-use Rattle.spec.specs.Inode.{Inode, inode_of, inode_bytes, inode_at, block_of_inode, place_of_inode, slots_in, slots_at, used, below, blocks_in, counts, tree_depth, extents_of, levels_of, nodes_of, data_of, blocks_for, nodes_for, levels_for}
-use Rattle.spec.specs.Sound.{limits_hold, slots_packed, extent_inside, counts_agree, apart, level_packed, tail_zero, file_sound}
+use Rattle.spec.specs.Inode.{Inode, inode_of, inode_bytes, inode_at, block_of_inode, place_of_inode, slots_in, slots_at, used, below, blocks_in, tree_depth, extents_of, levels_of, nodes_of, data_of, blocks_for, nodes_for}
+use Rattle.spec.specs.Sound.{limits_hold, slots_packed, extent_inside, apart, level_packed, tail_zero, file_sound}
 use Rattle.block.proofs.Laws.{length-exactly}
 use Rattle.inode.specs.Records.{bytes_in, record_in}
 use Rattle.inode.proofs.Laws.{drop-take, field-slots, record-at, inode-at}
+use Rattle.marks.specs.declared.Marks.{Marks}
 use Rattle.marks.specs.Marks.{Kept}
 use Rattle.marks.proofs.Laws.{kept-end}
-use Rattle.filecheck.specs.File.{last_clear, tree_sound, file_blocks, Marked}
+use Rattle.filecheck.specs.File.{last_clear, tree_sound, file_blocks, Walked, Marked}
 use Rattle.tree.specs.Reached.{blocks_from, tree_from}
 use Rattle.tree.specs.declared.Run.{Run}
 use Rattle.tree.specs.declared.Nodes.{Nodes}
-use Rattle.tree.specs.Runs.{over_extents, no_run, over_nodes, no_nodes}
+use Rattle.tree.specs.Runs.{over_extents, no_run, flat, over_nodes, no_nodes}
 use Rattle.tree.proofs.Runs.{and_right, over-inside, over-extents, over-blocks, run-apart, run-tail, nodes-run, nodes-sound, nodes-agree, nodes-tops, nodes-counts, all-filled}
 
 -- ---- bytes of a block that are zero
@@ -96,107 +97,67 @@ tail-is v n b l e = go (eqb (n.size % 512) 0) refl
         let ne = eqb-false (n.size % 512) 0 q in
         rw (q, e, get_or-take 2048 (blocks_in (extents_of v n)) (n.size / 512) 0 (omega arith))
 
--- ---- nodes that a file of so many extents needs
-
-pub nodes-few : (n : ℕ) → n ≤ 4 → 0 ≡ nodes_for n
-unfolding levels_for
-nodes-few n h = rw (le-leb n 4 h)
-
-pub nodes-many : (n : ℕ) → 4 < n → (n - 1) / 128 + 1 ≡ nodes_for n
-unfolding levels_for
-nodes-many n h = rw (lt-leb n 4 h) (omega arith)
-
 -- ---- the slots of record i, in its block of the table
 
 slots_at_lem : (v : Disk) (i : ℕ) (X : List ℕ) → X ≡ v (block_of_inode i) → slots_in 4 (drop (place_of_inode i + 16) X) ≡ (inode_at v i).slots
 unfolding inode_of inode_bytes
 slots_at_lem v i X e = rw e (sym (field-slots (v (block_of_inode i)) (place_of_inode i) 32 16 4 (omega arith)))
 
--- ---- S4 to S6 and S8
-
-flat-tests : (P A I C Q S D M L T : Bool) → A ≡ true → C ≡ true → D ≡ true → M ≡ true → L ≡ true
-    → P && I && Q && S && T ≡ P && A && I && C && Q && S && D && M && L && T
-flat-tests P A I C Q S D M L T a c d m l = rw (a, c, d, m, l) (simp and_right)
+-- ---- what the walk over a tree finds
 
 -- depth against the number of extents
 deep-or : (d e : ℕ) (x y : Bool) → d ≡ e → x ≡ y → beq (eqb d 1) x ≡ beq (eqb e 1) y
 deep-or d e x y p q = rw (p, q)
 
-beq-true : (x : Bool) → beq true x ≡ x
-beq-true true = refl
-beq-true false = refl
+-- in the slots of record i
+module _ (N k : ℕ) (v : Disk) (i at : ℕ) (X : List ℕ) (lend : X ≡ v (block_of_inode i)) (place : at ≡ place_of_inode i) where
+  used-at : used (slots_in 4 (drop (at + 16) X)) ≡ used (inode_at v i).slots
+  used-at = rw place (ap used (slots_at_lem v i X lend))
 
--- what the code finds in the slots of record i
-module _ (N : ℕ) (v : Disk) (i size : ℕ) (X : List ℕ) (lend : X ≡ v (block_of_inode i)) (most : size ≤ 1048576) (es : size ≡ (inode_at v i).size) where
-  used-at : used (slots_in 4 (drop (place_of_inode i + 16) X)) ≡ used (inode_at v i).slots
-  used-at = ap used (slots_at_lem v i X lend)
-
-  packed-at : (p : Bool) → p ≡ slots_packed (slots_in 4 (drop (place_of_inode i + 16) X)) → p ≡ slots_packed (inode_at v i).slots
-  packed-at p e = e ∙ ap slots_packed (slots_at_lem v i X lend)
+  packed-at : (p : Bool) → p ≡ slots_packed (slots_in 4 (drop (at + 16) X)) → p ≡ slots_packed (inode_at v i).slots
+  packed-at p e = e ∙ rw place (ap slots_packed (slots_at_lem v i X lend))
 
   module _ (depth : (inode_at v i).depth ≡ 0) where
-    flat : tree_depth (inode_at v i) ≡ 0
-    flat = ap (λ (d : ℕ). min d 1) depth
+    depth-0 : tree_depth (inode_at v i) ≡ 0
+    depth-0 = ap (λ (d : ℕ). min d 1) depth
 
     flat-extents : extents_of v (inode_at v i) ≡ used (inode_at v i).slots
     unfolding extents_of
-    flat-extents = rw flat
+    flat-extents = rw depth-0
 
     flat-levels : levels_of v (inode_at v i) ≡ []
     unfolding levels_of
-    flat-levels = rw flat
+    flat-levels = rw depth-0
 
     flat-blocks : blocks_from 0 (used (inode_at v i).slots) ≡ file_blocks v i
     unfolding file_blocks data_of blocks_from
     flat-blocks = rw (flat-extents, flat-levels, append-nil)
 
-    flat-by : (r : Run) (w : ℕ) (p c : Bool) → r ≡ over_extents N (size / 512) no_run (used (inode_at v i).slots) → r.extents ≤ 4
-        → p ≡ slots_packed (inode_at v i).slots → c ≡ last_clear v size r.tail → w ≡ blocks_for size
-        → p && r.inside && eqb r.blocks w && r.apart && c ≡ tree_sound N v (inode_at v i)
-    unfolding tree_sound
-    flat-by r w p c h few p_p ec ew =
-        let n = inode_at v i in
-        let k = size / 512 in
-        let T = used n.slots in
-        let x : r.extents ≡ length T = ap (λ (q : Run). q.extents) h ∙ over-extents N k no_run T ∙ omega arith in
-        let len : length (extents_of v n) ≤ 4 = rw flat-extents (omega arith) in
-        let p_i : r.inside ≡ all (extent_inside N) (extents_of v n) = ap (λ (q : Run). q.inside) h ∙ over-inside N k no_run T ∙ ap (all (extent_inside N)) (sym flat-extents) in
-        let p_b : r.blocks ≡ counts T = ap (λ (q : Run). q.blocks) h ∙ over-blocks N k no_run T ∙ omega arith in
-        let p_w : w ≡ blocks_for n.size = ew ∙ ap blocks_for es in
-        let p_s : r.apart ≡ apart (extents_of v n) = ap (λ (q : Run). q.apart) h ∙ run-apart N k T ∙ ap apart (sym flat-extents) in
-        let p_t : c ≡ tail_zero v n =
-        ec ∙ ap (λ (z : ℕ). last_clear v z r.tail) es
-        ∙ tail-is v n r.tail (rw (← es) most) (ap (λ (q : Run). q.tail) h ∙ run-tail N k T ∙ rw (flat-extents, es)) in
-        rw (p_p, p_i, p_b, p_w, p_s, p_t)
-        (flat-tests (slots_packed n.slots) (all (λ b. in_data N b && slots_packed (slots_at v b)) (nodes_of v n)) (all (extent_inside N) (extents_of v n))
-        (counts_agree v (tree_depth n) T) (eqb (counts T) (blocks_for n.size)) (apart (extents_of v n))
-        (beq (eqb n.depth 1) (ltb 4 (length (extents_of v n)))) (eqb (length (nodes_of v n)) (nodes_for (length (extents_of v n)))) (all (level_packed v) (levels_of v n)) (tail_zero v n)
-        (rw flat-levels) (rw flat) (deep-or n.depth 0 (ltb 4 (length (extents_of v n))) false depth (le-ltb 4 (length (extents_of v n)) len)) (rw (flat-levels, ← nodes-few (length (extents_of v n)) len)) (rw flat-levels))
+    module _ (z r : Run) (ez : z ≡ no_run) (er : r ≡ over_extents N k z (used (slots_in 4 (drop (at + 16) X)))) where
+      pub flat-walked : (f : Nodes) → f ≡ flat r → Walked N k v (inode_at v i) f
+      flat-walked f e = rw e (record {
+        run = er ∙ rw (ez, used-at, flat-extents);
+        sound = rw flat-levels;
+        agree = rw depth-0;
+        counted = ap (λ (q : Run). q.blocks) er ∙ rw (ez, used-at) (over-blocks N k no_run _ ∙ omega arith);
+        tops = rw flat-levels;
+        filled = rw flat-levels;
+      })
 
-    pub flat-marked : (z r : Run) (at w : ℕ) (p c : Bool) (o t o₀ t₀ : List ℕ) → at ≡ place_of_inode i → z ≡ no_run
-        → r ≡ over_extents N (size / 512) z (used (slots_in 4 (drop (at + 16) X)))
-        → p ≡ slots_packed (slots_in 4 (drop (at + 16) X)) → r.extents ≤ z.extents + 4
-        → Kept N o t [] o₀ t₀ (blocks_from z.blocks (used (slots_in 4 (drop (at + 16) X)))) → c ≡ last_clear v size r.tail → w ≡ blocks_for size
-        → Marked N (p && r.inside && eqb r.blocks w && r.apart && c) (tree_sound N v (inode_at v i)) o t o₀ t₀ (file_blocks v i)
-    flat-marked z r at w p c o t o₀ t₀ ea ez er ep few m ec ew =
-        let y : z.extents ≡ 0 = ap (λ (q : Run). q.extents) ez in
-        let h : r ≡ over_extents N (size / 512) no_run (used (inode_at v i).slots) = er ∙ rw (ez, ea, used-at) in
-        record {
-          answer = flat-by r w p c h (omega arith) (packed-at p (ep ∙ rw ea)) ec ew;
-          marks = λ _. kept-end N o t [] o₀ t₀ _ m _ refl (rw (ez, ea, used-at) flat-blocks);
-        }
+      pub flat-marks : (m m₀ : Marks) → Kept N m [] m₀ (blocks_from z.blocks (used (slots_in 4 (drop (at + 16) X)))) → Kept N m [] m₀ (file_blocks v i)
+      flat-marks m m₀ k = kept-end N m [] m₀ _ k _ refl (rw (ez, used-at) flat-blocks)
 
   module _ (depth : (inode_at v i).depth ≡ 1) where
-    deep : tree_depth (inode_at v i) ≡ 1
-    deep = ap (λ (d : ℕ). min d 1) depth
+    depth-1 : tree_depth (inode_at v i) ≡ 1
+    depth-1 = ap (λ (d : ℕ). min d 1) depth
 
     deep-extents : extents_of v (inode_at v i) ≡ below v (used (inode_at v i).slots)
     unfolding extents_of
-    deep-extents = rw deep
+    deep-extents = rw depth-1
 
     deep-levels : levels_of v (inode_at v i) ≡ map (λ e. e.first) (used (inode_at v i).slots) ∷ []
     unfolding levels_of
-    deep-levels = rw deep
+    deep-levels = rw depth-1
 
     deep-nodes : nodes_of v (inode_at v i) ≡ map (λ e. e.first) (used (inode_at v i).slots)
     deep-nodes = ap concat deep-levels ∙ append-nil _
@@ -205,53 +166,62 @@ module _ (N : ℕ) (v : Disk) (i size : ℕ) (X : List ℕ) (lend : X ≡ v (blo
     unfolding file_blocks data_of tree_from blocks_from
     deep-blocks = rw (deep-extents, deep-nodes)
 
-    deep-by : (f : Nodes) (w m : ℕ) (p c : Bool) → f ≡ over_nodes N (size / 512) v no_nodes (used (inode_at v i).slots) → p ≡ slots_packed (inode_at v i).slots
-        → c ≡ last_clear v size f.run.tail → w ≡ blocks_for size → m ≡ nodes_for f.run.extents
-        → p && f.sound && f.run.inside && f.agree && eqb f.counts w && f.run.apart && ltb 4 f.run.extents && eqb f.tops m && f.filled && c
-        ≡ tree_sound N v (inode_at v i)
-    unfolding tree_sound
-    deep-by f w m p c g p_p ec ew em =
-        let n = inode_at v i in
-        let k = size / 512 in
-        let T = used n.slots in
-        let r : f.run ≡ over_extents N k no_run (extents_of v n) =
-        ap (λ (q : Nodes). q.run) g ∙ nodes-run N k v no_nodes T ∙ ap (over_extents N k no_run) (sym deep-extents) in
-        let p_a : f.sound ≡ all (λ b. in_data N b && slots_packed (slots_at v b)) (nodes_of v n) =
-        ap (λ (q : Nodes). q.sound) g ∙ nodes-sound N k v no_nodes T ∙ ap (all (λ b. in_data N b && slots_packed (slots_at v b))) (sym deep-nodes) in
-        let p_i : f.run.inside ≡ all (extent_inside N) (extents_of v n) = ap (λ (q : Run). q.inside) r ∙ over-inside N k no_run (extents_of v n) in
-        let p_c : f.agree ≡ counts_agree v (tree_depth n) T = ap (λ (q : Nodes). q.agree) g ∙ nodes-agree N k v no_nodes T ∙ rw deep (sym (and_right _)) in
-        let p_b : f.counts ≡ counts T = ap (λ (q : Nodes). q.counts) g ∙ nodes-counts N k v no_nodes T ∙ omega arith in
-        let p_w : w ≡ blocks_for n.size = ew ∙ ap blocks_for es in
-        let p_s : f.run.apart ≡ apart (extents_of v n) = ap (λ (q : Run). q.apart) r ∙ run-apart N k (extents_of v n) in
-        let y : f.run.extents ≡ length (extents_of v n) = ap (λ (q : Run). q.extents) r ∙ over-extents N k no_run (extents_of v n) ∙ omega arith in
-        let p_d : ltb 4 f.run.extents ≡ beq (eqb n.depth 1) (ltb 4 (length (extents_of v n))) =
-        sym (deep-or n.depth 1 (ltb 4 (length (extents_of v n))) (ltb 4 f.run.extents) depth (ap (ltb 4) (sym y)) ∙ beq-true (ltb 4 f.run.extents)) in
-        let p_m : m ≡ nodes_for (length (extents_of v n)) = em ∙ ap nodes_for y in
-        let x : f.tops ≡ length T = ap (λ (q : Nodes). q.tops) g ∙ nodes-tops N k v no_nodes T ∙ omega arith in
-        let p_n : f.tops ≡ length (nodes_of v n) = x ∙ sym (ap length deep-nodes ∙ length-map T (λ e. e.first)) in
-        let p_l : f.filled ≡ all (level_packed v) (levels_of v n) = ap (λ (q : Nodes). q.filled) g ∙ all-filled N k v T ∙ sym (ap (all (level_packed v)) deep-levels ∙ and_right _) in
-        let p_t : c ≡ tail_zero v n =
-        ec ∙ ap (λ (z : ℕ). last_clear v z f.run.tail) es
-        ∙ tail-is v n f.run.tail (rw (← es) most) (ap (λ (q : Run). q.tail) r ∙ run-tail N k (extents_of v n) ∙ ap (λ (z : ℕ). get_or (blocks_in (extents_of v n)) (z / 512) 0) es) in
-        rw (p_p, p_a, p_i, p_c, p_b, p_w, p_s, p_d, p_n, p_m, p_l, p_t)
-
-    pub deep-marked : (f : Nodes) (at w m : ℕ) (p c : Bool) (o t o₀ t₀ : List ℕ) → at ≡ place_of_inode i
-        → f ≡ over_nodes N (size / 512) v no_nodes (used (slots_in 4 (drop (at + 16) X)))
-        → p ≡ slots_packed (slots_in 4 (drop (at + 16) X)) → Kept N o t [] o₀ t₀ (tree_from v 0 (used (slots_in 4 (drop (at + 16) X))))
-        → c ≡ last_clear v size f.run.tail → w ≡ blocks_for size → m ≡ nodes_for f.run.extents
-        → Marked N (p && f.sound && f.run.inside && f.agree && eqb f.counts w && f.run.apart && ltb 4 f.run.extents && eqb f.tops m && f.filled && c)
-        (tree_sound N v (inode_at v i)) o t o₀ t₀ (file_blocks v i)
-    deep-marked f at w m p c o t o₀ t₀ ea ef ep k ec ew em =
+    pub deep-walked : (f : Nodes) → f ≡ over_nodes N k v no_nodes (used (slots_in 4 (drop (at + 16) X))) → Walked N k v (inode_at v i) f
+    deep-walked f e =
+        let T = used (inode_at v i).slots in
+        let g : f ≡ over_nodes N k v no_nodes T = e ∙ rw used-at in
         record {
-          answer = deep-by f w m p c (ef ∙ rw (ea, used-at)) (packed-at p (ep ∙ rw ea)) ec ew em;
-          marks = λ _. kept-end N o t [] o₀ t₀ _ k _ refl (rw (ea, used-at) deep-blocks);
+          run = ap (λ (q : Nodes). q.run) g ∙ nodes-run N k v no_nodes T ∙ ap (over_extents N k no_run) (sym deep-extents);
+          sound = ap (λ (q : Nodes). q.sound) g ∙ nodes-sound N k v no_nodes T ∙ ap (all (λ b. in_data N b && slots_packed (slots_at v b))) (sym deep-nodes);
+          agree = ap (λ (q : Nodes). q.agree) g ∙ nodes-agree N k v no_nodes T ∙ rw depth-1 (sym (and_right _));
+          counted = ap (λ (q : Nodes). q.counts) g ∙ nodes-counts N k v no_nodes T ∙ omega arith;
+          tops = ap (λ (q : Nodes). q.tops) g ∙ nodes-tops N k v no_nodes T ∙ (let z : 0 + length T ≡ length T = omega arith in z) ∙ sym (ap length deep-nodes ∙ length-map T (λ e. e.first));
+          filled = ap (λ (q : Nodes). q.filled) g ∙ all-filled N k v T ∙ sym (ap (all (level_packed v)) deep-levels ∙ and_right _);
         }
+
+    pub deep-marks : (m m₀ : Marks) → Kept N m [] m₀ (tree_from v 0 (used (slots_in 4 (drop (at + 16) X)))) → Kept N m [] m₀ (file_blocks v i)
+    deep-marks m m₀ k = kept-end N m [] m₀ _ k _ refl (rw used-at deep-blocks)
+
+-- ---- S4 to S6 and S8
+
+-- how many slots of a record are used: of depth 0 one for each extent, of depth 1 one for each node
+module _ (N k : ℕ) (v : Disk) (i at : ℕ) (X : List ℕ) (lend : X ≡ v (block_of_inode i)) (place : at ≡ place_of_inode i) (f : Nodes) (h : Walked N k v (inode_at v i) f) where
+  walked-extents : f.run.extents ≡ length (extents_of v (inode_at v i))
+  walked-extents = ap (λ (q : Run). q.extents) h.run ∙ over-extents N k no_run _ ∙ omega arith
+
+  pub flat-slots : (inode_at v i).depth ≡ 0 → f.run.extents ≡ length (used (slots_in 4 (drop (at + 16) X)))
+  flat-slots d = walked-extents ∙ ap length (flat-extents N k v i at X lend place d ∙ sym (used-at N k v i at X lend place))
+
+  pub deep-slots : (inode_at v i).depth ≡ 1 → f.tops ≡ length (used (slots_in 4 (drop (at + 16) X)))
+  deep-slots d =
+      h.tops ∙ ap length (deep-nodes N k v i at X lend place d) ∙ length-map (used (inode_at v i).slots) (λ e. e.first)
+      ∙ ap length (sym (used-at N k v i at X lend place))
+
+  pub tree-marked : (size depth want m : ℕ) (p c : Bool) (o o₀ : Marks) → size ≤ 1048576 → size ≡ (inode_at v i).size → depth ≡ (inode_at v i).depth → k ≡ size / 512
+      → p ≡ slots_packed (slots_in 4 (drop (at + 16) X)) → c ≡ last_clear v size f.run.tail → want ≡ blocks_for size → m ≡ nodes_for f.run.extents
+      → Kept N o [] o₀ (file_blocks v i)
+      → Marked N (p && f.sound && f.run.inside && f.agree && eqb f.counts want && f.run.apart && beq (eqb depth 1) (ltb 4 f.run.extents) && eqb f.tops m && f.filled && c)
+      (tree_sound N v (inode_at v i)) o o₀ (file_blocks v i)
+  unfolding tree_sound
+  tree-marked size depth want m p c o o₀ most es ed ek ep ec ew em g =
+      let n = inode_at v i in
+      let E = extents_of v n in
+      let p_p : p ≡ slots_packed n.slots = packed-at N k v i at X lend place p ep in
+      let p_i : f.run.inside ≡ all (extent_inside N) E = ap (λ (q : Run). q.inside) h.run ∙ over-inside N k no_run E in
+      let p_w : want ≡ blocks_for n.size = ew ∙ ap blocks_for es in
+      let p_s : f.run.apart ≡ apart E = ap (λ (q : Run). q.apart) h.run ∙ run-apart N k E in
+      let p_d : beq (eqb depth 1) (ltb 4 f.run.extents) ≡ beq (eqb n.depth 1) (ltb 4 (length E)) = deep-or depth n.depth _ _ ed (ap (ltb 4) walked-extents) in
+      let p_m : m ≡ nodes_for (length E) = em ∙ ap nodes_for walked-extents in
+      let p_t : c ≡ tail_zero v n =
+      ec ∙ ap (λ (z : ℕ). last_clear v z f.run.tail) es
+      ∙ tail-is v n f.run.tail (rw (← es) most) (ap (λ (q : Run). q.tail) h.run ∙ run-tail N k E ∙ ap (λ (z : ℕ). get_or (blocks_in E) z 0) (ek ∙ ap (λ (z : ℕ). z / 512) es)) in
+      record { answer = rw (p_p, h.sound, p_i, h.agree, h.counted, p_w, p_s, p_d, h.tops, p_m, h.filled, p_t); marks = λ _. g }
 
 -- ---- S2 to S6 and S8
 
 -- a test that does not pass has marked what it likes
-pub not-marked : (N : ℕ) (d : Bool) (o t o₀ t₀ bs : List ℕ) → false ≡ d → Marked N false d o t o₀ t₀ bs
-not-marked N d o t o₀ t₀ bs e = record { answer = e; marks = λ h. absurd (true≢false (sym h)) }
+pub not-marked : (N : ℕ) (d : Bool) (m m₀ : Marks) (bs : List ℕ) → false ≡ d → Marked N false d m m₀ bs
+not-marked N d m m₀ bs e = record { answer = e; marks = λ h. absurd (true≢false (sym h)) }
 
 file-tests : (L P A I C Q S D M F T : Bool) → L && (P && A && I && C && Q && S && D && M && F && T) ≡ L && P && A && I && C && Q && S && D && M && F && T
 file-tests true P A I C Q S D M F T = refl
@@ -274,17 +244,14 @@ module _ (N : ℕ) (v : Disk) (t : List ℕ) (i : ℕ) (e : exactly 512 t ≡ v 
   pub size_in : (x : ℕ) → x ≡ (inode_of (record_in t i)).size → l ≡ true → x ≤ 1048576
   size_in x q h = rw (size-at x q) (limits-in h).0
 
-  depth-at : (x : ℕ) → x ≡ (inode_of (record_in t i)).depth → (inode_at v i).depth ≡ x
+  pub depth-at : (x : ℕ) → x ≡ (inode_of (record_in t i)).depth → (inode_at v i).depth ≡ x
   depth-at x q = sym (q ∙ ap (λ n. n.depth) (inode-at v t i e))
 
-  pub depth-flat : (x : ℕ) → x ≡ (inode_of (record_in t i)).depth → x ≡ 0 → (inode_at v i).depth ≡ 0
-  depth-flat x q z = depth-at x q ∙ z
+  pub depth_in : (x : ℕ) → x ≡ (inode_of (record_in t i)).depth → l ≡ true → x ≤ 1
+  depth_in x q h = rw (sym (depth-at x q)) (limits-in h).1
 
-  pub depth-deep : (x : ℕ) → x ≡ (inode_of (record_in t i)).depth → l ≡ true → (x ≡ 0 → ⊥) → (inode_at v i).depth ≡ 1
-  depth-deep x q h z = let d = depth-at x q in omega (arith, (limits-in h).1, z)
+  pub file-off : (m : Marks) (bs : List ℕ) → l ≡ false → Marked N false (file_sound N v (inode_bytes v i)) m m bs
+  file-off m bs h = not-marked N (file_sound N v (inode_bytes v i)) m m bs (sym (sym (file-is N v (inode_bytes v i)) ∙ rw (limits-at, h)))
 
-  pub file-off : (o t bs : List ℕ) → l ≡ false → Marked N false (file_sound N v (inode_bytes v i)) o t o t bs
-  file-off o t bs h = not-marked N (file_sound N v (inode_bytes v i)) o t o t bs (sym (sym (file-is N v (inode_bytes v i)) ∙ rw (limits-at, h)))
-
-  pub file-on : (r : Bool) (o t o₀ t₀ bs : List ℕ) → l ≡ true → Marked N r (tree_sound N v (inode_at v i)) o t o₀ t₀ bs → Marked N r (file_sound N v (inode_bytes v i)) o t o₀ t₀ bs
-  file-on r o t o₀ t₀ bs h m = record { answer = m.answer ∙ sym (sym (file-is N v (inode_bytes v i)) ∙ rw (limits-at, h)); marks = m.marks }
+  pub file-on : (r : Bool) (m₁ m₀ : Marks) (bs : List ℕ) → l ≡ true → Marked N r (tree_sound N v (inode_at v i)) m₁ m₀ bs → Marked N r (file_sound N v (inode_bytes v i)) m₁ m₀ bs
+  file-on r m₁ m₀ bs h m = record { answer = m.answer ∙ sym (sym (file-is N v (inode_bytes v i)) ∙ rw (limits-at, h)); marks = m.marks }

@@ -1,11 +1,16 @@
 -- The tests of one file, and the blocks that it reaches.
 use Rattle.std.specs.Prelude.{ℕ, ◌%◌, ◌≡◌, Bool, true, cond, ◌&&◌, List, [], ◌++◌, length, drop, eqb, ltb}
 use Rattle.std.specs.Bool.{beq}
-use Rattle.spec.specs.Bytes.{all, all_zero}
+use Rattle.spec.specs.Bytes.{exactly, all, all_zero}
 use Rattle.spec.specs.Disk.{Disk, in_data}
-use Rattle.spec.specs.Inode.{Inode, inode_at, slots_at, used, counts, tree_depth, extents_of, levels_of, nodes_of, data_of, blocks_for, nodes_for}
+use Rattle.spec.specs.Inode.{Inode, inode_at, block_of_inode, slots_at, used, counts, tree_depth, extents_of, levels_of, nodes_of, data_of, blocks_for, nodes_for}
 use Rattle.spec.specs.Sound.{slots_packed, extent_inside, counts_agree, apart, level_packed, tail_zero}
+use Rattle.marks.specs.declared.Marks.{Marks}
 use Rattle.marks.specs.Marks.{Kept}
+use Rattle.tree.specs.declared.Nodes.{Nodes}
+use Rattle.tree.specs.Device.{disk_of}
+use Rattle.filecheck.specs.declared.table.Record.{Record}
+use Rattle.tree.specs.Runs.{over_extents, no_run}
 
 -- the bytes after a size in block b
 unfoldable pub last_clear : Disk → ℕ → ℕ → Bool
@@ -26,7 +31,20 @@ tree_sound N v n =
 unfoldable pub file_blocks : Disk → ℕ → List ℕ
 file_blocks v i = data_of v (inode_at v i) ++ nodes_of v (inode_at v i)
 
+-- what a walk over a file's tree finds, on a device of N blocks, where the size ends in block k of the file: the results over its extents, and those over its nodes
+pub record Walked (N k : ℕ) (v : Disk) (n : Inode) (f : Nodes) : Type 0 where
+  pub run : f.run ≡ over_extents N k no_run (extents_of v n)
+  pub sound : f.sound ≡ all (λ b. in_data N b && slots_packed (slots_at v b)) (nodes_of v n)
+  pub agree : f.agree ≡ counts_agree v (tree_depth n) (used n.slots)
+  pub counted : f.counts ≡ counts (used n.slots)
+  pub tops : f.tops ≡ length (nodes_of v n)
+  pub filled : f.filled ≡ all (level_packed v) (levels_of v n)
+
 -- a test answers what is defined, and if it passes it has marked these blocks
-pub record Marked (N : ℕ) (r defined : Bool) (o t o' t' bs : List ℕ) : Type 0 where
+pub record Marked (N : ℕ) (r defined : Bool) (m m' : Marks) (bs : List ℕ) : Type 0 where
   pub answer : r ≡ defined
-  pub marks : r ≡ true → Kept N o t [] o' t' bs
+  pub marks : r ≡ true → Kept N m [] m' bs
+
+-- the block of the table that a record comes with
+abbrev pub Stands : Record → Type 0
+Stands x = exactly 512 x.table.now ≡ disk_of x.device (block_of_inode x.i)

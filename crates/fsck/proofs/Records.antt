@@ -10,7 +10,7 @@ use lib.ListN.{length, take, drop, take-append-drop}
 use lib.Seq.{drop-drop}
 use Rattle.spec.specs.Bytes.{exactly, part, all_zero, is_some}
 use Rattle.spec.specs.declared.DiskBlock.{DiskBlock}
-use Rattle.spec.specs.Disk.{Disk, disk_block}
+use Rattle.spec.specs.Disk.{Disk}
 use Rattle.spec.specs.Inode.{inode_bytes, name_at, is_empty, block_of_inode, place_of_inode, reached_from}
 use Rattle.filecheck.proofs.Shape.{not-marked}
 use Rattle.spec.specs.Sound.{first_of_name, file_sound, inode_sound, inode_fault, block_fault, volume_sound}
@@ -18,29 +18,30 @@ use Rattle.lists.specs.Lowest.{lowest-no}
 use Rattle.lists.specs.Places.{all_append}
 use Rattle.block.proofs.Laws.{length-exactly, exactly-all}
 use Rattle.zeros.proofs.Laws.{all_take, all_drop}
-use Rattle.inode.specs.declared.Found.{Found}
-use Rattle.inode.specs.declared.Found.TheVariants.{At, Nothing}
+use Rattle.std.specs.Prelude.{Option as Returned, Some, None}
+use Rattle.std.specs.Option as returned
 use Rattle.inode.specs.Records.{bytes_in, record_in, found_of, lowest_to}
-use Rattle.inode.proofs.Laws.{drop-take, record-at, found_at, found_nothing}
-use Rattle.bitmap.specs.declared.Found as block
-use Rattle.bitmap.specs.declared.Found.TheVariants as blocks
+use Rattle.block.proofs.Places.{found-some}
+use Rattle.inode.proofs.Laws.{drop-take, record-at}
 use Rattle.marks.specs.Marks.{Kept, reach_to, block_found}
 use Rattle.marks.proofs.Laws.{kept-start, kept-end, reach-none, reach-end}
-use Rattle.fsck.specs.Names.{Names, Seen, Passed}
-use Rattle.fsck.proofs.Names.{names-on, seen-on}
+use Rattle.marks.specs.declared.Marks.{Marks}
+use Rattle.fsck.specs.declared.NameTable.{NameTable}
+use Rattle.fsck.specs.Names.{Told, Passed}
+use Rattle.fsck.proofs.Names.{found-none, told-on}
 use Rattle.fsck.specs.declared.Damage.{Damage}
-use Rattle.fsck.specs.declared.Damage.TheVariants.{Inode as InodeAt, Block as BlockAt, Nothing as Whole}
+use Rattle.fsck.specs.declared.Damage.TheVariants.{Inode as InodeAt, Block as BlockAt}
 use Rattle.fsck.specs.Damage.{damage_of, unsound}
 use Rattle.filecheck.specs.File.{file_blocks, Marked}
 
 -- record i, which is empty or not
 module _ (N : ℕ) (v : Disk) (i : ℕ) (r : Bool) (e : r ≡ is_empty v i) where
   -- an empty record reaches no block
-  pub inode-empty : (s : Bool) (o t : List ℕ) → r ≡ true → s ≡ all_zero (inode_bytes v i) → Marked N s (inode_sound N v i) o t o t (reached_from v i)
+  pub inode-empty : (s : Bool) (m : Marks) → r ≡ true → s ≡ all_zero (inode_bytes v i) → Marked N s (inode_sound N v i) m m (reached_from v i)
   unfolding inode_sound reached_from
-  inode-empty s o t h q =
+  inode-empty s m h q =
       let z : is_empty v i ≡ true = sym e ∙ h in
-      record { answer = rw z q; marks = λ _. kept-start N o t [] (reached_from v i) (rw z) }
+      record { answer = rw z q; marks = λ _. kept-start N m [] (reached_from v i) (rw z) }
 
   module _ (h : r ≡ false) where
     inode-file : (f : Bool) → first_of_name v i ≡ f → inode_sound N v i ≡ f && file_sound N v (inode_bytes v i)
@@ -51,14 +52,14 @@ module _ (N : ℕ) (v : Disk) (i : ℕ) (r : Bool) (e : r ≡ is_empty v i) wher
     unfolding reached_from file_blocks
     file-reaches = let z : is_empty v i ≡ false = sym e ∙ h in rw z
 
-    pub inode-off : (o t bs : List ℕ) → first_of_name v i ≡ false → Marked N false (inode_sound N v i) o t o t bs
-    inode-off o t bs q = not-marked N (inode_sound N v i) o t o t bs (sym (inode-file false q))
+    pub inode-off : (m : Marks) (bs : List ℕ) → first_of_name v i ≡ false → Marked N false (inode_sound N v i) m m bs
+    inode-off m bs q = not-marked N (inode_sound N v i) m m bs (sym (inode-file false q))
 
-    pub inode-on : (s : Bool) (o t o₀ t₀ : List ℕ) → first_of_name v i ≡ true → Marked N s (file_sound N v (inode_bytes v i)) o t o₀ t₀ (file_blocks v i)
-        → Marked N s (inode_sound N v i) o t o₀ t₀ (reached_from v i)
-    inode-on s o t o₀ t₀ q m = record {
-      answer = m.answer ∙ sym (inode-file true q);
-      marks = λ p. kept-end N o t [] o₀ t₀ _ (m.marks p) _ refl file-reaches;
+    pub inode-on : (s : Bool) (m m₀ : Marks) → first_of_name v i ≡ true → Marked N s (file_sound N v (inode_bytes v i)) m m₀ (file_blocks v i)
+        → Marked N s (inode_sound N v i) m m₀ (reached_from v i)
+    inode-on s m m₀ q g = record {
+      answer = g.answer ∙ sym (inode-file true q);
+      marks = λ p. kept-end N m [] m₀ _ (g.marks p) _ refl file-reaches;
     }
 
 -- an empty record, its name read: the other 24 bytes are zero too
@@ -97,17 +98,16 @@ module _ (N : ℕ) (v : Disk) (first : ℕ) (whole : first % 16 ≡ 0) (t : List
   unfolding unsound inode_sound
   zero-sound j l h = rw (zero-name j l h, zero-record j l h)
 
-  pub zero-fault : Nothing ≡ lowest_to (first + 16) (unsound N v) first
+  pub zero-fault : None ≡ lowest_to (first + 16) (unsound N v) first
   unfolding lowest_to
   zero-fault = sym (ap found_of (lowest-no first (first + 16 - first) (unsound N v) (λ j l h. zero-sound j l (omega arith))))
 
   -- nothing is to be marked, and no name to be told
-  pub zero-passed : ((b : ℕ) → length (v b) ≡ 512) → (o t numbers seen : List ℕ) → Names v numbers first → Seen numbers seen first
-      → Passed N v (first + 16) o t numbers seen o t (reach_to v (first + 16) first)
-  zero-passed full o t numbers seen names g = record {
-    marks = kept-start N o t [] (reach_to v (first + 16) first) (sym (reach-none v (first + 16) first zero-reach));
-    names = names-on v full numbers first (first + 16) (omega arith) names zero-name;
-    remainders = seen-on v numbers seen first (first + 16) g names;
+  pub zero-passed : ((b : ℕ) → length (v b) ≡ 512) → (m : Marks) (names : NameTable) → Told v names first
+      → Passed N v (first + 16) m names m (reach_to v (first + 16) first)
+  zero-passed full m names g = record {
+    marks = kept-start N m [] (reach_to v (first + 16) first) (sym (reach-none v (first + 16) first zero-reach));
+    told = told-on v full names first (first + 16) (omega arith) g zero-name;
   }
 
 -- ---- the records of one block of the table
@@ -121,12 +121,11 @@ table-holds v t lent first b i et el eb whole h k =
     exactly-all 512 t l ∙ et ∙ el ∙ ap v (eb ∙ q)
 
 -- the last of them passed
-pub passed-end : (N : ℕ) (v : Disk) (n i first : ℕ) (o t numbers seen o₀ t₀ : List ℕ) → i ≡ n → Kept N o t (reach_to v n i) o₀ t₀ (reach_to v n first) → Names v numbers i → Seen numbers seen i
-    → Passed N v n o t numbers seen o₀ t₀ (reach_to v n first)
-passed-end N v n i first o t numbers seen o₀ t₀ e k names g = record {
-  marks = kept-end N o t (reach_to v n i) o₀ t₀ (reach_to v n first) k (reach_to v n first) (reach-end v n i (omega arith)) refl;
-  names = rw (← e) names;
-  remainders = rw (← e) g;
+pub passed-end : (N : ℕ) (v : Disk) (n i first : ℕ) (m : Marks) (names : NameTable) (m₀ : Marks) → i ≡ n → Kept N m (reach_to v n i) m₀ (reach_to v n first) → Told v names i
+    → Passed N v n m names m₀ (reach_to v n first)
+passed-end N v n i first m names m₀ e k g = record {
+  marks = kept-end N m (reach_to v n i) m₀ (reach_to v n first) k (reach_to v n first) (reach-end v n i (omega arith)) refl;
+  told = rw (← e) g;
 }
 
 -- ---- the whole
@@ -139,60 +138,43 @@ pub unsound-by : (N : ℕ) (v : Disk) (i : ℕ) (r t : Bool) → r ≡ inode_sou
 unfolding unsound
 unsound-by N v i r t e h = ap not (sym e) ∙ h
 
--- a record was found, so not nothing
-pub found_some : {P : Type 0} (i : ℕ) → At i ≡ found_of none → P
+-- a record was found, so not none
+pub found_some : {P : Type 0} (i : ℕ) → Some i ≡ found_of none → P
 found_some i h = let z : ◌≡◌ {A = ℕ} 0 1 = cc in absurd (omega arith)
 
--- the block that was found
-block-told : (o : Option ℕ) (b : DiskBlock) → block_found (found_of o) ≡ blocks.At b → BlockAt b ≡ damage_of none o
-block-told none b e = let z : ◌≡◌ {A = ℕ} 0 1 = cc in absurd (omega arith)
-block-told (some c) b e = let z : disk_block c ≡ b = cc in ap BlockAt (sym z)
-
-no-block-told : (o : Option ℕ) → block_found (found_of o) ≡ blocks.Nothing → Whole ≡ damage_of none o
-no-block-told none e = refl
-no-block-told (some c) e = let z : ◌≡◌ {A = ℕ} 0 1 = cc in absurd (omega arith)
-
 -- what is damaged, by the two searches
-module _ (N : ℕ) (v : Disk) (r : Found) (e : r ≡ found_of (inode_fault N v)) where
-  pub inode-damaged : (i : ℕ) → r ≡ At i → InodeAt i ≡ damage_of (inode_fault N v) (block_fault N v)
-  inode-damaged i h = rw (found_at (inode_fault N v) i (sym e ∙ h))
+module _ (N : ℕ) (v : Disk) (r : Returned ℕ) (e : r ≡ found_of (inode_fault N v)) where
+  pub inode-damaged : (i : ℕ) → r ≡ Some i → Some (InodeAt i) ≡ damage_of (inode_fault N v) (block_fault N v)
+  inode-damaged i h = rw (found-some (inode_fault N v) i (sym e ∙ h))
 
-  module _ (s : block.Found) (x : Found) (h : r ≡ Nothing) (f : s ≡ block_found x) (g : x ≡ found_of (block_fault N v)) where
+  module _ (s : Returned DiskBlock) (x : Returned ℕ) (h : r ≡ None) (f : s ≡ block_found x) (g : x ≡ found_of (block_fault N v)) where
     searched : block_found (found_of (block_fault N v)) ≡ s
     searched = sym (f ∙ ap block_found g)
 
-    pub block-damaged : (b : DiskBlock) → s ≡ blocks.At b → BlockAt b ≡ damage_of (inode_fault N v) (block_fault N v)
-    block-damaged b q = rw (found_nothing (inode_fault N v) (sym e ∙ h)) (block-told (block_fault N v) b (searched ∙ q))
+    pub block-damaged : (b : DiskBlock) → s ≡ Some b → Some (BlockAt b) ≡ damage_of (inode_fault N v) (block_fault N v)
+    block-damaged b q = rw (found-none (inode_fault N v) (sym e ∙ h)) (go (block_fault N v) (searched ∙ q))
+      where
+        go : (o : Option ℕ) → block_found (found_of o) ≡ Some b → Some (BlockAt b) ≡ damage_of none o
+        go none e = cc
+        go (some c) e = cc
 
-    pub nothing-damaged : s ≡ blocks.Nothing → Whole ≡ damage_of (inode_fault N v) (block_fault N v)
-    nothing-damaged q = rw (found_nothing (inode_fault N v) (sym e ∙ h)) (no-block-told (block_fault N v) (searched ∙ q))
+    pub nothing-damaged : s ≡ None → None ≡ damage_of (inode_fault N v) (block_fault N v)
+    nothing-damaged q = rw (found-none (inode_fault N v) (sym e ∙ h)) (go (block_fault N v) (searched ∙ q))
+      where
+        go : (o : Option ℕ) → block_found (found_of o) ≡ None → None ≡ damage_of none o
+        go none e = refl
+        go (some c) e = cc
 
 -- sound, if nothing is damaged
-module _ (N : ℕ) (v : Disk) (r : Damage) (e : r ≡ damage_of (inode_fault N v) (block_fault N v)) where
-  pub sound-by : (a : Bool) → ((o p : Option ℕ) → r ≡ damage_of o p → a ≡ not (is_some o) && not (is_some p)) → a ≡ volume_sound N v
-  unfolding volume_sound
-  sound-by a h = h (inode_fault N v) (block_fault N v) e
+pub sound-by : (N : ℕ) (v : Disk) (r : Returned Damage) (a : Bool) → r ≡ damage_of (inode_fault N v) (block_fault N v) → returned.is_some r ≡ not a → a ≡ volume_sound N v
+unfolding volume_sound
+sound-by N v r a e h = flip a (ap returned.is_some (sym e) ∙ h) ∙ go (inode_fault N v) (block_fault N v)
+  where
+    flip : (a : Bool) → returned.is_some (damage_of (inode_fault N v) (block_fault N v)) ≡ not a → a ≡ not (returned.is_some (damage_of (inode_fault N v) (block_fault N v)))
+    flip true q = ap not (sym q)
+    flip false q = ap not (sym q)
 
-  pub inode-unsound : (i : ℕ) → r ≡ InodeAt i → false ≡ volume_sound N v
-  inode-unsound i h = sound-by false (go h)
-    where
-      go : r ≡ InodeAt i → (o p : Option ℕ) → r ≡ damage_of o p → false ≡ not (is_some o) && not (is_some p)
-      go q (some j) p w = refl
-      go q none (some b) w = refl
-      go q none none w = cc
-
-  pub block-unsound : (b : DiskBlock) → r ≡ BlockAt b → false ≡ volume_sound N v
-  block-unsound b h = sound-by false (go h)
-    where
-      go : r ≡ BlockAt b → (o p : Option ℕ) → r ≡ damage_of o p → false ≡ not (is_some o) && not (is_some p)
-      go q (some j) p w = refl
-      go q none (some c) w = refl
-      go q none none w = cc
-
-  pub all_sound : r ≡ Whole → true ≡ volume_sound N v
-  all_sound h = sound-by true (go h)
-    where
-      go : r ≡ Whole → (o p : Option ℕ) → r ≡ damage_of o p → true ≡ not (is_some o) && not (is_some p)
-      go q (some j) p w = cc
-      go q none (some c) w = cc
-      go q none none w = refl
+    go : (o p : Option ℕ) → not (returned.is_some (damage_of o p)) ≡ (not (is_some o) && not (is_some p))
+    go (some i) p = refl
+    go none (some b) = refl
+    go none none = refl

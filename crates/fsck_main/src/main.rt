@@ -27,18 +27,10 @@ fn slot(device: &mut [u8; 32768], at: usize, first: u16, count: u16) {
     }
 }
 
-fn fill(device: &mut [u8; 32768], from: usize, end: usize, byte: u8) {
-    let mut k = from;
-    while k < end {
-        set(device, k, byte);
-        k += 1;
-    }
-}
-
 // An empty store: bits 0 to 41 and from 64 up are 1.
 fn empty(device: &mut [u8; 32768]) {
-    fill(device, 0, 32768, 0);
-    fill(device, 16896, 17408, 255);
+    device.fill(0);
+    device[16896..17408].fill(255);
     set(device, 16901, 3);
     set(device, 16902, 0);
     set(device, 16903, 0);
@@ -77,15 +69,15 @@ fn show(rt: &impl Print, name: &[u8], store: &[u8; 32768]) -> io::Result<()> {
     let device: &[u8] = store;
     rt.write_all(name)?;
     match find_damage(device, 64) {
-        Damage::Inode(i) => {
+        Some(Damage::Inode(i)) => {
             rt.write_all(b": record ")?;
             rt.print(i)?;
         }
-        Damage::Block(b) => {
+        Some(Damage::Block(b)) => {
             rt.write_all(b": block ")?;
             rt.print(b.0)?;
         }
-        Damage::Nothing => {
+        None => {
             rt.write_all(b": no damage")?;
         }
     }

@@ -1,31 +1,54 @@
 // The header read and checked, and what a log may list.
 #![tactic(auto)]
 
-ghost use Rattle.std.specs.Prelude.{◌≡◌, true, ◌+◌, ◌*◌, ◌<◌, ◌≤◌, length};
+ghost use Rattle.std.specs.Prelude.{◌≡◌, ◌==◌, true, ◌+◌, ◌*◌, ◌<◌, ◌≤◌, not, List, ℕ, length, take, take_while};
+ghost use Rattle.std.specs.List.{list_all};
 ghost use Rattle.spec.specs.Bytes.{all, all_zero, part, member, distinct};
 ghost use Rattle.spec.specs.Disk.{is_target};
 ghost use Rattle.spec.specs.Journal.{targets_in, is_record_wrong, header_fault, are_targets};
-ghost use Rattle.header.specs.Header.{fault_of, record_targets, list_of, Holds, ascends};
+ghost use Rattle.block.specs.Places.{found_at};
+ghost use Rattle.header.specs.Header.{record_targets, ascends};
 
-use block::{is_target, load, load2};
+use block::{is_target, load2};
 use spec::{DiskBlock, Limits};
+use std::marker::Model;
 use zeros::is_zero;
 
-// The lowest record of a header that is wrong.
-#[derive(Clone, Copy)]
-pub enum Fault {
-    At(usize),
-    Nothing,
-}
-
 // What a log lists: the first `count` cells of `list` are in use.
-#[derive(Clone, Copy)]
+#[derive(Drop)]
 pub struct Targets {
-    pub list: [u32; Limits::LOG_LENGTH],
-    pub count: usize,
+    list: [u32; Limits::LOG_LENGTH],
+    count: usize,
 }
 
-const PADDING: usize = 14;
+impl Model for Targets {
+    ghost Value = { List ℕ };
+
+    ghost view = { λ t. take t.count t.list };
+
+    ghost invariant = { λ t. t.count ≤ 32 };
+}
+
+impl Targets {
+    pub fn len(&self) -> usize
+        ensures { (result ≡ length self.now) × (result ≤ 32) }
+    {
+        self.count
+    }
+
+    pub fn as_slice(&self) -> &[u32]
+        ensures { (result.now ≡ self.now) × (length result.now ≤ 32) }
+    {
+        &self.list[..self.count]
+    }
+
+    // Whether a log may list them.
+    pub fn are_targets(&self, blocks: usize) -> bool
+        ensures { result ≡ are_targets blocks self.now }
+    {
+        can_list(blocks, self.as_slice())
+    }
+}
 
 // ---- the records
 
@@ -34,25 +57,10 @@ fn record_targets(head: &[u8]) -> [u32; Limits::LOG_LENGTH]
     ensures { result ≡ record_targets head.now }
 {
     let mut q = [0u32; Limits::LOG_LENGTH];
-    let mut i: usize = 0;
-    while i < Limits::LOG_LENGTH {
-        q[i] = load2(head, Limits::LOG_RECORD_SIZE * i);
-        i += 1;
+    for (i, target) in q.iter_mut().enumerate() {
+        *target = load2(head, Limits::LOG_RECORD_SIZE * i);
     }
     q
-}
-
-// Whether b stands in a list. No entry ends the loop early, so it compiles to vector code.
-fn is_among(l: &[u32], b: DiskBlock) -> bool
-    ensures { result ≡ member b.0 l.now }
-{
-    let mut among = false;
-    let mut i: usize = 0;
-    while i < l.len() {
-        among = among | (l[i] == b.0);
-        i += 1;
-    }
-    among
 }
 
 // Whether the last 14 bytes of record i are zero.
@@ -60,14 +68,10 @@ fn is_blank(head: &[u8], i: usize) -> bool
     requires { i < 32 }
     ensures { result ≡ all_zero (part (16 * i + 2) 14 head.now) }
 {
-    let mut k: usize = 0;
-    while k < PADDING {
-        if load(head, Limits::LOG_RECORD_SIZE * i + 2 + k) != 0 {
-            return false;
-        }
-        k += 1;
-    }
-    true
+    let at = Limits::LOG_RECORD_SIZE * i + 2;
+    let from = head.len().min(at);
+    let end = head.len().min(at + 14);
+    is_zero(&head[from..end])
 }
 
 // Whether record i is wrong, where l has the targets of all records.
@@ -76,68 +80,53 @@ fn is_record_wrong(blocks: usize, head: &[u8], l: &[u32], i: usize) -> bool
     ensures { result ≡ is_record_wrong blocks head.now i }
 {
     let t = l[i];
-    let before = &l[0..i];
+    let before = &l[..i];
     let outside = !is_target(blocks, DiskBlock(t));
-    let seen = is_among(before, DiskBlock(t));
-    let late = is_among(before, DiskBlock(0));
+    let seen = before.contains(&t);
+    let late = before.contains(&0);
     let blank = is_blank(head, i);
     (!(t == 0) & (outside | seen | late)) | !blank
 }
 
 // Refusal 10: the lowest record that is wrong. A header is zero but for the time of a commit.
-pub fn header_fault(blocks: usize, head: &[u8]) -> Fault
-    ensures { result ≡ fault_of (header_fault blocks head.now) }
+pub fn header_fault(blocks: usize, head: &[u8]) -> Option<usize>
+    ensures { result ≡ found_at (header_fault blocks head.now) }
 {
     if is_zero(head) {
-        return Fault::Nothing;
+        return None;
     }
     let l = record_targets(head);
-    let mut i: usize = 0;
-    while i < Limits::LOG_LENGTH {
+    for i in 0..Limits::LOG_LENGTH {
         if is_record_wrong(blocks, head, &l, i) {
-            return Fault::At(i);
+            return Some(i);
         }
-        i += 1;
     }
-    Fault::Nothing
+    None
+}
+
+// How many records are used, before the first empty one.
+fn used(l: &[u32]) -> usize
+    ensures { result ≡ length (take_while (λ t. not (t == 0)) l.now) }
+{
+    l.iter().take_while(|t| **t != 0).count()
 }
 
 // The targets of the leading used records.
 pub fn targets_in(head: &[u8]) -> Targets
-    ensures { Holds result (targets_in head.now) }
+    ensures { result ≡ targets_in head.now }
 {
-    if load2(head, 0) == 0 {
-        let none = [0u32; Limits::LOG_LENGTH];
-        return Targets {
-            list: none,
-            count: 0,
-        };
-    }
-    let l = record_targets(head);
-    let mut n: usize = 0;
-    while n < Limits::LOG_LENGTH {
-        if l[n] == 0 {
-            return Targets { list: l, count: n };
-        }
-        n += 1;
-    }
-    Targets { list: l, count: n }
+    let list = record_targets(head);
+    let count = used(&list);
+    Targets { list, count }
 }
 
 // ---- what a log may list
 
 // Whether each target lies within 33 to N-1.
 fn are_inside(blocks: usize, l: &[u32]) -> bool
-    ensures { result ≡ all (is_target blocks) l.now }
+    ensures { result ≡ list_all (λ b. is_target blocks b) l.now }
 {
-    let mut inside = true;
-    let mut i: usize = 0;
-    while i < l.len() {
-        let b = l[i];
-        inside = inside & is_target(blocks, DiskBlock(b));
-        i += 1;
-    }
-    inside
+    l.iter().all(|b| is_target(blocks, DiskBlock(*b)))
 }
 
 // Whether each target is lower than the next.
@@ -145,10 +134,8 @@ pub fn is_ascending(l: &[u32]) -> bool
     ensures { result ≡ ascends l.now }
 {
     let mut up = true;
-    let mut i: usize = 1;
-    while i < l.len() {
+    for i in 1..l.len() {
         up = up & (l[i - 1] < l[i]);
-        i += 1;
     }
     up
 }
@@ -157,12 +144,10 @@ pub fn is_ascending(l: &[u32]) -> bool
 fn is_distinct(l: &[u32]) -> bool
     ensures { result ≡ distinct l.now }
 {
-    let mut i: usize = 0;
-    while i < l.len() {
-        if is_among(&l[i + 1..], DiskBlock(l[i])) {
+    for (i, x) in l.iter().enumerate() {
+        if l[i + 1..].contains(x) {
             return false;
         }
-        i += 1;
     }
     true
 }
@@ -187,13 +172,4 @@ pub fn can_list(blocks: usize, l: &[u32]) -> bool
         return can_list_up(blocks, l);
     }
     are_inside(blocks, l) & is_distinct(l)
-}
-
-pub fn are_targets(blocks: usize, t: Targets) -> bool
-    requires { t.count ≤ 32 }
-    ensures { result ≡ are_targets blocks (list_of t) }
-{
-    let l = t.list;
-    let n = t.count;
-    can_list(blocks, &l[0..n])
 }

@@ -1,34 +1,34 @@
 -- Laws of file records. Assumes nothing.
 use Prim.Native.Nat.{ℕ, zero, suc, ◌+◌, ◌*◌, ◌-◌, ◌/◌, ◌%◌, ◌<◌, ◌≤◌}
 use mathlib.Core.Path.{◌≡◌, refl, sym, ap, ap₂, ◌∙◌}
-use mathlib.Core.Bool.{Bool, true, false, cond, ◌&&◌, true≢false}
+use mathlib.Core.Bool.{Bool, true, false, cond, not, ◌&&◌}
 use mathlib.Core.List.{List, [], ◌∷◌}
 use mathlib.Core.Option.{Option, none, some, some-ne-none, some-injective}
 use native.Mathlib.Nat.{add-zero}
 use native.Mathlib.Numerals.{add-one}
 use native.Mathlib.Omega.{arith}
 use lib.Dec.{eqb, leb}
-use borrow.Author.Tests.{eqb-true, eq-eqb, ne_eqb, leb-true}
+use borrow.Author.Tests.{eqb-true, eq-eqb, ne_eqb, leb-true, le-leb, lt-leb, lt-ltb}
 use lib.ListN.{length, take, drop, get_or, replicate, length-take, length-drop}
 use lib.Seq.{ext_get_or, get_or-take, get_or-drop, take-take, take-nil, drop-drop}
 use Rattle.spec.specs.Bytes.{exactly, part, number2, number4, same, all_zero, found, place, lowest}
-use Rattle.spec.specs.Disk.{Disk, area_of, blocks_of}
-use Rattle.spec.specs.declared.Area.{Area}
+use Rattle.spec.specs.Disk.{Disk, blocks_of}
 use Rattle.spec.specs.declared.Session.{Session}
 use Rattle.spec.specs.Session.{staged_in}
 use Rattle.spec.specs.Transaction.{view, state_of}
-use Rattle.spec.specs.Inode.{slots_in, inode_of, inode_bytes, inode_at, name_at, is_empty, block_of_inode, place_of_inode, find, find_empty}
+use Rattle.spec.specs.Inode.{slots_in, inode_of, inode_bytes, inode_at, name_at, is_empty, block_of_inode, place_of_inode, find, find_empty, nodes_for, levels_for}
 use Rattle.block.proofs.Laws.{length-exactly, get_or-exactly, exactly-all, block-length, block-is}
 use Rattle.lists.specs.Tests.{both_true}
 use Rattle.lists.specs.Lowest as lows
 use Rattle.transaction.specs.Places.{view_in}
 use Rattle.transaction.proofs.Laws.{view-new}
 use Rattle.block.specs.Keys.{key_of, Name}
+use Rattle.block.proofs.Places.{found-some}
 use Rattle.block.proofs.Keys.{eight, same_key}
-use Rattle.block.proofs.Steps.{area-inodes}
-use Rattle.inode.specs.Records.{bytes_in, record_in, named, found_of, lowest_to, is_table_area, TableUnstaged}
-use Rattle.inode.specs.declared.Found.{Found}
-use Rattle.inode.specs.declared.Found.TheVariants.{At, Nothing}
+use Rattle.std.specs.List.{AllPass}
+use Rattle.lists.specs.Places.{place-lt, place-value}
+use Rattle.inode.specs.Records.{bytes_in, record_in, named, found_of, lowest_to, is_table}
+use Rattle.std.specs.Prelude.{Option as Returned, Some, None}
 
 -- ---- a record of w bytes at a place of a block
 
@@ -181,11 +181,11 @@ same_length (x ∷ xs) (y ∷ ys) h = go (eqb x y) (same_length xs ys (λ e. h (
 -- ---- the lowest number that passes
 
 module _ (n : ℕ) (f : ℕ → Bool) (i : ℕ) where
-  pub lowest-none : n ≤ i → lowest_to n f i ≡ Nothing
+  pub lowest-none : n ≤ i → lowest_to n f i ≡ None
   unfolding lowest_to
   lowest-none h = let e : n - i ≡ 0 = omega arith in rw e
 
-  pub lowest-hit : i < n → f i ≡ true → lowest_to n f i ≡ At i
+  pub lowest-hit : i < n → f i ≡ true → lowest_to n f i ≡ Some i
   unfolding lowest_to
   lowest-hit h q = let e : n - i ≡ suc (n - (i + 1)) = omega arith in rw (e, q)
 
@@ -203,33 +203,33 @@ unfolding lowest_to
 lowest-agree n f g i h = ap found_of (lowest-same f g i (n - i) (λ k p q. h k p (omega arith)))
 
 -- a search in two parts
-lowest-first : (f : ℕ → Bool) (a d e j : ℕ) → found_of (lowest a d f) ≡ At j → found_of (lowest a (d + e) f) ≡ At j
-lowest-first f a zero e j h = let z : ◌≡◌ {A = ℕ} 0 1 = cc in absurd (omega arith)
+lowest-first : (f : ℕ → Bool) (a d e j : ℕ) → found_of (lowest a d f) ≡ Some j → found_of (lowest a (d + e) f) ≡ Some j
+lowest-first f a zero e j h = cc
 lowest-first f a (suc d) e j h = let z : suc d + e ≡ suc (d + e) = omega arith in rw z (go (f a) refl (lowest-first f (suc a) d e j))
   where
-    go : (t : Bool) → f a ≡ t → (found_of (lowest (suc a) d f) ≡ At j → found_of (lowest (suc a) (d + e) f) ≡ At j)
-        → found_of (cond (f a) (some a) (lowest (suc a) (d + e) f)) ≡ At j
+    go : (t : Bool) → f a ≡ t → (found_of (lowest (suc a) d f) ≡ Some j → found_of (lowest (suc a) (d + e) f) ≡ Some j)
+        → found_of (cond (f a) (some a) (lowest (suc a) (d + e) f)) ≡ Some j
     go true q ih = rw q (rw q at h)
     go false q ih = rw q (ih (rw q at h))
 
-lowest-skip : (f : ℕ → Bool) (a d e : ℕ) → found_of (lowest a d f) ≡ Nothing → lowest a (d + e) f ≡ lowest (a + d) e f
+lowest-skip : (f : ℕ → Bool) (a d e : ℕ) → found_of (lowest a d f) ≡ None → lowest a (d + e) f ≡ lowest (a + d) e f
 lowest-skip f a zero e h = let z : 0 + e ≡ e = omega arith in let y : a + 0 ≡ a = omega arith in rw (z, y)
 lowest-skip f a (suc d) e h = let z : suc d + e ≡ suc (d + e) = omega arith in let y : a + suc d ≡ suc a + d = omega arith in rw (z, y) (go (f a) refl (lowest-skip f (suc a) d e))
   where
-    go : (t : Bool) → f a ≡ t → (found_of (lowest (suc a) d f) ≡ Nothing → lowest (suc a) (d + e) f ≡ lowest (suc a + d) e f)
+    go : (t : Bool) → f a ≡ t → (found_of (lowest (suc a) d f) ≡ None → lowest (suc a) (d + e) f ≡ lowest (suc a + d) e f)
         → cond (f a) (some a) (lowest (suc a) (d + e) f) ≡ lowest (suc a + d) e f
-    go true q ih = let w : At a ≡ Nothing = rw q at h in let z : ◌≡◌ {A = ℕ} 0 1 = cc in absurd (omega arith)
+    go true q ih = let w : Some a ≡ None = rw q at h in cc
     go false q ih = rw q (ih (rw q at h))
 
 module _ (m n : ℕ) (f : ℕ → Bool) (i : ℕ) (low : i ≤ m) (high : m ≤ n) where
   parts : n - i ≡ (m - i) + (n - m)
   parts = omega arith
 
-  pub lowest-in : (j : ℕ) → lowest_to m f i ≡ At j → lowest_to n f i ≡ At j
+  pub lowest-in : (j : ℕ) → lowest_to m f i ≡ Some j → lowest_to n f i ≡ Some j
   unfolding lowest_to
   lowest-in j h = rw parts (lowest-first f i (m - i) (n - m) j h)
 
-  pub lowest-past : lowest_to m f i ≡ Nothing → lowest_to n f i ≡ lowest_to n f m
+  pub lowest-past : lowest_to m f i ≡ None → lowest_to n f i ≡ lowest_to n f m
   unfolding lowest_to
   lowest-past h = let e : i + (m - i) ≡ m = omega arith in rw (parts, lowest-skip f i (m - i) (n - m) h, e)
 
@@ -254,27 +254,25 @@ unfolding find named_at
 find-all v name = lowest-all 128 (λ i. same (name_at v i) name)
 
 -- the 16 records of one block searched
-module _ (v : Disk) (t name : List ℕ) (first : ℕ) (r : Found) (low : first < 128) (whole : first % 16 ≡ 0)
-    (e : exactly 512 t ≡ v (block_of_inode first)) (q : r ≡ lowest_to (first + 16) (named t name) first) where
-  in_block : lowest_to (first + 16) (named_at v name) first ≡ r
+module _ (v : Disk) (t name : List ℕ) (first : ℕ) (low : first < 128) (whole : first % 16 ≡ 0) (e : exactly 512 t ≡ v (block_of_inode first)) where
+  in_block : lowest_to (first + 16) (named_at v name) first ≡ lowest_to (first + 16) (named t name) first
   unfolding named_at
   in_block =
       lowest-agree (first + 16) (named_at v name) (named t name) first
       (λ k p h. let z : k / 16 ≡ first / 16 = omega arith in sym (named-at v t k (e ∙ ap (λ (b : ℕ). v (34 + b)) (sym z)) name))
-      ∙ sym q
 
-  pub find-hit : (i : ℕ) → r ≡ At i → lowest_to 128 (named_at v name) first ≡ At i
-  find-hit i h = lowest-in (first + 16) 128 (named_at v name) first (omega arith) (omega arith) i (in_block ∙ h)
+  pub find-hit : (i : ℕ) → Some i ≡ lowest_to (first + 16) (named t name) first → lowest_to 128 (named_at v name) first ≡ Some i
+  find-hit i h = lowest-in (first + 16) 128 (named_at v name) first (omega arith) (omega arith) i (in_block ∙ sym h)
 
-  pub find-miss : r ≡ Nothing → lowest_to 128 (named_at v name) first ≡ lowest_to 128 (named_at v name) (first + 16)
-  find-miss h = lowest-past (first + 16) 128 (named_at v name) first (omega arith) (omega arith) (in_block ∙ h)
+  pub find-miss : None ≡ lowest_to (first + 16) (named t name) first → lowest_to 128 (named_at v name) first ≡ lowest_to 128 (named_at v name) (first + 16)
+  find-miss h = lowest-past (first + 16) 128 (named_at v name) first (omega arith) (omega arith) (in_block ∙ sym h)
 
 lowest-never : (f : ℕ → Bool) (a n : ℕ) → ((k : ℕ) → f k ≡ false) → lowest a n f ≡ none
 lowest-never f a zero h = refl
 lowest-never f a (suc n) h = rw (h a) (lowest-never f (suc a) n h)
 
 -- no record has a name of another length
-pub find-other : (v : Disk) (name : List ℕ) → ((b : ℕ) → length (v b) ≡ 512) → (length name ≡ 8 → ⊥) → Nothing ≡ found_of (find v name)
+pub find-other : (v : Disk) (name : List ℕ) → ((b : ℕ) → length (v b) ≡ 512) → (length name ≡ 8 → ⊥) → None ≡ found_of (find v name)
 unfolding find inode_bytes
 find-other v name l h =
     sym (ap found_of (lowest-never (λ i. same (name_at v i) name) 0 128
@@ -283,7 +281,7 @@ find-other v name l h =
     same_length (name_at v k) name (λ e. h (sym e ∙ n)))))
 
 -- an empty record is one whose name is zeros
-pub find-zeros : (v : Disk) (name : List ℕ) (r : Found) → ((b : ℕ) → length (v b) ≡ 512) → name ≡ replicate 8 0 → r ≡ found_of (find v name) → r ≡ found_of (find_empty v)
+pub find-zeros : (v : Disk) (name : List ℕ) (r : Returned ℕ) → ((b : ℕ) → length (v b) ≡ 512) → name ≡ replicate 8 0 → r ≡ found_of (find v name) → r ≡ found_of (find_empty v)
 unfolding find find_empty inode_bytes
 find-zeros v name r l e q =
     q
@@ -302,15 +300,6 @@ view-length s device work b = go (place b (staged_in s))
     go none = block-length device b
     go (some i) = block-length work i
 
--- what an answer of a search says
-pub found_at : (o : Option ℕ) (i : ℕ) → found_of o ≡ At i → o ≡ some i
-found_at none i e = let z : ◌≡◌ {A = ℕ} 0 1 = cc in absurd (omega arith)
-found_at (some j) i e = let z : j ≡ i = cc in ap some z
-
-pub found_nothing : (o : Option ℕ) → found_of o ≡ Nothing → o ≡ none
-found_nothing none e = refl
-found_nothing (some j) e = let z : ◌≡◌ {A = ℕ} 0 1 = cc in absurd (omega arith)
-
 lowest-low : (f : ℕ → Bool) (a n i : ℕ) → lowest a n f ≡ some i → i < a + n
 lowest-low f a zero i h = absurd (some-ne-none i (sym h))
 lowest-low f a (suc n) i h = go (f a) refl (lowest-low f (suc a) n i)
@@ -319,13 +308,13 @@ lowest-low f a (suc n) i h = go (f a) refl (lowest-low f (suc a) n i)
     go true q ih = let z : a ≡ i = some-injective a i (rw q at h) in omega arith
     go false q ih = let z : i < suc a + n = ih (rw q at h) in omega arith
 
-pub find-low : (v : Disk) (name : List ℕ) (i : ℕ) → found_of (find v name) ≡ At i → i < 128
+pub find-low : (v : Disk) (name : List ℕ) (i : ℕ) → found_of (find v name) ≡ Some i → i < 128
 unfolding find
-find-low v name i h = lowest-low (λ k. same (name_at v k) name) 0 128 i (found_at (find v name) i h)
+find-low v name i h = lowest-low (λ k. same (name_at v k) name) 0 128 i (found-some (find v name) i h)
 
-pub find-empty-low : (v : Disk) (i : ℕ) → found_of (find_empty v) ≡ At i → i < 128
+pub find-empty-low : (v : Disk) (i : ℕ) → found_of (find_empty v) ≡ Some i → i < 128
 unfolding find_empty
-find-empty-low v i h = lowest-low (is_empty v) 0 128 i (found_at (find_empty v) i h)
+find-empty-low v i h = lowest-low (is_empty v) 0 128 i (found-some (find_empty v) i h)
 
 -- ---- the table as it lies on the device
 
@@ -337,16 +326,23 @@ find-agree v u name h =
     (λ k p l. ap (λ (block : List ℕ). same (take 8 (part (place_of_inode k) 32 block)) name) (h (block_of_inode k) (omega arith) (omega arith)))
 
 -- where none of them is staged
-pub find-committed : (staged device work name : List ℕ) → TableUnstaged staged → find (blocks_of device) name ≡ find (view_in staged device work) name
-find-committed staged device work name h = find-agree (blocks_of device) (view_in staged device work) name (λ b p l. sym (view-new staged device work b (h b p l)))
+unstaged : (staged : List ℕ) → AllPass (λ b. not (is_table b)) staged → (b : ℕ) → 34 ≤ b → b < 42 → place b staged ≡ none
+unstaged staged h b p l = go (place b staged) refl
+  where
+    go : (o : Option ℕ) → place b staged ≡ o → place b staged ≡ none
+    go none e = e
+    go (some j) e =
+        let z : not (is_table b) ≡ true = rw (place-value b j staged e) at (h j 0 (place-lt b j staged e)) in
+        let y : false ≡ true = rw (le-leb 34 b p, lt-ltb b 42 l) at z in
+        cc
+
+pub find-committed : (staged device work name : List ℕ) → AllPass (λ b. not (is_table b)) staged → find (blocks_of device) name ≡ find (view_in staged device work) name
+find-committed staged device work name h =
+    find-agree (blocks_of device) (view_in staged device work) name (λ b p l. sym (view-new staged device work b (ap found_of (unstaged staged h b p l))))
 
 -- a block of it, lent
-block-lent : (device : List ℕ) (b at end : ℕ) → at ≡ 512 * b → end ≡ at + 512 → exactly 512 (take (end - at) (drop at device)) ≡ blocks_of device b
+pub block-lent : (device : List ℕ) (b at end : ℕ) → at ≡ 512 * b → end ≡ at + 512 → exactly 512 (take (end - at) (drop at device)) ≡ blocks_of device b
 block-lent device b at end e f = let z : end - at ≡ 512 = omega arith in ap₂ (λ (n k : ℕ). exactly 512 (take n (drop k device))) z e ∙ sym (block-is device b)
-
-pub table-part : (device : List ℕ) (first at end : ℕ) → first % 16 ≡ 0 → at ≡ 17408 + 32 * first → end ≡ at + 512
-    → exactly 512 (take (end - at) (drop at device)) ≡ blocks_of device (block_of_inode first)
-table-part device first at end w e f = block-lent device (block_of_inode first) at end (omega arith) f
 
 -- the block of record i, where nothing is staged
 pub table-lent : (staged device work : List ℕ) (i at end : ℕ) → (eqb (length staged) 0 && leb 21504 (length device)) ≡ true → i < 128 → at ≡ 17408 + 512 * (i / 16) → end ≡ at + 512
@@ -361,10 +357,12 @@ table-lent [] device work i at end t h e f =
       rw z (simp length-take (omega arith)),
     )
 
--- a number that is none of the table's
-pub other_block : (x b : ℕ) (r : Bool) → r ≡ is_table_area (area_of x) → r ≡ false → 34 ≤ b → b < 42 → x ≡ b → ⊥
-other_block x b r q h p l e = true≢false (ap is_table_area (area-inodes x (omega arith) (omega arith)) ∙ sym q ∙ h)
+-- ---- nodes that a file of so many extents needs
 
--- the test of a block by its area
-pub table-by : (b : ℕ) (x a : Area) → x ≡ area_of b → x ≡ a → is_table_area a ≡ is_table_area (area_of b)
-table-by b x a e q = ap is_table_area (sym q ∙ e)
+pub nodes-few : (n : ℕ) → n ≤ 4 → 0 ≡ nodes_for n
+unfolding levels_for
+nodes-few n h = rw (le-leb n 4 h)
+
+pub nodes-many : (n : ℕ) → 4 < n → (n - 1) / 128 + 1 ≡ nodes_for n
+unfolding levels_for
+nodes-many n h = rw (lt-leb n 4 h) (omega arith)

@@ -9,17 +9,14 @@ use lib.Seq.{get_or-take, get_or-drop, drop-drop, take_all}
 use lib.Dec.{eqb, ltb}
 use borrow.Author.Tests.{eqb-true, eqb-false, ltb-true, eq-eqb, ne_eqb, lt-ltb, not-true}
 use Rattle.lists.specs.Tests.{both_true}
-use Rattle.spec.specs.declared.DiskBlock.{DiskBlock}
 use Rattle.spec.specs.declared.Extent.{Extent}
 use Rattle.spec.specs.Bytes.{exactly}
 use Rattle.spec.specs.Disk.{Disk}
 use Rattle.spec.specs.Inode.{extent, slots_in, slots_at, used, inode_of, inode_bytes, inode_at, block_of_inode, place_of_inode, tree_depth, extents_of, levels_of, nodes_of}
 use Rattle.block.proofs.Laws.{exactly-byte}
 use Rattle.inode.specs.declared.Cursor.{Cursor}
-use Rattle.inode.specs.declared.Step.{Step}
-use Rattle.inode.specs.declared.Step.TheVariants.{Leaf, Node, End}
 use Rattle.inode.specs.Records.{record_in}
-use Rattle.inode.specs.Walk.{slot_in, Slot, live, leaf, rest, rest_nodes, weight, Onward, Inward, Ended, Steps, start_of}
+use Rattle.inode.specs.Walk.{slot_in, Slot, live, leaf, rest, rest_nodes, weight, Onward, Inward, Ended, start_of}
 use Rattle.inode.proofs.Laws.{field-slots, inode-at}
 
 -- ---- one slot
@@ -162,16 +159,7 @@ module _ (v : Disk) (tb : ℕ) (c : Cursor) where
   step_end t r k s l h =
       let j : leaf v tb c.top c.tops ≡ [] = leaf-end v tb c.top c.tops (slot-live (v tb) c.top c.tops t r false s l h) in
       record { extents = rw (k, j); nodes = rw j }
-
   -- a step by its kind
-  pub on-leaf : (r : Step) (e : Extent) (d : Cursor) → Steps v tb c r → r ≡ Leaf e d → Onward v tb c e d
-  on-leaf r e d s q = rw q at s
-
-  pub on-node : (r : Step) (b : DiskBlock) (d : Cursor) → Steps v tb c r → r ≡ Node b d → Inward v tb c b.0 d
-  on-node r b d s q = rw q at s
-
-  pub on-end : (r : Step) → Steps v tb c r → r ≡ End → Ended v tb c
-  on-end r s q = rw q at s
 
 -- any function of the extents that are left, along a step
 module _ {B : Type 0} (F : List Extent → B) (v : Disk) (tb : ℕ) (c : Cursor) (r : B) (h : F (rest v tb c) ≡ r) where

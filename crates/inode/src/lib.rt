@@ -1,31 +1,26 @@
 // File records and the walk over a file's tree of extents, in the working copy.
 #![tactic(auto)]
 
-ghost use Rattle.std.specs.Prelude.{◌≡◌, true, List, ℕ, ◌+◌, ◌*◌, ◌%◌, ◌<◌, ◌≤◌, length, take, get_or};
+ghost use Rattle.std.specs.List.{AllPass};
+ghost use Rattle.std.specs.Prelude.{◌≡◌, true, not, List, ℕ, ◌+◌, ◌*◌, ◌%◌, ◌<◌, ◌≤◌, length, take, get_or};
 ghost use Rattle.spec.specs.Bytes.{exactly, all_zero};
-ghost use Rattle.spec.specs.Disk.{Disk, area_of, blocks_of};
-ghost use Rattle.spec.specs.Inode.{inode_of, block_of_inode, find, find_empty};
-ghost use Rattle.spec.specs.Transaction.{view, state_of};
-ghost use Rattle.transaction.specs.Places.{view_in};
+ghost use Rattle.spec.specs.Disk.{Disk, blocks_of};
+ghost use Rattle.spec.specs.Inode.{inode_of, block_of_inode, find, find_empty, blocks_for, nodes_for};
+ghost use Rattle.transaction.specs.Volumes.{working};
 ghost use Rattle.block.specs.Keys.{key_of, Name};
-ghost use Rattle.inode.specs.Records.{record_in, named, found_of, lowest_to, is_table_area, TableUnstaged};
+ghost use Rattle.inode.specs.Records.{record_in, named, found_of, lowest_to, is_table};
 ghost use Rattle.inode.specs.Walk.{slot_in, Slot, live, Steps, start_of};
 
-use block::{area_of, key_of, load, load4, low, place_in_block};
-use spec::{Area, DiskBlock, Extent, Limits, Session};
-use transaction::{staged_count, view_block, view_in};
+use block::{copy_of, key_of, load, load4, place_in_block};
+use spec::{DiskBlock, Extent, Limits};
+use transaction::WorkingCopy;
 
 // The bytes of the device that hold the table: blocks 34 to 41.
 const TABLE_START: usize = Limits::BLOCK_SIZE * (Limits::INODE_START as usize);
 
 const TABLE_END: usize = TABLE_START + Limits::INODE_SIZE * Limits::INODE_COUNT;
 
-// A record that was looked for.
-#[derive(Clone, Copy)]
-pub enum Found {
-    At(usize),
-    Nothing,
-}
+const TABLE_BLOCKS: usize = Limits::INODE_COUNT / Limits::INODES_PER_BLOCK;
 
 // The block of the table that holds record i.
 pub fn table_block(i: usize) -> DiskBlock
@@ -35,25 +30,18 @@ pub fn table_block(i: usize) -> DiskBlock
     DiskBlock(Limits::INODE_START + (i / Limits::INODES_PER_BLOCK) as u32)
 }
 
-// The working copy of the table's block that holds record i.
-pub fn inode_block<'a>(device: &'a [u8], work: &'a [u8], s: Session, i: usize) -> &'a [u8]
+// The working copy of the table's block that holds record i; no longer than a block. Where nothing is staged, it lies at its place on the device.
+pub fn inode_block<'a>(copy: &WorkingCopy<'a>, i: usize) -> &'a [u8]
     requires { i < 128 }
-    ensures { exactly 512 result.now ≡ view (state_of s device.now work.now) (block_of_inode i) }
+    ensures { (exactly 512 result.now ≡ working copy.now (block_of_inode i)) × (length result.now ≤ 512) }
 {
-    view_block(device, work, s, table_block(i))
-}
-
-// The same where these blocks are staged; no longer than a block. Where none is, it lies at its place on the device.
-pub fn inode_block_in<'a>(device: &'a [u8], work: &'a [u8], staged: &[u32], i: usize) -> &'a [u8]
-    requires { (i < 128) × (length staged.now ≤ 32) }
-    ensures { (exactly 512 result.now ≡ view_in staged.now device.now work.now (block_of_inode i)) × (length result.now ≤ 512) }
-{
-    if (staged.len() == 0) & (TABLE_END <= device.len()) {
+    let device = copy.device;
+    if (copy.staged.len() == 0) & (TABLE_END <= device.len()) {
         let at = TABLE_START + Limits::BLOCK_SIZE * (i / Limits::INODES_PER_BLOCK);
         let end = at + Limits::BLOCK_SIZE;
         return &device[at..end];
     }
-    view_in(device, work, staged, table_block(i))
+    copy.block(table_block(i))
 }
 
 // The size of record i, of a block of the table.
@@ -81,18 +69,6 @@ pub fn name_of(table: &[u8], i: usize) -> [u8; 8]
     ensures { result ≡ take 8 (record_in table.now i) }
 {
     let p = place_in_block(i);
-    if p + Limits::NAME_SIZE <= table.len() {
-        return [
-            table[p],
-            table[p + 1],
-            table[p + 2],
-            table[p + 3],
-            table[p + 4],
-            table[p + 5],
-            table[p + 6],
-            table[p + 7],
-        ];
-    }
     [
         byte_in(table, p),
         byte_in(table, p + 1),
@@ -106,7 +82,7 @@ pub fn name_of(table: &[u8], i: usize) -> [u8; 8]
 }
 
 // The name of record i as one number.
-fn key_at(table: &[u8], i: usize) -> u64
+pub fn key_at(table: &[u8], i: usize) -> u64
     ensures { (result ≡ key_of (take 8 (record_in table.now i))) × Name (take 8 (record_in table.now i)) }
 {
     let at = place_in_block(i);
@@ -126,143 +102,103 @@ pub fn is_empty(table: &[u8], i: usize) -> bool
 }
 
 // The lowest of the 16 records from `first` on, which one block of the table holds, that has this name.
-fn find_whole(table: &[u8], first: usize, key: u64) -> Found
-    requires { (first < 128) × (512 ≤ length table.now) }
+fn find_whole(table: &[u8; Limits::BLOCK_SIZE], first: usize, key: u64) -> Option<usize>
+    requires { (first < 128) × (first % 16 ≡ 0) }
     ensures { (name : List ℕ) → Name name → key ≡ key_of name → result ≡ lowest_to (first + 16) (named table.now name) first }
 {
-    let end = first + Limits::INODES_PER_BLOCK;
-    let mut i = first;
-    while i < end {
-        let at = place_in_block(i);
-        let name_end = at + Limits::NAME_SIZE;
-        if key_of(&table[at..name_end]) == key {
-            return Found::At(i);
+    for k in 0..Limits::INODES_PER_BLOCK {
+        let at = Limits::INODE_SIZE * k;
+        let end = at + Limits::NAME_SIZE;
+        if key_of(&table[at..end]) == key {
+            return Some(first + k);
         }
-        i += 1;
     }
-    Found::Nothing
+    None
 }
 
-// The same of a block that ends early.
-fn find_short(table: &[u8], first: usize, key: u64) -> Found
-    requires { first < 128 }
+// The same of a block that ends early, of a copy: in a function of its own, since a function clears its copy where it begins.
+fn find_cut(table: &[u8], first: usize, key: u64) -> Option<usize>
+    requires { (first < 128) × (first % 16 ≡ 0) }
     ensures { (name : List ℕ) → Name name → key ≡ key_of name → result ≡ lowest_to (first + 16) (named table.now name) first }
 {
-    let end = first + Limits::INODES_PER_BLOCK;
-    let mut i = first;
-    while i < end {
-        if key_at(table, i) == key {
-            return Found::At(i);
-        }
-        i += 1;
-    }
-    Found::Nothing
+    find_whole(&copy_of(table), first, key)
 }
 
 // The same of a block that may end early.
-fn find_block(table: &[u8], first: usize, key: u64) -> Found
-    requires { first < 128 }
+fn find_in_block(table: &[u8], first: usize, key: u64) -> Option<usize>
+    requires { (first < 128) × (first % 16 ≡ 0) }
     ensures { (name : List ℕ) → Name name → key ≡ key_of name → result ≡ lowest_to (first + 16) (named table.now name) first }
 {
-    if Limits::BLOCK_SIZE <= table.len() {
-        return find_whole(table, first, key);
+    match table.first_chunk() {
+        Some(whole) => find_whole(whole, first, key),
+        None => find_cut(table, first, key),
     }
-    find_short(table, first, key)
 }
 
-// The record with this name, block by block where these are staged.
-fn find_blocks<'a>(device: &'a [u8], work: &'a [u8], staged: &[u32], key: u64) -> Found
-    requires { length staged.now ≤ 32 }
-    ensures { (name : List ℕ) → Name name → key ≡ key_of name → result ≡ found_of (find (view_in staged.now device.now work.now) name) }
+// The record with this name, block by block.
+fn find_key(copy: &WorkingCopy, key: u64) -> Option<usize>
+    ensures { (name : List ℕ) → Name name → key ≡ key_of name → result ≡ found_of (find (working copy.now) name) }
 {
-    let mut first: usize = 0;
-    while first < Limits::INODE_COUNT {
-        let table = inode_block_in(device, work, staged, first);
-        match find_block(table, first, key) {
-            Found::At(i) => {
-                return Found::At(i);
-            }
-            Found::Nothing => {
-                first += Limits::INODES_PER_BLOCK;
-            }
+    for block in 0..TABLE_BLOCKS {
+        let first = Limits::INODES_PER_BLOCK * block;
+        let table = inode_block(copy, first);
+        if let Some(i) = find_in_block(table, first, key) {
+            return Some(i);
         }
     }
-    Found::Nothing
+    None
 }
 
-// The same in the table as it lies on the device.
-fn find_committed(device: &[u8], key: u64) -> Found
+// The same in the table as it lies on the device. One search for both takes 58 ns in place of 50 where no record has the name.
+fn find_committed(device: &[u8], key: u64) -> Option<usize>
     requires { 21504 ≤ length device.now }
     ensures { (name : List ℕ) → Name name → key ≡ key_of name → result ≡ found_of (find (blocks_of device.now) name) }
 {
-    let mut first: usize = 0;
-    while first < Limits::INODE_COUNT {
-        let at = TABLE_START + Limits::INODE_SIZE * first;
+    for block in 0..TABLE_BLOCKS {
+        let first = Limits::INODES_PER_BLOCK * block;
+        let at = TABLE_START + Limits::BLOCK_SIZE * block;
         let end = at + Limits::BLOCK_SIZE;
-        match find_whole(&device[at..end], first, key) {
-            Found::At(i) => {
-                return Found::At(i);
-            }
-            Found::Nothing => {
-                first += Limits::INODES_PER_BLOCK;
-            }
+        if let Some(i) = find_in_block(&device[at..end], first, key) {
+            return Some(i);
         }
     }
-    Found::Nothing
+    None
 }
 
 // Whether a block is one of the table.
-fn is_table(b: DiskBlock) -> bool
-    ensures { result ≡ is_table_area (area_of b.0) }
+fn is_table(b: u32) -> bool
+    ensures { result ≡ is_table b }
 {
-    match area_of(b) {
-        Area::Header => false,
-        Area::Log => false,
-        Area::Bitmap => false,
-        Area::Inodes => true,
-        Area::Data => false,
-    }
+    Limits::INODE_START <= b && b < Limits::DATA_START
 }
 
 // Whether no block of the table is among these.
 fn is_table_committed(staged: &[u32]) -> bool
-    ensures { result ≡ true → TableUnstaged staged.now }
+    ensures { result ≡ true → AllPass (λ b. not (is_table b)) staged.now }
 {
-    let mut i: usize = 0;
-    while i < staged.len() {
-        let n = staged[i];
-        if is_table(DiskBlock(n)) {
-            return false;
-        }
-        i += 1;
-    }
-    true
+    staged.iter().all(|b| !is_table(*b))
 }
 
-// The record with this name, where these blocks are staged.
-pub fn find<'a>(device: &'a [u8], work: &'a [u8], staged: &[u32], name: &[u8]) -> Found
-    requires { length staged.now ≤ 32 }
-    ensures { result ≡ found_of (find (view_in staged.now device.now work.now) name.now) }
+// The record with this name.
+pub fn find(copy: &WorkingCopy, name: &[u8]) -> Option<usize>
+    ensures { result ≡ found_of (find (working copy.now) name.now) }
 {
     if name.len() != Limits::NAME_SIZE {
-        return Found::Nothing;
+        return None;
     }
     let key = key_of(name);
-    if TABLE_END <= device.len() {
-        if is_table_committed(staged) {
-            return find_committed(device, key);
-        }
+    if TABLE_END <= copy.device.len() && is_table_committed(copy.staged) {
+        return find_committed(copy.device, key);
     }
-    find_blocks(device, work, staged, key)
+    find_key(copy, key)
 }
 
 // The lowest empty record: the one whose name is all zero.
-pub fn find_empty<'a>(device: &'a [u8], work: &'a [u8], staged: &[u32]) -> Found
-    requires { length staged.now ≤ 32 }
-    ensures { result ≡ found_of (find_empty (view_in staged.now device.now work.now)) }
+pub fn find_empty(copy: &WorkingCopy) -> Option<usize>
+    ensures { result ≡ found_of (find_empty (working copy.now)) }
 {
     let none = [0u8; 8];
-    find(device, work, staged, &none)
+    find(copy, &none)
 }
 
 // A place in a file's tree: `left` leaf slots from byte `at` of `block`, then the nodes named by `tops` slots from byte `top` of the record's block.
@@ -289,8 +225,8 @@ fn slot_of(bytes: &[u8]) -> Extent
     ensures { (result ≡ slot_in 0 bytes.now) × (result.first < 65536) × (result.count < 65536) }
 {
     Extent {
-        first: low(bytes[0]) + 256 * low(bytes[1]),
-        count: low(bytes[2]) + 256 * low(bytes[3]),
+        first: u32::from(bytes[0]) + 256 * u32::from(bytes[1]),
+        count: u32::from(bytes[2]) + 256 * u32::from(bytes[3]),
     }
 }
 
@@ -316,12 +252,10 @@ pub fn slot_in(block: &[u8], at: usize) -> Extent
 }
 
 // The slot at a byte of block b.
-fn slot_at<'a>(device: &'a [u8], work: &'a [u8], s: Session, b: DiskBlock, at: usize) -> Extent
-    ensures { Slot (view (state_of s device.now work.now) b.0) at result }
+fn slot_at(copy: &WorkingCopy, b: DiskBlock, at: usize) -> Extent
+    ensures { Slot (working copy.now b.0) at result }
 {
-    let l = s.staged;
-    let n = staged_count(s);
-    slot_in(view_in(device, work, &l[0..n], b), at)
+    slot_in(copy.block(b), at)
 }
 
 // Whether slots are left and the first of them is used.
@@ -332,27 +266,25 @@ pub fn is_live(n: usize, e: Extent) -> bool
 }
 
 // The next extent or node of a tree whose record stands in block tb.
-pub fn next<'a>(device: &'a [u8], work: &'a [u8], s: Session, tb: DiskBlock, cur: Cursor) -> Step
-    ensures { Steps (view (state_of s device.now work.now)) tb.0 cur result }
+pub fn next(copy: &WorkingCopy, tb: DiskBlock, cur: Cursor) -> Step
+    ensures { Steps (working copy.now) tb.0 cur result }
 {
     let at = cur.at;
     let left = cur.left;
-    let e = slot_at(device, work, s, DiskBlock(cur.block), at);
+    let e = slot_at(copy, DiskBlock(cur.block), at);
     if is_live(left, e) {
         return Step::Leaf(
             e,
             Cursor {
-                block: cur.block,
                 at: at + Limits::SLOT_SIZE,
                 left: left - 1,
-                top: cur.top,
-                tops: cur.tops,
+                ..cur
             },
         );
     }
     let top = cur.top;
     let tops = cur.tops;
-    let t = slot_at(device, work, s, tb, top);
+    let t = slot_at(copy, tb, top);
     if is_live(tops, t) {
         return Step::Node(
             DiskBlock(t.first),
@@ -369,11 +301,11 @@ pub fn next<'a>(device: &'a [u8], work: &'a [u8], s: Session, tb: DiskBlock, cur
 }
 
 // The cursor before the first extent of record i.
-pub fn start<'a>(device: &'a [u8], work: &'a [u8], s: Session, i: usize) -> Cursor
+pub fn start(copy: &WorkingCopy, i: usize) -> Cursor
     requires { i < 128 }
-    ensures { result ≡ start_of (view (state_of s device.now work.now)) i }
+    ensures { result ≡ start_of (working copy.now) i }
 {
-    start_at(inode_block(device, work, s, i), i)
+    start_at(inode_block(copy, i), i)
 }
 
 // The same, of the block of the table that holds record i.
@@ -401,4 +333,22 @@ pub fn start_at(table: &[u8], i: usize) -> Cursor
             tops: Limits::SLOTS_PER_INODE,
         }
     }
+}
+
+// "A file of size s has s/512 blocks, rounded up."
+pub fn blocks_for(size: usize) -> usize
+    requires { size < 4294967296 }
+    ensures { (result ≡ blocks_for size) × (result ≤ 8388608) }
+{
+    (size + (Limits::BLOCK_SIZE - 1)) / Limits::BLOCK_SIZE
+}
+
+// "Extent blocks are one for each 128 extents begun, when there are more than 4."
+pub fn nodes_for(extents: usize) -> usize
+    ensures { (result ≡ nodes_for extents) × (128 * result ≤ extents + 127) }
+{
+    if extents <= Limits::SLOTS_PER_INODE {
+        return 0;
+    }
+    (extents - 1) / Limits::SLOTS_PER_NODE + 1
 }

@@ -1,10 +1,10 @@
 // Runs the functions of inode and extents on a small device written by hand: records found, trees walked, blocks and runs of files.
 #![tactic(auto)]
 
-use extents::{Place, RunOf};
-use inode::{Cursor, Found, Step};
+use inode::{Cursor, Step};
 use spec::{DiskBlock, Extent, FileBlock, Limits, Phase, Session};
 use std::io;
+use transaction::{Volume, WorkingCopy};
 
 // Where the table begins, and its second block.
 const TABLE: usize = Limits::BLOCK_SIZE * (Limits::INODE_START as usize);
@@ -22,16 +22,9 @@ fn number(rt: &impl Print, n: u64) -> io::Result<()> {
 
 // Bytes written from a place on, as far as there is room.
 fn put(device: &mut [u8], at: usize, bytes: &[u8]) {
-    let mut to = at;
-    let mut k: usize = 0;
-    while k < bytes.len() {
-        if device.len() <= to {
-            return;
-        }
-        device[to] = bytes[k];
-        to += 1;
-        k += 1;
-    }
+    let from = device.len().min(at);
+    let n = bytes.len().min(device.len() - from);
+    device[from..from + n].copy_from_slice(&bytes[..n]);
 }
 
 // Record 0: 1,500 bytes in blocks 50, 51 and 60. Record 17: an empty file.
@@ -63,53 +56,37 @@ fn fill_deep(device: &mut [u8]) {
     );
 }
 
-fn show_found(rt: &impl Print, f: Found) -> io::Result<()> {
+fn show_found(rt: &impl Print, f: Option<usize>) -> io::Result<()> {
     match f {
-        Found::At(i) => {
+        Some(i) => {
             text(rt, b" record")?;
             number(rt, i as u64)?;
         }
-        Found::Nothing => {
+        None => {
             text(rt, b" nothing")?;
         }
     }
     text(rt, b"\n")
 }
 
-fn show_find<'a>(
-    rt: &impl Print,
-    device: &'a [u8],
-    work: &'a [u8],
-    s: Session,
-    name: &[u8],
-) -> io::Result<()> {
+fn show_find(rt: &impl Print, copy: &WorkingCopy, name: &[u8]) -> io::Result<()> {
     text(rt, b"find ")?;
     text(rt, name)?;
-    let l = s.staged;
-    let n = transaction::staged_count(s);
-    show_found(rt, inode::find(device, work, &l[0..n], name))
+    show_found(rt, inode::find(copy, name))
 }
 
-fn show_empty<'a>(rt: &impl Print, device: &'a [u8], work: &'a [u8], s: Session) -> io::Result<()> {
+fn show_empty(rt: &impl Print, copy: &WorkingCopy) -> io::Result<()> {
     text(rt, b"empty:")?;
-    let l = s.staged;
-    let n = transaction::staged_count(s);
-    show_found(rt, inode::find_empty(device, work, &l[0..n]))
+    show_found(rt, inode::find_empty(copy))
 }
 
-fn show_record<'a>(
-    rt: &impl Print,
-    device: &'a [u8],
-    work: &'a [u8],
-    s: Session,
-    i: usize,
-) -> io::Result<()> {
+fn show_record(rt: &impl Print, copy: &WorkingCopy, i: usize) -> io::Result<()> {
     if 127 < i {
         return Ok(());
     }
     text(rt, b"record")?;
     number(rt, i as u64)?;
-    let table = inode::inode_block(device, work, s, i);
+    let table = inode::inode_block(copy, i);
     text(rt, b": size")?;
     number(rt, inode::size_of(table, i) as u64)?;
     text(rt, b", depth")?;
@@ -132,17 +109,10 @@ fn show_node(rt: &impl Print, b: DiskBlock) -> io::Result<()> {
 }
 
 // The extents and nodes from a cursor on.
-fn walk_from<'a>(
-    rt: &impl Print,
-    device: &'a [u8],
-    work: &'a [u8],
-    s: Session,
-    tb: DiskBlock,
-    cur: Cursor,
-) -> io::Result<()> {
+fn walk_from(rt: &impl Print, copy: &WorkingCopy, tb: DiskBlock, cur: Cursor) -> io::Result<()> {
     let mut at = cur;
     loop {
-        match inode::next(device, work, s, tb, at) {
+        match inode::next(copy, tb, at) {
             Step::Leaf(e, then) => {
                 show_extent(rt, e)?;
                 at = then;
@@ -158,32 +128,19 @@ fn walk_from<'a>(
     }
 }
 
-fn walk<'a>(
-    rt: &impl Print,
-    device: &'a [u8],
-    work: &'a [u8],
-    s: Session,
-    i: usize,
-) -> io::Result<()> {
+fn walk(rt: &impl Print, copy: &WorkingCopy, i: usize) -> io::Result<()> {
     if 127 < i {
         return Ok(());
     }
     text(rt, b"walk of")?;
     number(rt, i as u64)?;
     text(rt, b":")?;
-    let cur = inode::start(device, work, s, i);
-    walk_from(rt, device, work, s, inode::table_block(i), cur)?;
+    let cur = inode::start(copy, i);
+    walk_from(rt, copy, inode::table_block(i), cur)?;
     text(rt, b" end\n")
 }
 
-fn show_block<'a>(
-    rt: &impl Print,
-    device: &'a [u8],
-    work: &'a [u8],
-    s: Session,
-    i: usize,
-    place: usize,
-) -> io::Result<()> {
+fn show_block(rt: &impl Print, copy: &WorkingCopy, i: usize, place: usize) -> io::Result<()> {
     if 127 < i {
         return Ok(());
     }
@@ -192,24 +149,22 @@ fn show_block<'a>(
     text(rt, b" of")?;
     number(rt, i as u64)?;
     text(rt, b":")?;
-    match extents::extent_at(device, work, s, i, FileBlock(place)) {
-        Place::In { extent, skip } => {
-            show_extent(rt, extent)?;
+    match extents::extent_at(copy, i, FileBlock(place)) {
+        Some(found) => {
+            show_extent(rt, found.extent)?;
             text(rt, b" skip")?;
-            number(rt, skip as u64)?;
+            number(rt, found.skip as u64)?;
         }
-        Place::Nothing => {
+        None => {
             text(rt, b" nothing")?;
         }
     }
     text(rt, b"\n")
 }
 
-fn show_run<'a>(
+fn show_run(
     rt: &impl Print,
-    device: &'a [u8],
-    work: &'a [u8],
-    s: Session,
+    copy: &WorkingCopy,
     i: usize,
     from: usize,
     n: usize,
@@ -218,36 +173,30 @@ fn show_run<'a>(
     if 127 < i {
         return Ok(());
     }
-    let l = s.staged;
-    let many = transaction::staged_count(s);
-    match extents::nth_extent(device, work, &l[0..many], i, FileBlock(from), n, k) {
-        RunOf::Run(e) => show_extent(rt, e),
-        RunOf::Nothing => text(rt, b" nothing"),
+    match extents::nth_extent(copy, i, FileBlock(from), n, k) {
+        Some(e) => show_extent(rt, e),
+        None => text(rt, b" nothing"),
     }
 }
 
-fn each_run<'a>(
+fn each_run(
     rt: &impl Print,
-    device: &'a [u8],
-    work: &'a [u8],
-    s: Session,
+    copy: &WorkingCopy,
     i: usize,
     from: usize,
     n: usize,
     many: usize,
 ) -> io::Result<()> {
     for k in 0..many {
-        show_run(rt, device, work, s, i, from, n, k)?;
+        show_run(rt, copy, i, from, n, k)?;
     }
-    show_run(rt, device, work, s, i, from, n, many)
+    show_run(rt, copy, i, from, n, many)
 }
 
 // The runs of n blocks from block `from` on of record i, and one more.
-fn show_runs<'a>(
+fn show_runs(
     rt: &impl Print,
-    device: &'a [u8],
-    work: &'a [u8],
-    s: Session,
+    copy: &WorkingCopy,
     i: usize,
     from: usize,
     n: usize,
@@ -260,70 +209,64 @@ fn show_runs<'a>(
     number(rt, n as u64)?;
     text(rt, b" of")?;
     number(rt, i as u64)?;
-    let l = s.staged;
-    let staged = transaction::staged_count(s);
-    let many = extents::count_runs(device, work, &l[0..staged], i, FileBlock(from), n);
+    let many = extents::count_runs(copy, i, FileBlock(from), n);
     text(rt, b":")?;
     number(rt, many as u64)?;
     text(rt, b" runs")?;
-    each_run(rt, device, work, s, i, from, n, many)?;
+    each_run(rt, copy, i, from, n, many)?;
     text(rt, b"\n")
 }
 
-fn show_all<'a>(rt: &impl Print, device: &'a [u8], work: &'a [u8], s: Session) -> io::Result<()> {
-    show_find(rt, device, work, s, b"alphabet")?;
-    show_find(rt, device, work, s, b"betatest")?;
-    show_find(rt, device, work, s, b"voidfile")?;
-    show_find(rt, device, work, s, b"gammaray")?;
-    show_find(rt, device, work, s, b"alphabe")?;
-    show_empty(rt, device, work, s)?;
-    show_record(rt, device, work, s, 0)?;
-    show_record(rt, device, work, s, 1)?;
-    show_record(rt, device, work, s, 2)?;
-    show_record(rt, device, work, s, 17)?;
-    walk(rt, device, work, s, 0)?;
-    walk(rt, device, work, s, 2)?;
-    walk(rt, device, work, s, 17)
+fn show_all(rt: &impl Print, copy: &WorkingCopy) -> io::Result<()> {
+    show_find(rt, copy, b"alphabet")?;
+    show_find(rt, copy, b"betatest")?;
+    show_find(rt, copy, b"voidfile")?;
+    show_find(rt, copy, b"gammaray")?;
+    show_find(rt, copy, b"alphabe")?;
+    show_empty(rt, copy)?;
+    show_record(rt, copy, 0)?;
+    show_record(rt, copy, 1)?;
+    show_record(rt, copy, 2)?;
+    show_record(rt, copy, 17)?;
+    walk(rt, copy, 0)?;
+    walk(rt, copy, 2)?;
+    walk(rt, copy, 17)
 }
 
-fn show_places<'a>(
-    rt: &impl Print,
-    device: &'a [u8],
-    work: &'a [u8],
-    s: Session,
-) -> io::Result<()> {
-    show_block(rt, device, work, s, 0, 0)?;
-    show_block(rt, device, work, s, 0, 1)?;
-    show_block(rt, device, work, s, 0, 2)?;
-    show_block(rt, device, work, s, 0, 3)?;
-    show_block(rt, device, work, s, 2, 2)?;
-    show_block(rt, device, work, s, 2, 5)?;
-    show_block(rt, device, work, s, 2, Limits::MAX_FILE_BLOCKS - 1)?;
-    show_block(rt, device, work, s, 2, Limits::MAX_FILE_BLOCKS)?;
-    show_block(rt, device, work, s, 17, 0)?;
-    show_runs(rt, device, work, s, 0, 0, 10)?;
-    show_runs(rt, device, work, s, 0, 1, 1)?;
-    show_runs(rt, device, work, s, 2, 0, 8)?;
-    show_runs(rt, device, work, s, 2, 1, 5)?;
-    show_runs(rt, device, work, s, 2, 0, 18446744073709551615)?;
-    show_runs(rt, device, work, s, 2, 5000, 3)?;
-    show_runs(rt, device, work, s, 17, 0, 10)
+fn show_places(rt: &impl Print, copy: &WorkingCopy) -> io::Result<()> {
+    show_block(rt, copy, 0, 0)?;
+    show_block(rt, copy, 0, 1)?;
+    show_block(rt, copy, 0, 2)?;
+    show_block(rt, copy, 0, 3)?;
+    show_block(rt, copy, 2, 2)?;
+    show_block(rt, copy, 2, 5)?;
+    show_block(rt, copy, 2, Limits::MAX_FILE_BLOCKS - 1)?;
+    show_block(rt, copy, 2, Limits::MAX_FILE_BLOCKS)?;
+    show_block(rt, copy, 17, 0)?;
+    show_runs(rt, copy, 0, 0, 10)?;
+    show_runs(rt, copy, 0, 1, 1)?;
+    show_runs(rt, copy, 2, 0, 8)?;
+    show_runs(rt, copy, 2, 1, 5)?;
+    show_runs(rt, copy, 2, 0, 18446744073709551615)?;
+    show_runs(rt, copy, 2, 5000, 3)?;
+    show_runs(rt, copy, 17, 0, 10)
 }
 
 fn main(rt: HostRuntime) -> io::Result<()> {
     let mut device = [0u8; 32768];
     let work = [0u8; Limits::WORK_SIZE];
-    let s = Session::opened(64, Phase::Ready);
     fill_flat(&mut device);
     fill_deep(&mut device);
-    show_all(&rt, &device, &work, s)?;
-    show_places(&rt, &device, &work, s)?;
+    let copy = WorkingCopy::of_device(&device);
+    show_all(&rt, &copy)?;
+    show_places(&rt, &copy)?;
     text(&rt, b"table block 34 staged as zeros\n")?;
-    let t = Session::with_cells(
+    let session = Session::with_cells(
         64,
         Phase::Ready,
         [Limits::INODE_START; Limits::LOG_LENGTH],
         1,
     );
-    show_all(&rt, &device, &work, t)
+    let volume = Volume::of(&device, &work, &session);
+    show_all(&rt, &volume.copy)
 }

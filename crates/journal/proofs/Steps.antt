@@ -1,45 +1,42 @@
 -- What the functions that choose and make a store leave to prove. Assumes nothing.
 use Prim.Native.Nat.{ℕ, zero, suc, ◌+◌, ◌*◌, ◌-◌, ◌<◌, ◌≤◌}
 use mathlib.Core.Path.{◌≡◌, refl, sym, ap, ap₂, ◌∙◌}
-use mathlib.Core.Bool.{Bool, true, false, not, ◌||◌, true≢false}
+use mathlib.Core.Bool.{Bool, true, false, cond, not, ◌||◌, true≢false}
 use mathlib.Core.List.{List, []}
 use mathlib.Core.Option.{Option, none, some}
 use native.Mathlib.Numerals.{add-one}
 use native.Mathlib.Omega.{arith}
 use borrow.Author.Tests.{leb-true, leb-false, ne_eqb}
-use lib.Dec.{leb}
-use lib.ListN.{length, take, get_or, get_elem?, replicate}
-use lib.Seq.{length-take-le, take_all, take-length}
+use lib.Dec.{eqb, leb}
+use lib.ListN.{length, take, drop, get_or, get_elem?, replicate}
+use lib.Seq.{take_all, take-length}
 use Rattle.spec.specs.Bytes.{zeros, patch, bytes2, distinct, place}
-use Rattle.spec.specs.declared.DiskBlock.{DiskBlock}
 use Rattle.spec.specs.Disk.{Slice, blocks_of, slice_of}
-use Rattle.spec.specs.declared.Advanced.{Advanced}
 use Rattle.spec.specs.declared.Phase.{Phase}
 use Rattle.spec.specs.declared.Session.{Session}
-use Rattle.spec.specs.declared.Started.{Started}
-use Rattle.spec.specs.declared.Started.TheVariants as start
-use Rattle.spec.specs.declared.Stored.{Stored}
-use Rattle.spec.specs.declared.Stored.TheVariants as answers
-use Rattle.spec.specs.declared.Stored.TheVariants.{Idle}
+use Rattle.spec.specs.declared.BlockStored.{BlockStored}
+use Rattle.std.specs.Prelude.{Some, Ok}
+use Rattle.std.specs.Prelude.{Option as Optional, Result as Returned}
+use Rattle.std.specs.Option.{unwrap_or}
 use Rattle.spec.specs.Session.{opened, in_phase, staged_in}
 use Rattle.spec.specs.declared.Phase.TheVariants.{Closed, Ready, Committing, Recovering}
-use Rattle.spec.specs.Answers.{idle, started, stored_of, refusal_of, refuse, accept}
+use Rattle.spec.specs.Answers.{idle, started, stored, stored_of, refusal_of, refuse, accept}
 use Rattle.spec.specs.declared.Refusal.{Refusal}
-use Rattle.spec.specs.Transaction.{BlockStore, put, state_of}
+use Rattle.spec.specs.Transaction.{State, BlockStore, put, state_of, with_session}
 use Rattle.spec.specs.Journal.{header_of, targets_in, are_targets, commit_stores, recovery_stores}
-use Rattle.spec.specs.Calls.{Outcome, perform, advance_in, advance, left, lent_ok, ready_ok, start_commit, commit}
+use Rattle.spec.specs.Calls.{Outcome, outcome, perform, advance_in, advance, left, lent_ok, ready_ok, start_commit, commit}
 use Rattle.block.specs.Stores.{stored_in}
 use Rattle.journal.specs.Order.{rank, sorted}
-use Rattle.journal.specs.Entries.{entry_content, Entered, begun_phase, phase_at, last_phase, behind, store_of, Leads, Possible, Told}
+use Rattle.journal.specs.Entries.{entry_content, Entered, begun_phase, behind, store_of, Leads, Possible}
 use Rattle.journal.specs.declared.Entry.{Entry}
-use Rattle.journal.specs.declared.Next.TheVariants as next
+use Rattle.journal.specs.declared.NextStore.{NextStore}
+use Rattle.header.proofs.Loops.{head-targets}
 use Rattle.lists.specs.Members.{member-at}
 use Rattle.lists.specs.Places.{place-lt, place-value, no_place}
-use Rattle.transaction.specs.Places.{found_at}
-use Rattle.transaction.specs.declared.Place.TheVariants as places
+use Rattle.block.specs.Places.{found_at}
 use Rattle.journal.proofs.Order.{Ranked, ranked, sorted-length, sorted-at}
 use Rattle.journal.proofs.Listed.{targets-listed, targets-some, listed_at}
-use Rattle.logs.specs.Header.{length-header, clear-header}
+use Rattle.logs.specs.Header.{clear-header}
 use Rattle.journal.proofs.Header.{header-more}
 use Rattle.journal.proofs.Laws.{at-end, commit-none, commit-length, commit-image, commit-list, commit-target, commit-clearing, recovery-none, recovery-stores, recovery-length, redo, redo-target, redo-clearing}
 
@@ -51,10 +48,6 @@ listing t r = header_of (take r t)
 pub listing_none : (t : List ℕ) → replicate 512 0 ≡ listing t 0
 unfolding listing zeros
 listing_none t = clear-header
-
-pub listing-length : (t q : List ℕ) (r : ℕ) → q ≡ listing t r → length q ≡ 512
-unfolding listing
-listing-length t q r e = ap length e ∙ length-header (take r t)
 
 pub listing-more : (t q : List ℕ) (r : ℕ) → length t ≤ 32 → r < length t → q ≡ listing t r → patch (16 * r) (bytes2 (get_or t r 0)) q ≡ listing t (r + 1)
 unfolding listing
@@ -77,22 +70,19 @@ module _ (l t : List ℕ) (d : ℕ) (differ : distinct l ≡ true) (order : t �
   own_value : get_or t d 0 ≡ get_or l own.at 0
   own_value = ap (λ (x : List ℕ). get_or x d 0) order ∙ ap (λ (m : ℕ). get_or (sorted l) m 0) (sym own.rank) ∙ sorted-at l differ own.at own.inside
 
-  pub image-at : (i : ℕ) → found_at (place (get_or t d 0) l) ≡ places.At i → (i < length l) × (rank (get_or l i 0) l ≡ d)
-  image-at i e = go (place (get_or t d 0) l) refl e
-    where
-      go : (o : Option ℕ) → place (get_or t d 0) l ≡ o → found_at o ≡ places.At i → (i < length l) × (rank (get_or l i 0) l ≡ d)
-      go none q f = let z : ◌≡◌ {A = ℕ} 0 1 = cc in absurd (omega arith)
-      go (some j) q f =
-          let z : j ≡ i = cc in
-          let v : get_or l j 0 ≡ get_or l own.at 0 = place-value (get_or t d 0) j l q ∙ own_value in
-          rw (← z) (place-lt (get_or t d 0) j l q, ap (λ (m : ℕ). rank m l) v ∙ own.rank)
+  -- it is the one at place d where these agree there
+  pub image-here : get_or l d 0 ≡ get_or t d 0 → rank (get_or l d 0) l ≡ d
+  image-here e = ap (λ (m : ℕ). rank m l) (e ∙ own_value) ∙ own.rank
 
-  pub image-found : found_at (place (get_or t d 0) l) ≡ places.Nothing → ⊥
-  image-found e = go (place (get_or t d 0) l) refl e
+  -- and else the one that is found
+  pub image-found : let i = unwrap_or (found_at (place (get_or t d 0) l)) d in (i < length l) × (rank (get_or l i 0) l ≡ d)
+  image-found = go (place (get_or t d 0) l) refl
     where
-      go : (o : Option ℕ) → place (get_or t d 0) l ≡ o → found_at o ≡ places.Nothing → ⊥
-      go none q f = true≢false (sym (rw own_value (member-at l own.at own.inside)) ∙ no_place (get_or t d 0) 0 l q)
-      go (some j) q f = let z : ◌≡◌ {A = ℕ} 0 1 = cc in absurd (omega arith)
+      go : (o : Option ℕ) → place (get_or t d 0) l ≡ o → let i = unwrap_or (found_at o) d in (i < length l) × (rank (get_or l i 0) l ≡ d)
+      go none q = absurd (true≢false (sym (rw own_value (member-at l own.at own.inside)) ∙ no_place (get_or t d 0) 0 l q))
+      go (some j) q =
+          let v : get_or l j 0 ≡ get_or l own.at 0 = place-value (get_or t d 0) j l q ∙ own_value in
+          (place-lt (get_or t d 0) j l q, ap (λ (m : ℕ). rank m l) v ∙ own.rank)
 
 -- ---- entries of a commit
 
@@ -167,16 +157,16 @@ module _ (l : List ℕ) (d N : ℕ) (listed : are_targets N l ≡ true) where
 pub made : (v w : Slice) (b : ℕ) (x y : List ℕ) → v ≡ stored_in w b x → x ≡ y → v ≡ stored_in w b y
 made v w b x y e q = e ∙ ap (stored_in w b) q
 
--- the first k cells of an array are the k targets
+-- k targets
 pub record Held (l : List ℕ) (k : ℕ) (bs : List ℕ) : Type 0 where
   pub list : l ≡ bs
   pub count : k ≡ length l
   pub few : k ≤ 32
 
-pub held_by : (cells : List ℕ) (k : ℕ) (bs : List ℕ) → length cells ≡ 32 → k ≤ 32 → take k cells ≡ bs → Held (take (k - 0) cells) k bs
-held_by cells k bs full few e =
-    let z : k - 0 ≡ k = omega arith in
-    rw z (record { list = e; count = sym (length-take-le k cells (omega arith)); few = few })
+-- the targets that the code reads
+pub held_by : (device head : List ℕ) (t l : List ℕ) → head ≡ take 512 (drop (512 * 0) device) → t ≡ targets_in head → l ≡ t → length l ≤ 32
+    → Held l (length l) (targets_in (blocks_of device 0))
+held_by device head t l e f g few = record { list = g ∙ f ∙ head-targets device head e; count = refl; few = few }
 
 -- the code's test: are the targets such as a log may list, and is d one of n places?
 goes : (a : Bool) (n d : ℕ) → (not a || leb n d) ≡ false → (a ≡ true) × (d < n)
@@ -189,16 +179,17 @@ module _ (s : Session) (device work : List ℕ) (stores : List BlockStore) (a : 
   abbrev performed : Outcome
   performed = perform (state_of s device work) stores d (in_phase s (phase (suc d))) (opened s.blocks done)
 
-  step-idle : (r : Advanced) → (not a || leb n d) ≡ true → (r.session ≡ s) × (r.answer ≡ Idle) → left r.session device work (stored_of r.answer) ≡ performed
-  step-idle r q e = rw (e.0, e.1, at-end stores d (over a refl q))
+  step-idle : (not a || leb n d) ≡ true → left s device work idle ≡ performed
+  step-idle q = rw (at-end stores d (over a refl q))
     where
       over : (t : Bool) → a ≡ t → (not t || leb n d) ≡ true → length stores ≤ d
       over false p h = rw (none p) (omega arith)
       over true p h = rw (all p) (leb-true n d h)
 
-  step-stored : (r : Advanced) (b : ℕ) (x after : List ℕ) → (not a || leb n d) ≡ false → get_elem? stores d ≡ some (put b x)
-      → slice_of after ≡ stored_in (slice_of device) b x → Told s b d n (phase (d + 1)) done r → left r.session after work (stored_of r.answer) ≡ performed
-  step-stored r b x after q e g t = rw (t.session, t.answer, e, g, all (goes a n d q).0, add-one d)
+  step-stored : (b : ℕ) (x after : List ℕ) → (not a || leb n d) ≡ false → get_elem? stores d ≡ some (put b x)
+      → slice_of after ≡ stored_in (slice_of device) b x
+      → left (cond (eqb (d + 1) n) (opened s.blocks done) (in_phase s (phase (d + 1)))) after work (stored b (eqb (d + 1) n) (d + 1)) ≡ performed
+  step-stored b x after q e g = rw (e, g, all (goes a n d q).0, add-one d)
 
 module _ (s : Session) (d k : ℕ) (l : List ℕ) (a : Bool) (test : a ≡ are_targets s.blocks l) (h : Held l k (staged_in s)) where
   may : are_targets s.blocks (staged_in s) ≡ a
@@ -214,14 +205,13 @@ module _ (s : Session) (d k : ℕ) (l : List ℕ) (a : Bool) (test : a ≡ are_t
     commits-length : a ≡ true → length commits ≡ 2 * k + 2
     commits-length e = commit-length (state_of s device work) (may ∙ e) ∙ ap (λ (n : ℕ). 2 * n + 2) (sym (h.count ∙ ap length h.list))
 
-    pub commit-idle : (r : Advanced) → (not a || leb (2 * k + 2) d) ≡ true → (r.session ≡ s) × (r.answer ≡ Idle)
-        → left r.session device work (stored_of r.answer) ≡ advance_in (state_of s device work) (Committing d)
+    pub commit-idle : (not a || leb (2 * k + 2) d) ≡ true → left s device work idle ≡ advance_in (state_of s device work) (Committing d)
     unfolding advance_in
     commit-idle = step-idle s device work commits a (2 * k + 2) d commits-none commits-length Committing Ready
 
-    pub commit-stored : (r : Advanced) (b : ℕ) (x after : List ℕ) → (not a || leb (2 * k + 2) d) ≡ false → get_elem? commits d ≡ some (put b x)
-        → slice_of after ≡ stored_in (slice_of device) b x → Told s b d (2 * k + 2) (Committing (d + 1)) Ready r
-        → left r.session after work (stored_of r.answer) ≡ advance_in (state_of s device work) (Committing d)
+    pub commit-stored : (b : ℕ) (x after : List ℕ) → (not a || leb (2 * k + 2) d) ≡ false → get_elem? commits d ≡ some (put b x)
+        → slice_of after ≡ stored_in (slice_of device) b x
+        → left (behind (Committing d) s (Ok (Some (store_of b d (2 * k + 2))))) after work (stored b (eqb (d + 1) (2 * k + 2)) (d + 1)) ≡ advance_in (state_of s device work) (Committing d)
     unfolding advance_in
     commit-stored = step-stored s device work commits a (2 * k + 2) d commits-none commits-length Committing Ready
 
@@ -239,14 +229,13 @@ module _ (s : Session) (d k : ℕ) (l : List ℕ) (a : Bool) (test : a ≡ are_t
   recoveries-length e = recovery-length s.blocks (blocks_of device) (can ∙ e) ∙ ap (λ (n : ℕ). n + 1) (sym (h.count ∙ ap length h.list))
 
   module _ (work : List ℕ) where
-    pub recovery-idle : (r : Advanced) → (not a || leb (k + 1) d) ≡ true → (r.session ≡ s) × (r.answer ≡ Idle)
-        → left r.session device work (stored_of r.answer) ≡ advance_in (state_of s device work) (Recovering d)
+    pub recovery-idle : (not a || leb (k + 1) d) ≡ true → left s device work idle ≡ advance_in (state_of s device work) (Recovering d)
     unfolding advance_in
     recovery-idle = step-idle s device work recoveries a (k + 1) d recoveries-none recoveries-length Recovering Closed
 
-    pub recovery-stored : (r : Advanced) (b : ℕ) (x after : List ℕ) → (not a || leb (k + 1) d) ≡ false → get_elem? recoveries d ≡ some (put b x)
-        → slice_of after ≡ stored_in (slice_of device) b x → Told s b d (k + 1) (Recovering (d + 1)) Closed r
-        → left r.session after work (stored_of r.answer) ≡ advance_in (state_of s device work) (Recovering d)
+    pub recovery-stored : (b : ℕ) (x after : List ℕ) → (not a || leb (k + 1) d) ≡ false → get_elem? recoveries d ≡ some (put b x)
+        → slice_of after ≡ stored_in (slice_of device) b x
+        → left (behind (Recovering d) s (Ok (Some (store_of b d (k + 1))))) after work (stored b (eqb (d + 1) (k + 1)) (d + 1)) ≡ advance_in (state_of s device work) (Recovering d)
     unfolding advance_in
     recovery-stored = step-stored s device work recoveries a (k + 1) d recoveries-none recoveries-length Recovering Closed
 
@@ -292,7 +281,7 @@ module _ (N : ℕ) (l : List ℕ) (few : length l ≤ 32) (d : ℕ) (a : Bool) (
   pub commit-nothing : (not a || leb end d) ≡ true
       → ((s : Session) (device work : List ℕ) → s.blocks ≡ N → staged_in s ≡ l → left s device work idle ≡ advance_in (state_of s device work) (Committing d)) × Unit {0}
   commit-nothing q =
-      (λ s device work e f. commit-idle s d (length l) l a (listed_in s e) (holds s f) device work (record { session = s; answer = Idle }) q (refl, refl), tt)
+      (λ s device work e f. commit-idle s d (length l) l a (listed_in s e) (holds s f) device work q, tt)
 
   module _ (q : (not a || leb end d) ≡ false) (x : Entry) (g : (s : Session) → staged_in s ≡ l → are_targets s.blocks l ≡ true → Entered s d l x) where
     abbrev b : ℕ
@@ -301,13 +290,15 @@ module _ (N : ℕ) (l : List ℕ) (few : length l ≤ 32) (d : ℕ) (a : Bool) (
     may-go : (are_targets N l ≡ true) × (d < end)
     may-go = passes N end d l a t q
 
-    pub commit-goes : ((s : Session) (device work : List ℕ) → s.blocks ≡ N → staged_in s ≡ l → Leads s l device work (Committing d) (next.Store x d end)) × Possible l (512 * N) (next.Store x d end)
+    abbrev due : Optional NextStore
+    due = Some (record { entry = x; place = d; end = end })
+
+    pub commit-goes : ((s : Session) (device work : List ℕ) → s.blocks ≡ N → staged_in s ≡ l → Leads s l device work (Committing d) due) × Possible l (512 * N) due
     commit-goes =
         let w = with_blocks N l in
         let z = g (session_with N l) (with-staged N l) (ap (λ (M : ℕ). are_targets M l) w ∙ may-go.0) in (
-          λ s device work e f after h. commit-stored s d (length l) l a (listed_in s e) (holds s f) device work
-              (record { session = behind (Committing d) s (store_of b d end); answer = store_of b d end }) b (entry_content l device work x.source) after q
-              ((g s f (ap (λ (M : ℕ). are_targets M l) e ∙ may-go.0)).2 device work) h (record { session = refl; answer = refl }),
+          λ s device work e f after h. commit-stored s d (length l) l a (listed_in s e) (holds s f) device work b (entry_content l device work x.source) after q
+              ((g s f (ap (λ (M : ℕ). are_targets M l) e ∙ may-go.0)).2 device work) h,
           (omega (arith, z.0, w), z.1, may-go.1),
         )
 
@@ -318,7 +309,7 @@ module _ (N : ℕ) (device : List ℕ) (d k : ℕ) (l : List ℕ) (h : Held l k 
   pub recovery-nothing : (not a || leb (k + 1) d) ≡ true
       → ((s : Session) (bs work : List ℕ) → s.blocks ≡ N → left s device work idle ≡ advance_in (state_of s device work) (Recovering d)) × ((bs : List ℕ) → Unit {0})
   recovery-nothing q =
-      (λ s bs work e. recovery-idle s d k l a (here s e) device h work (record { session = s; answer = Idle }) q (refl, refl), λ bs. tt)
+      (λ s bs work e. recovery-idle s d k l a (here s e) device h work q, λ bs. tt)
 
   module _ (q : (not a || leb (k + 1) d) ≡ false) where
     goes_on : (are_targets N l ≡ true) × (d < k + 1)
@@ -327,17 +318,18 @@ module _ (N : ℕ) (device : List ℕ) (d k : ℕ) (l : List ℕ) (h : Held l k 
     lists : (s : Session) → s.blocks ≡ N → are_targets s.blocks l ≡ true
     lists s e = ap (λ (M : ℕ). are_targets M l) e ∙ goes_on.0
 
+    abbrev told : ℕ → Returned (Optional BlockStored) Refusal
+    told b = Ok (Some (store_of b d (k + 1)))
+
     stores : (b : ℕ) (x : List ℕ) → ((M : ℕ) → are_targets M l ≡ true → get_elem? (recovery_stores M (blocks_of device)) d ≡ some (put b x))
         → (s : Session) (work : List ℕ) → s.blocks ≡ N → (after : List ℕ) → slice_of after ≡ stored_in (slice_of device) b x
-        → left (behind (Recovering d) s (store_of b d (k + 1))) after work (stored_of (store_of b d (k + 1))) ≡ advance_in (state_of s device work) (Recovering d)
-    stores b x g s work e after f =
-        recovery-stored s d k l a (here s e) device h work (record { session = behind (Recovering d) s (store_of b d (k + 1)); answer = store_of b d (k + 1) }) b x after q
-        (g s.blocks (lists s e)) f (record { session = refl; answer = refl })
+        → left (behind (Recovering d) s (told b)) after work (stored_of (told b)) ≡ advance_in (state_of s device work) (Recovering d)
+    stores b x g s work e after f = recovery-stored s d k l a (here s e) device h work b x after q (g s.blocks (lists s e)) f
 
     pub recovery-target : d < k
         → let b = get_or l d 0 in
         ((s : Session) (bs work : List ℕ) → s.blocks ≡ N → (after : List ℕ) → slice_of after ≡ stored_in (slice_of device) b (blocks_of device (d + 1))
-        → left (behind (Recovering d) s (store_of b d (k + 1))) after work (stored_of (store_of b d (k + 1))) ≡ advance_in (state_of s device work) (Recovering d))
+        → left (behind (Recovering d) s (told b)) after work (stored_of (told b)) ≡ advance_in (state_of s device work) (Recovering d))
         × ((bs : List ℕ) → (512 * b + 512 ≤ 512 * N) × (d + 1 < b) × (d < k + 1))
     recovery-target m =
         let i : d < length l = omega (arith, h.count) in
@@ -348,22 +340,13 @@ module _ (N : ℕ) (device : List ℕ) (d k : ℕ) (l : List ℕ) (h : Held l k 
 
     pub recovery-clearing : k ≤ d
         → ((s : Session) (bs work : List ℕ) → s.blocks ≡ N → (after : List ℕ) → slice_of after ≡ stored_in (slice_of device) 0 (zeros 512)
-        → left (behind (Recovering d) s (store_of 0 d (k + 1))) after work (stored_of (store_of 0 d (k + 1))) ≡ advance_in (state_of s device work) (Recovering d))
+        → left (behind (Recovering d) s (told 0)) after work (stored_of (told 0)) ≡ advance_in (state_of s device work) (Recovering d))
         × ((bs : List ℕ) → (512 * 0 + 512 ≤ 512 * N) × Unit {0} × (d < k + 1))
     recovery-clearing m =
         let i : d ≡ length l = omega (arith, h.count, goes_on.1) in (
           λ s bs work. stores 0 (zeros 512) (λ M y. (entry-redone l d M y i).1 device work h.list) s work,
           λ bs. (omega (arith, (entry-redone l d N goes_on.0 i).0), tt, goes_on.1),
         )
-
--- ---- the session behind a store
-
-module _ (p : Phase) (s : Session) (b : DiskBlock) (n : ℕ) (last : Bool) (a : Stored) (f : a ≡ answers.Stored b last n) where
-  pub behind-last : last ≡ true → opened s.blocks (last_phase p) ≡ behind p s a
-  behind-last e = rw (f, e)
-
-  pub behind-next : last ≡ false → in_phase s (phase_at p n) ≡ behind p s a
-  behind-next e = rw (f, e)
 
 -- ---- the call
 
@@ -378,26 +361,20 @@ module _ (s : Session) (d w : List ℕ) where
 
 -- ---- a commit begins
 
-pub begun-next : (p : Phase) (a : Started) (n : ℕ) → a ≡ start.Stores n → (n ≡ 0 → ⊥) → Committing 0 ≡ begun_phase p a
-begun-next p a n e h = rw (e, ne_eqb n 0 h)
-
-module _ (s : Session) (d w : List ℕ) (p : Phase) (at : s.phase ≡ p) where
-  stays : in_phase s p ≡ s
-  stays = ap (in_phase s) (sym at)
-
-  pub commit-bad : (r : Refusal) → refuse r ≡ ready_ok (state_of s d w) → left (in_phase s p) d w (refusal_of r) ≡ commit (state_of s d w)
+module _ (s : State) where
+  pub commit-bad : (r : Refusal) → refuse r ≡ ready_ok s → outcome s (refusal_of r) ≡ commit s
   unfolding commit
-  commit-bad r e = rw (stays, ← e)
+  commit-bad r e = rw (← e)
 
-  pub commit-empty : (k : ℕ) → accept true ≡ ready_ok (state_of s d w) → k ≡ length (staged_in s) → k ≡ 0 → left (in_phase s p) d w (started 0) ≡ commit (state_of s d w)
+  pub commit-empty : (k : ℕ) → accept true ≡ ready_ok s → k ≡ length (staged_in s.session) → k ≡ 0 → outcome s (started 0) ≡ commit s
   unfolding commit
-  commit-empty k e q z = rw (stays, ← e, ← q, z)
+  commit-empty k e q z = rw (← e, ← q, z)
 
-  begun : (n k : ℕ) → n ≡ k → (k ≡ 0 → ⊥) → left (in_phase s (begun_phase p (start.Stores (2 * k + 2)))) d w (started (2 * k + 2)) ≡ start_commit (state_of s d w) n
+  begun : (n k : ℕ) → n ≡ k → (k ≡ 0 → ⊥) → outcome (with_session s (in_phase s.session (begun_phase s.session.phase (Ok (2 * k + 2))))) (started (2 * k + 2)) ≡ start_commit s n
   begun zero k q h = absurd (h (sym q))
   begun (suc n) k q h = rw (← q, ne_eqb (2 * suc n + 2) 0 (λ e. omega arith))
 
-  pub commit-begun : (k : ℕ) → accept true ≡ ready_ok (state_of s d w) → k ≡ length (staged_in s) → (k ≡ 0 → ⊥)
-      → left (in_phase s (begun_phase p (start.Stores (2 * k + 2)))) d w (started (2 * k + 2)) ≡ commit (state_of s d w)
+  pub commit-begun : (k : ℕ) → accept true ≡ ready_ok s → k ≡ length (staged_in s.session) → (k ≡ 0 → ⊥)
+      → outcome (with_session s (in_phase s.session (begun_phase s.session.phase (Ok (2 * k + 2))))) (started (2 * k + 2)) ≡ commit s
   unfolding commit
-  commit-begun k e q h = rw (← e) (begun (length (staged_in s)) k (sym q) h)
+  commit-begun k e q h = rw (← e) (begun (length (staged_in s.session)) k (sym q) h)

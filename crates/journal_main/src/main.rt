@@ -3,8 +3,7 @@
 
 ghost use Rattle.std.specs.Prelude.{◌<◌};
 
-use header::Fault;
-use spec::{Advanced, DiskBlock, Limits, Phase, Session, Stored};
+use spec::{Answered, BlockStored, DiskBlock, Limits, Phase, Refusal, Session};
 use std::io;
 use trial::{number, stage};
 
@@ -17,18 +16,18 @@ fn end_line(rt: &impl Print) -> io::Result<()> {
 // The lowest wrong record, how many targets are listed, and whether a log may list them, on a device of 64 blocks.
 fn show_header(rt: &impl Print, head: &[u8]) -> io::Result<()> {
     match header::header_fault(64, head) {
-        Fault::At(i) => {
+        Some(i) => {
             rt.write_all(b"wrong")?;
-            number(rt, i as u64)?;
+            number(rt, i)?;
         }
-        Fault::Nothing => {
+        None => {
             rt.write_all(b"right")?;
         }
     }
     let t = header::targets_in(head);
     rt.write_all(b", targets")?;
-    number(rt, t.count as u64)?;
-    if header::are_targets(64, t) {
+    number(rt, t.len())?;
+    if t.are_targets(64) {
         rt.write_all(b" as a log may list")?;
     }
     end_line(rt)
@@ -73,24 +72,20 @@ fn headers(rt: &impl Print) -> io::Result<()> {
 
 // ---- stores
 
-fn show_answer(rt: &impl Print, a: Stored) -> io::Result<()> {
+fn show_answer(rt: &impl Print, a: Result<Option<BlockStored>, Refusal>) -> io::Result<()> {
     match a {
-        Stored::Refused(_) => rt.write_all(b"refused"),
-        Stored::Stored {
-            block,
-            last,
-            number,
-        } => show_store(rt, block, last, number),
-        Stored::Idle => rt.write_all(b"idle"),
+        Err(_) => rt.write_all(b"refused"),
+        Ok(Some(stored)) => show_store(rt, stored),
+        Ok(None) => rt.write_all(b"idle"),
     }
 }
 
-fn show_store(rt: &impl Print, block: DiskBlock, last: bool, place: usize) -> io::Result<()> {
+fn show_store(rt: &impl Print, stored: BlockStored) -> io::Result<()> {
     rt.write_all(b"store")?;
-    number(rt, place as u64)?;
+    number(rt, stored.number)?;
     rt.write_all(b" to")?;
-    number(rt, block.0 as u64)?;
-    if last {
+    number(rt, stored.block.0)?;
+    if stored.last {
         rt.write_all(b" last")?;
     }
     Ok(())
@@ -107,44 +102,44 @@ fn show_session(rt: &impl Print, s: Session) -> io::Result<()> {
         }
         Phase::Committing(d) => {
             rt.write_all(b", committing")?;
-            number(rt, d as u64)?;
+            number(rt, d)?;
         }
         Phase::Recovering(d) => {
             rt.write_all(b", recovering")?;
-            number(rt, d as u64)?;
+            number(rt, d)?;
         }
     }
     rt.write_all(b", staged")?;
-    number(rt, transaction::staged_count(s) as u64)
+    number(rt, transaction::staged_count(s))
 }
 
 // The first targets of the header, and the first bytes of some blocks.
 fn show_device(rt: &impl Print, device: &[u8]) -> io::Result<()> {
     rt.write_all(b", header")?;
-    number(rt, block::load2(device, 0) as u64)?;
-    number(rt, block::load2(device, 16) as u64)?;
-    number(rt, block::load2(device, 32) as u64)?;
-    number(rt, block::load2(device, 48) as u64)?;
+    number(rt, block::load2(device, 0))?;
+    number(rt, block::load2(device, 16))?;
+    number(rt, block::load2(device, 32))?;
+    number(rt, block::load2(device, 48))?;
     rt.write_all(b", log")?;
-    number(rt, block::load(device, Limits::BLOCK_SIZE * 1) as u64)?;
-    number(rt, block::load(device, Limits::BLOCK_SIZE * 2) as u64)?;
-    number(rt, block::load(device, Limits::BLOCK_SIZE * 3) as u64)?;
+    number(rt, block::load(device, Limits::BLOCK_SIZE * 1))?;
+    number(rt, block::load(device, Limits::BLOCK_SIZE * 2))?;
+    number(rt, block::load(device, Limits::BLOCK_SIZE * 3))?;
     rt.write_all(b", 33 34 63:")?;
-    number(rt, block::load(device, Limits::BLOCK_SIZE * 33) as u64)?;
-    number(rt, block::load(device, Limits::BLOCK_SIZE * 34) as u64)?;
-    number(rt, block::load(device, Limits::BLOCK_SIZE * 63) as u64)?;
+    number(rt, block::load(device, Limits::BLOCK_SIZE * 33))?;
+    number(rt, block::load(device, Limits::BLOCK_SIZE * 34))?;
+    number(rt, block::load(device, Limits::BLOCK_SIZE * 63))?;
     end_line(rt)
 }
 
-fn idle(s: Session) -> Advanced {
-    Advanced {
-        session: s,
-        answer: Stored::Idle,
+fn idle(session: Session) -> Answered<Option<BlockStored>> {
+    Answered {
+        session,
+        answer: Ok(None),
     }
 }
 
 // The next store of what is under way.
-fn advance(device: &mut [u8], work: &[u8], s: Session) -> Advanced {
+fn advance(device: &mut [u8], work: &[u8], s: Session) -> Answered<Option<BlockStored>> {
     let blocks = s.blocks;
     if blocks != 64 {
         return idle(s);
@@ -156,10 +151,9 @@ fn advance(device: &mut [u8], work: &[u8], s: Session) -> Advanced {
     let l = s.staged;
     let n = transaction::staged_count(s);
     let answer = journal::advance_in(device, work, blocks, p, &l[0..n]);
-    let next = journal::after(p, s, answer);
-    Advanced {
-        session: next,
-        answer: answer,
+    Answered {
+        session: journal::after(p, s, answer),
+        answer,
     }
 }
 
@@ -171,15 +165,12 @@ fn run(
     steps: usize,
 ) -> io::Result<()> {
     let mut t = s;
-    let mut i: usize = 0;
-    while i < steps {
+    for _ in 0..steps {
         let r = advance(device, work, t);
-        let a = r.answer;
-        show_answer(rt, a)?;
+        show_answer(rt, r.answer)?;
         t = r.session;
         show_session(rt, t)?;
         show_device(rt, device)?;
-        i += 1;
     }
     Ok(())
 }

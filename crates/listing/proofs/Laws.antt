@@ -4,13 +4,13 @@ use mathlib.Core.Path.{◌≡◌, refl, sym, ap, ap₂, ◌∙◌}
 use mathlib.Core.Bool.{Bool, true, false, cond, not}
 use mathlib.Core.List.{List, [], ◌∷◌, ◌++◌, map}
 use native.Mathlib.Omega.{arith}
+use mir.Val.{bool_byte}
 use borrow.Author.Tests.{lt-ltb, le-ltb}
 use lib.ListN.{length, take, drop, length-append, length-take, length-drop}
 use lib.Seq.{take_all}
 use Rattle.spec.specs.declared.Extent.{Extent}
 use Rattle.spec.specs.declared.Session.{Session}
-use Rattle.spec.specs.declared.Done.{Done}
-use Rattle.spec.specs.declared.Done.TheVariants as done-cases
+use Rattle.std.specs.Prelude.{Result as Returned, Ok, Err}
 use Rattle.spec.specs.declared.Phase.{Phase}
 use Rattle.spec.specs.declared.Phase.TheVariants.{Closed, Ready, Committing, Recovering}
 use Rattle.spec.specs.declared.Refusal.{Refusal}
@@ -19,20 +19,20 @@ use Rattle.spec.specs.Bytes.{exactly, all_zero, concat, keep, up_from}
 use Rattle.spec.specs.Disk.{Disk, blocks_of}
 use Rattle.spec.specs.Bitmap.{bits_of, free_bits}
 use Rattle.spec.specs.Inode.{Inode, inode_of, inode_at, name_at, is_empty, block_of_inode, blocks_in, extents_of, data_of, runs}
-use Rattle.spec.specs.Session.{never_opened, staged_in}
-use Rattle.spec.specs.Answers.{done_of, refusal_of}
-use Rattle.spec.specs.Transaction.{State, view, state_of}
+use Rattle.spec.specs.Session.{never_opened}
+use Rattle.spec.specs.Answers.{done_of, refusal_of, refusal_number}
+use Rattle.spec.specs.Transaction.{state_of}
 use Rattle.spec.specs.Journal.{targets_in}
-use Rattle.spec.specs.Calls.{Outcome, left, open_store, runs_of}
+use Rattle.spec.specs.Calls.{Outcome, left, open_store}
 use Rattle.spec.specs.Listing.{files_word, free_word, refused_word, recover_word, hexadecimal, extents_text, line_at, opened_text, outcome_text, text_of, listing}
 use Rattle.inode.specs.Records.{record_in}
 use Rattle.inode.proofs.Laws.{record-at, inode-at, empty-at}
 use Rattle.extents.specs.declared.Growing.{Growing}
-use Rattle.extents.specs.Stretches.{rest_runs, NextRun}
-use Rattle.extents.proofs.Laws.{Begun}
+use Rattle.extents.specs.Stretches.{rest_runs, runs_in, NextRun}
+use Rattle.extents.proofs.Laws.{BegunIn}
 use Rattle.text.specs.Written.{number, Written}
 use Rattle.text.proofs.Laws.{laid-front}
-use Rattle.listing.specs.Steps.{span_text, more_text, runs_text, line_text, used_from, lines_text, files_lines, told_text, refused_line, recover_line, opened_lines, device_text, number_of, Listed}
+use Rattle.listing.specs.Steps.{span_text, more_text, runs_text, line_text, used_from, lines_text, files_lines, told_text, refused_line, recover_line, opened_lines, device_text, Listed}
 
 -- ---- extents
 
@@ -60,9 +60,9 @@ pub few-blocks : (v : Disk) (i : ℕ) → length (data_of v (inode_at v i)) ≤ 
 unfolding data_of
 few-blocks v i = omega (arith, length-take 2048 (blocks_in (extents_of v (inode_at v i))))
 
-all_runs : (s : State) (i : ℕ) → runs_of s i 0 2048 ≡ runs (data_of (view s) (inode_at (view s) i))
-unfolding runs_of
-all_runs s i = ap runs (take_all 2048 (data_of (view s) (inode_at (view s) i)) (few-blocks (view s) i))
+all_runs : (v : Disk) (i : ℕ) → runs_in v i 0 2048 ≡ runs (data_of v (inode_at v i))
+unfolding runs_in
+all_runs v i = ap runs (take_all 2048 (data_of v (inode_at v i)) (few-blocks v i))
 
 pub runs-some : (v : Disk) (i : ℕ) (e : Extent) (es : List Extent) → runs (data_of v (inode_at v i)) ≡ e ∷ es → runs_text v i ≡ span_text e ++ more_text es
 unfolding runs_text span_text more_text
@@ -72,12 +72,12 @@ pub runs_none : (v : Disk) (i : ℕ) → runs (data_of v (inode_at v i)) ≡ [] 
 unfolding runs_text
 runs_none v i h = ap extents_text h
 
-module _ (s : State) (i tb : ℕ) (g : Growing) (b : Begun s i 0 2048 tb g) where
-  pub text-run : (e : Extent) (d : Growing) → NextRun (view s) tb g e d → span_text e ++ more_text (rest_runs (view s) tb d) ≡ runs_text (view s) i
-  text-run e d n = sym (runs-some (view s) i e (rest_runs (view s) tb d) (sym (all_runs s i) ∙ sym b.runs ∙ n.runs))
+module _ (v : Disk) (i tb : ℕ) (g : Growing) (b : BegunIn v i 0 2048 tb g) where
+  pub text-run : (e : Extent) (d : Growing) → NextRun v tb g e d → span_text e ++ more_text (rest_runs v tb d) ≡ runs_text v i
+  text-run e d n = sym (runs-some v i e (rest_runs v tb d) (sym (all_runs v i) ∙ sym b.runs ∙ n.runs))
 
-  pub text-none : rest_runs (view s) tb g ≡ [] → 45 ∷ [] ≡ runs_text (view s) i
-  text-none n = sym (runs_none (view s) i (sym (all_runs s i) ∙ sym b.runs ∙ n))
+  pub text-none : rest_runs v tb g ≡ [] → 45 ∷ [] ≡ runs_text v i
+  text-none n = sym (runs_none v i (sym (all_runs v i) ∙ sym b.runs ∙ n))
 
 -- ---- lines
 
@@ -98,11 +98,13 @@ module _ (v : Disk) (i : ℕ) (table : List ℕ) (g : exactly 512 table ≡ v (b
       (n ∙ ap (take 8) (record-at v table i g)) (z ∙ ap (λ (x : Inode). x.size) (inode-at v table i g))
       ∙ line-used v i (sym (empty-at v table i g) ∙ e)
 
-  pub file-none : all_zero (take 8 (record_in table i)) ≡ true → ◌≡◌ {A = ℕ} 0 (cond (is_empty v i) 0 1)
-  file-none e = let z : is_empty v i ≡ true = sym (empty-at v table i g) ∙ e in rw z
+  pub used-is : not (all_zero (take 8 (record_in table i))) ≡ not (is_empty v i)
+  used-is = ap not (empty-at v table i g)
 
-  pub file-one : all_zero (take 8 (record_in table i)) ≡ false → ◌≡◌ {A = ℕ} 1 (cond (is_empty v i) 0 1)
-  file-one e = let z : is_empty v i ≡ false = sym (empty-at v table i g) ∙ e in rw z
+-- what the code counts of it
+pub one-if : (r t : Bool) → r ≡ not t → bool_byte r ≡ cond t 0 1
+one-if r true e = rw e
+one-if r false e = rw e
 
 -- one record, and the n behind it
 module _ (v : Disk) (i n : ℕ) where
@@ -170,33 +172,15 @@ pub told_is : (word : List ℕ) (n : ℕ) → word ++ (number n ++ (10 ∷ [])) 
 unfolding told_text
 told_is word n = refl
 
-pub refused-is : (n : ℕ) → told_text refused_word n ≡ refused_line n
+pub refused-is : (r : Refusal) → told_text refused_word (refusal_number (refusal_of r)) ≡ refused_line r
 unfolding told_text number refused_line
-refused-is n = refl
+refused-is r = refl
 
 pub recover-is : (d : Disk) (n : ℕ) → n ≡ length (targets_in (d 0)) → told_text recover_word n ≡ recover_line d
 unfolding told_text number recover_line
 recover-is d n e = ap (λ (k : ℕ). told_text recover_word k) e
 
 -- ---- open
-
--- with nothing staged the working copy is the device
-view-none : (d w : List ℕ) → view (state_of never_opened d w) ≡ blocks_of d
-unfolding view staged_in
-view-none d w = refl
-
-module _ (d : List ℕ) (p : Phase) where
-  pub opened-closed : p ≡ Closed → [] ≡ opened_lines (blocks_of d) p
-  opened-closed e = rw e
-
-  pub opened-committing : (k : ℕ) → p ≡ Committing k → [] ≡ opened_lines (blocks_of d) p
-  opened-committing k e = rw e
-
-  pub opened-ready : (s : Session) → s ≡ never_opened → p ≡ Ready → files_lines (view (state_of s d d)) ≡ opened_lines (blocks_of d) p
-  opened-ready s q e = rw (e, q) (ap files_lines (view-none d d))
-
-  pub opened-recovering : (k : ℕ) → p ≡ Recovering k → recover_line (blocks_of d) ≡ opened_lines (blocks_of d) p
-  opened-recovering k e = rw e
 
 pub opened-text : (d : Disk) (p : Phase) → opened_lines d p ≡ opened_text d p
 unfolding files_lines recover_line
@@ -205,7 +189,7 @@ opened-text d Ready = refl
 opened-text d (Committing k) = refl
 opened-text d (Recovering k) = refl
 
-pub refused-text : (d : Disk) (p : Phase) (r : Refusal) → refused_line (number_of r) ≡ outcome_text d p (refusal_of r)
+pub refused-text : (d : Disk) (p : Phase) (r : Refusal) → refused_line r ≡ outcome_text d p (refusal_of r)
 unfolding refused_line
 refused-text d p DeviceSize = refl
 refused-text d p WorkSize = refl
@@ -222,7 +206,7 @@ refused-text d p TooManyExtents = refl
 refused-text d p TooManyStaged = refl
 refused-text d p ListShort = refl
 
-pub text-long : (d : List ℕ) → 65536 < length d → refused_line 1 ≡ listing d
+pub text-long : (d : List ℕ) → 65536 < length d → refused_line DeviceSize ≡ listing d
 unfolding text_of refused_line
 text-long d h = rw (lt-ltb 65536 (length d) h)
 
@@ -237,15 +221,15 @@ device-text d o e = rw e
 pub text-short : (d : List ℕ) (o : Outcome) → length d ≤ 65536 → o ≡ open_store (state_of never_opened d []) → outcome_text (blocks_of d) o.after.session.phase o.answer ≡ listing d
 text-short d o h e = device-text d o e ∙ short-text d h
 
-module _ (d : List ℕ) (q s : Session) (a : Done) (e : (work : List ℕ) → left q d work (done_of a) ≡ open_store (state_of s d work)) (n : s ≡ never_opened) where
+module _ (d : List ℕ) (q s : Session) (a : Returned (Unit {0}) Refusal) (e : (work : List ℕ) → left q d work (done_of a) ≡ open_store (state_of s d work)) (n : s ≡ never_opened) where
   outcome-text : outcome_text (blocks_of d) q.phase (done_of a) ≡ device_text d
   outcome-text = device-text d (left q d [] (done_of a)) (e [] ∙ ap (λ (t : Session). open_store (state_of t d [])) n)
 
-  pub text-refused : (r : Refusal) (k : ℕ) → a ≡ done-cases.Refused r → k ≡ number_of r → refused_line k ≡ device_text d
-  text-refused r k f m = ap refused_line m ∙ refused-text (blocks_of d) q.phase r ∙ ap (λ (x : Done). outcome_text (blocks_of d) q.phase (done_of x)) (sym f) ∙ outcome-text
+  pub text-refused : (r : Refusal) → a ≡ Err r → refused_line r ≡ device_text d
+  text-refused r f = refused-text (blocks_of d) q.phase r ∙ ap (λ (x : Returned (Unit {0}) Refusal). outcome_text (blocks_of d) q.phase (done_of x)) (sym f) ∙ outcome-text
 
-  pub text-done : a ≡ done-cases.Done → opened_lines (blocks_of d) q.phase ≡ device_text d
-  text-done f = opened-text (blocks_of d) q.phase ∙ ap (λ (x : Done). outcome_text (blocks_of d) q.phase (done_of x)) (sym f) ∙ outcome-text
+  pub text-done : a ≡ Ok (tt {0}) → opened_lines (blocks_of d) q.phase ≡ device_text d
+  text-done f = opened-text (blocks_of d) q.phase ∙ ap (λ (x : Returned (Unit {0}) Refusal). outcome_text (blocks_of d) q.phase (done_of x)) (sym f) ∙ outcome-text
 
 pub listed : (image out after text : List ℕ) (p : ℕ) → Written out 0 text after p → text ≡ listing image → Listed image out after p
 listed image out after text p w e =

@@ -20,7 +20,7 @@ use Rattle.spec.specs.Bitmap.{bits_of, free_bits}
 use Rattle.spec.specs.Inode.{inode_at, inode_bytes, name_at, is_empty, data_of, nodes_of, reached_from, reached, runs}
 use Rattle.spec.specs.Sound.{volume_sound}
 use Rattle.spec.specs.Session.{never_opened, opened}
-use Rattle.spec.specs.Answers.{done, refusal_of}
+use Rattle.spec.specs.Answers.{done, refusal_of, refusal_number}
 use Rattle.spec.specs.Journal.{targets_in, header_fault}
 use Rattle.spec.specs.Calls.{left}
 use Rattle.spec.specs.Listing.{files_word, free_word, refused_word, recover_word, digits, hexadecimal, opened_text, outcome_text, listing}
@@ -31,7 +31,7 @@ use Rattle.laws.specs.Free.{reached-few}
 use Rattle.extents.proofs.Laws.{runs-few}
 use Rattle.store.proofs.Laws.{open-device, open-header, open-log, open-unsound, open-ready}
 use Rattle.text.specs.Written.{number}
-use Rattle.listing.specs.Steps.{span_text, more_text, runs_text, line_text, used_from, lines_text, files_lines, told_text, refused_line, recover_line, number_of, Listed}
+use Rattle.listing.specs.Steps.{span_text, more_text, runs_text, line_text, used_from, lines_text, files_lines, told_text, refused_line, recover_line}
 use Rattle.listing.proofs.Laws.{span-is, more-next, more-none, runs-some, runs_none, line-used, lines_more, lines_end, files-text, told_is, refused-is, recover-is, opened-text, refused-text, text-long, text-short}
 
 -- ---- numbers, extents
@@ -140,8 +140,8 @@ told-few : (word : List ℕ) (n : ℕ) → length (told_text word n) ≤ length 
 told-few word n =
     omega (arith, ap length (told_is word n), length-append word (number n ++ (10 ∷ [])), length-append (number n) (10 ∷ []), number-few n)
 
-refused-few : (n : ℕ) → length (refused_line n) ≤ 29
-refused-few n = let h : length (told_text refused_word n) ≤ 29 = told-few refused_word n in rw (refused-is n) at h
+refused-few : (r : Refusal) → length (refused_line r) ≤ 29
+refused-few r = let n = refusal_number (refusal_of r) in let h : length (told_text refused_word n) ≤ 29 = told-few refused_word n in rw (refused-is r) at h
 
 recover-few : (d : Disk) → length (recover_line d) ≤ 29
 recover-few d =
@@ -150,7 +150,7 @@ recover-few d =
 
 module _ (d : List ℕ) (h : length d ≤ 65536) where
   refusal-few : (r : Refusal) → outcome_text (blocks_of d) Closed (refusal_of r) ≡ listing d → length (listing d) ≤ 8785
-  refusal-few r e = omega (arith, refused-few (number_of r), ap length (refused-text (blocks_of d) Closed r ∙ e))
+  refusal-few r e = omega (arith, refused-few r, ap length (refused-text (blocks_of d) Closed r ∙ e))
 
   ready-few : is_allowed (length d) ≡ true → volume_sound (length d / 512) (blocks_of d) ≡ true → opened_text (blocks_of d) Ready ≡ listing d → length (listing d) ≤ 8785
   ready-few a s e =
@@ -187,15 +187,5 @@ pub listing-few : (d : List ℕ) → length (listing d) ≤ 8785
 listing-few d = go (lt-or-le 65536 (length d))
   where
     go : (65536 < length d) ⊎ (length d ≤ 65536) → length (listing d) ≤ 8785
-    go (inl h) = omega (arith, refused-few 1, ap length (text-long d h))
+    go (inl h) = omega (arith, refused-few DeviceSize, ap length (text-long d h))
     go (inr h) = short-few d h
-
--- with room for the longest, the answer counts the whole text
-pub listed-whole : (image out after : List ℕ) (n : ℕ) → Listed image out after n → 8785 ≤ length out → take n after ≡ listing image
-listed-whole image out after n h r = go (listing image) (listing-few image) h.bytes h.count
-  where
-    go : (t : List ℕ) → length t ≤ 8785 → after ≡ take (length out) t ++ drop (length t) out → n ≡ min (length t) (length out) → take n after ≡ t
-    go t f e c =
-        let k : n ≡ length t = omega arith in
-        ap₂ (λ (m : ℕ) (xs : List ℕ). take m xs) k (e ∙ ap (λ (xs : List ℕ). xs ++ drop (length t) out) (take_all (length out) t (omega arith)))
-        ∙ take-append-le (length t) t (drop (length t) out) (omega arith) ∙ take-length t

@@ -4,11 +4,11 @@ use Rattle.spec.specs.declared.Extent.{Extent}
 use Rattle.spec.specs.declared.Phase.{Phase}
 use Rattle.spec.specs.declared.Phase.TheVariants.{Closed, Ready, Committing, Recovering}
 use Rattle.spec.specs.declared.Refusal.{Refusal}
-use Rattle.spec.specs.declared.Refusal.TheVariants.{DeviceSize, WorkSize, BadName, TooLarge, BadHeader, Unsound, NotReady, Unknown, Taken, NoInode, NoSpace, TooManyExtents, TooManyStaged, ListShort}
 use Rattle.spec.specs.Bytes.{concat, keep, up_from}
 use Rattle.spec.specs.Disk.{Disk, blocks_of}
 use Rattle.spec.specs.Inode.{inode_at, is_empty, data_of, runs}
 use Rattle.spec.specs.Session.{never_opened}
+use Rattle.spec.specs.Answers.{refusal_of, refusal_number}
 use Rattle.spec.specs.Transaction.{state_of}
 use Rattle.spec.specs.Calls.{open_store}
 use Rattle.spec.specs.Listing.{extent_text, more_extents, extents_text, line_at, files_text, refused_text, recover_text, outcome_text, feed, listing}
@@ -46,8 +46,8 @@ unfoldable pub told_text : List ℕ → ℕ → List ℕ
 told_text word n = word ++ (number n ++ feed)
 
 -- "refused and the number", "recover and how many"
-unfoldable pub refused_line : ℕ → List ℕ
-refused_line n = refused_text n
+unfoldable pub refused_line : Refusal → List ℕ
+refused_line r = refused_text (refusal_number (refusal_of r))
 
 unfoldable pub recover_line : Disk → List ℕ
 recover_line d = recover_text d
@@ -63,23 +63,6 @@ unfoldable pub device_text : List ℕ → List ℕ
 device_text image =
     let o = open_store (state_of never_opened image []) in
     outcome_text (blocks_of image) o.after.session.phase o.answer
-
--- the refusals' numbers
-abbrev pub number_of : Refusal → ℕ
-number_of DeviceSize = 1
-number_of WorkSize = 2
-number_of BadName = 3
-number_of TooLarge = 4
-number_of (BadHeader i) = 10
-number_of Unsound = 11
-number_of NotReady = 12
-number_of Unknown = 13
-number_of Taken = 14
-number_of NoInode = 15
-number_of NoSpace = 16
-number_of TooManyExtents = 17
-number_of TooManyStaged = 18
-number_of ListShort = 19
 
 -- the lent bytes hold the image's text at their front, as far as they reach, and are unchanged behind it; n is how many bytes of it they hold
 pub record Listed (image out after : List ℕ) (n : ℕ) : Type 0 where

@@ -5,77 +5,26 @@ use mathlib.Core.Bool.{Bool, true, false, cond}
 use mathlib.Core.List.{List, [], ◌∷◌}
 use Rattle.spec.specs.declared.Refusal.{Refusal}
 use Rattle.spec.specs.declared.Session.{Session}
-use Rattle.spec.specs.declared.Stored.{Stored}
-use Rattle.spec.specs.declared.Stored.TheVariants as stored-cases
-use Rattle.spec.specs.Answers.{Answer, refused, started, stored, idle, refusal_of, stored_of}
+use Rattle.std.specs.Prelude.{Option, Some, None, Ok}
+use Rattle.spec.specs.declared.BlockStored.{BlockStored}
+use Rattle.spec.specs.Answers.{refused, refusal_of, refusal_number, stored_of}
 use Rattle.spec.specs.Transaction.{State, state_of}
 use Rattle.block.proofs.Laws.{slice-bytes}
 use Rattle.promises.specs.Ready.{refusal_is}
-use Rattle.mirror.specs.declared.CFinished.{CFinished}
 use Rattle.mirror.specs.declared.CAdvanced.{CAdvanced}
-use Rattle.mirror.specs.Mirror.{head_in, numbers_of, encode, decode, finished_of, advanced_of, Lent, lent, state_in}
+use Rattle.mirror.specs.Mirror.{head_in, numbers_of, encode, decode, fault_in, advanced_of, Lent, lent, state_in}
 use Rattle.mirror.proofs.Laws.{decode-encode}
-use Rattle.loader.specs.declared.Loaded.{Loaded}
-use Rattle.loader.specs.declared.Loaded.TheVariants as loaded-cases
-use Rattle.loader.specs.Load.{LoadAnswer, answered, none_left, LoadOutcome, naming, load_step, left_load, loaded_of, leaves_all}
+use Rattle.loader.specs.Load.{LoadAnswer, answered, LoadOutcome, naming, load_step, left_load, leaves_all}
 use Rattle.loader.proofs.Kept.{refused-leaves}
 use Rattle.loadapi.specs.declared.CLoaded.{CLoaded}
-use Rattle.loadapi.specs.Loads.{refused_numbers, taken_numbers, stored_numbers, load_numbers, unless_left, StepLeaves, Loads}
+use Rattle.loadapi.specs.Loads.{refused_numbers, stored_numbers, load_numbers, unless_left, StepLeaves, Loads}
 
--- ---- refusals
+-- ---- an answer in numbers
 
-refused-left : (line : ℕ) (why : Refusal) → (true ≡ leaves_all (answered (refusal_of why))) × (true ≡ leaves_all (answered (naming line (refusal_of why))))
-refused-left line why = let q = (refusal_is why).1.1 in (ap (λ (a : Answer). leaves_all (answered a)) (sym q), ap (λ (a : Answer). leaves_all (answered (naming line a))) (sym q))
-
-pub left-stored : (x : Stored) (why : Refusal) → x ≡ stored-cases.Refused why → true ≡ leaves_all (answered (stored_of x))
-left-stored x why e = (refused-left 0 why).0 ∙ ap (λ (y : Stored). leaves_all (answered (stored_of y))) (sym e)
-
-pub left-refused : (x : Loaded) (why : Refusal) → x ≡ loaded-cases.Refused why → true ≡ leaves_all (loaded_of x)
-left-refused x why e = (refused-left 0 why).0 ∙ ap (λ (y : Loaded). leaves_all (loaded_of y)) (sym e)
-
-pub left-line : (x : Loaded) (line : ℕ) (why : Refusal) → x ≡ loaded-cases.LineRefused line why → true ≡ leaves_all (loaded_of x)
-left-line x line why e = (refused-left line why).1 ∙ ap (λ (y : Loaded). leaves_all (loaded_of y)) (sym e)
-
-module _ (why : Refusal) (f : CFinished) (e : f ≡ finished_of (refusal_of why)) (next : ℕ) where
-  pub refused-told : refused_numbers f.refusal f.fault next ≡ load_numbers (answered (refusal_of why)) next
-  unfolding load_numbers finished_of
-  refused-told = let q = refusal_is why in go q.0 q.1.0 q.1.1
-    where
-      go : (n : ℕ) (vs : List ℕ) → refusal_of why ≡ refused n vs → refused_numbers f.refusal f.fault next ≡ load_numbers (answered (refusal_of why)) next
-      go n [] q = rw (e, q)
-      go n (v ∷ vs) q = rw (e, q)
-
-  pub line-told : (line : ℕ) → refused_numbers f.refusal line next ≡ load_numbers (answered (naming line (refusal_of why))) next
-  unfolding load_numbers finished_of
-  line-told line = let q = refusal_is why in go q.0 q.1.0 q.1.1
-    where
-      go : (n : ℕ) (vs : List ℕ) → refusal_of why ≡ refused n vs → refused_numbers f.refusal line next ≡ load_numbers (answered (naming line (refusal_of why))) next
-      go n vs q = rw (e, q)
-
--- ---- each case of an answer
-
-pub by_answer : {X : Type 0} (f : X → LoadAnswer) (x y : X) (next : ℕ) (r : CLoaded) → x ≡ y → r ≡ load_numbers (f y) next → r ≡ load_numbers (f x) next
-by_answer f x y next r e h = h ∙ ap (λ z. load_numbers (f z) next) (sym e)
-
-pub plain-told : (n line next : ℕ) → refused_numbers n line next ≡ load_numbers (answered (refused n (line ∷ []))) next
-unfolding load_numbers
-plain-told n line next = refl
-
-pub taken-told : (n next : ℕ) → taken_numbers n next ≡ load_numbers (answered (started n)) next
-unfolding load_numbers
-taken-told n next = refl
-
-pub stored-told : (b : ℕ) (l : Bool) (n next : ℕ) (a : CAdvanced) → a ≡ advanced_of (stored b l n) → stored_numbers a.block a.last a.number next ≡ load_numbers (answered (stored b l n)) next
+pub advanced-told : (o : Option BlockStored) (a : CAdvanced) (next : ℕ) → a ≡ advanced_of (stored_of (Ok o)) → stored_numbers a.block a.last a.number next ≡ load_numbers (answered (stored_of (Ok o))) next
 unfolding load_numbers advanced_of
-stored-told b l n next a e = rw e
-
-pub idle-told : (next : ℕ) → stored_numbers 0 0 0 next ≡ load_numbers (answered idle) next
-unfolding load_numbers
-idle-told next = refl
-
-pub none_told : (next : ℕ) → record { refusal = 0; kind = 3; line = 0; stores = 0; block = 0; last = 0; number = 0; next = next } ≡ load_numbers none_left next
-unfolding load_numbers
-none_told next = refl
+advanced-told None a next e = rw e
+advanced-told (Some s) a next e = rw e
 
 -- ---- what is lent
 

@@ -3,20 +3,19 @@
 #![tactic(auto)]
 
 ghost use Rattle.std.specs.Prelude.{◌≡◌};
-ghost use Rattle.spec.specs.Answers.{refusal_of, stored_of};
 ghost use Rattle.spec.specs.Transaction.{state_of};
-ghost use Rattle.mirror.specs.Mirror.{head_in, numbers_of, decode, encode, finished_of, fault_in, lent};
-ghost use Rattle.loader.specs.Load.{answered, naming, begin, loaded_of, leaves_all};
-ghost use Rattle.loadapi.specs.Loads.{load_numbers, refused_numbers, unless_left, Loads};
+ghost use Rattle.mirror.specs.Mirror.{head_in, numbers_of, decode, encode, finished_of, lent};
+ghost use Rattle.loader.specs.Load.{begin, loaded_of, leaves_all};
+ghost use Rattle.loadapi.specs.Loads.{refused_numbers, load_numbers, unless_left, Loads};
 
-use loader::{Loaded, begin, step};
+use loader::{LoadFault, Loaded, begin, step};
 use mirror::{CFinished, advanced, decode, encode, finished, head_in, keep};
-use spec::{Done, Limits, Refusal, Session, Stored};
+use spec::{Limits, Session};
 
 // A step. kind: 0 refused, 1 a line was taken up, 2 an advance was made, 3 no line is left. line: the line refused, else 0; stores: of a line; block,
 // last, number: of an advance, all 0 where nothing is under way; next: the load's place behind the step.
 #[repr(C)]
-#[derive(Clone, Copy)]
+#[derive(Clone, Copy, Default)]
 pub struct CLoaded {
     pub refusal: u32,
     pub kind: u32,
@@ -28,136 +27,64 @@ pub struct CLoaded {
     pub next: u64,
 }
 
-fn refused(number: u32, line: u64, next: usize) -> CLoaded
-    ensures { result ≡ refused_numbers number line next }
+// The numbers of a step behind which the load's place is this, the others 0.
+fn numbers_at(next: usize) -> CLoaded
+    ensures { result ≡ refused_numbers 0 0 next }
 {
     CLoaded {
-        refusal: number,
-        kind: 0,
-        line: line,
-        stores: 0,
-        block: 0,
-        last: 0,
-        number: 0,
         next: next as u64,
-    }
-}
-
-// A refusal that names no line of its own.
-fn refused_as(why: Refusal, next: usize) -> CLoaded
-    ensures { result ≡ load_numbers (answered (refusal_of why)) next }
-{
-    let f = finished(Done::Refused(why));
-    refused(f.refusal, f.fault, next)
-}
-
-// A refusal of a line.
-fn refused_line(line: usize, why: Refusal, next: usize) -> CLoaded
-    ensures { result ≡ load_numbers (answered (naming line (refusal_of why))) next }
-{
-    let f = finished(Done::Refused(why));
-    refused(f.refusal, line as u64, next)
-}
-
-fn stored(answer: Stored, next: usize) -> CLoaded
-    ensures { result ≡ load_numbers (answered (stored_of answer)) next }
-{
-    match answer {
-        Stored::Refused(why) => refused_as(why, next),
-        Stored::Stored {
-            block,
-            last,
-            number,
-        } => {
-            let a = advanced(Stored::Stored {
-                block: block,
-                last: last,
-                number: number,
-            });
-            CLoaded {
-                refusal: 0,
-                kind: 2,
-                line: 0,
-                stores: 0,
-                block: a.block,
-                last: a.last,
-                number: a.number,
-                next: next as u64,
-            }
-        }
-        Stored::Idle => CLoaded {
-            refusal: 0,
-            kind: 2,
-            line: 0,
-            stores: 0,
-            block: 0,
-            last: 0,
-            number: 0,
-            next: next as u64,
-        },
+        ..CLoaded::default()
     }
 }
 
 // A step's answer and the place behind it in numbers.
-fn numbers_of(answer: Loaded, next: usize) -> CLoaded
+#[tactic(auto, unfolding(crate::specs::Loads::load_numbers))]
+fn numbers_of(answer: Result<Loaded, LoadFault>, next: usize) -> CLoaded
     ensures { result ≡ load_numbers (loaded_of answer) next }
 {
+    let at = numbers_at(next);
     match answer {
-        Loaded::Refused(why) => refused_as(why, next),
-        Loaded::LineRefused(line, why) => refused_line(line, why, next),
-        Loaded::TooLong(line) => refused(20, line as u64, next),
-        Loaded::Malformed(line) => refused(21, line as u64, next),
-        Loaded::Started(n) => CLoaded {
-            refusal: 0,
+        Ok(Loaded::Started(n)) => CLoaded {
             kind: 1,
-            line: 0,
             stores: n as u64,
-            block: 0,
-            last: 0,
-            number: 0,
-            next: next as u64,
+            ..at
         },
-        Loaded::Advanced(a) => stored(a, next),
-        Loaded::NoneLeft => CLoaded {
-            refusal: 0,
-            kind: 3,
-            line: 0,
-            stores: 0,
-            block: 0,
-            last: 0,
-            number: 0,
-            next: next as u64,
-        },
-    }
-}
-
-// Whether an advance is refused.
-fn advance_refused(answer: Stored) -> bool
-    ensures { result ≡ leaves_all (answered (stored_of answer)) }
-{
-    match answer {
-        Stored::Refused(_) => true,
-        Stored::Stored {
-            block: _,
-            last: _,
-            number: _,
-        } => false,
-        Stored::Idle => false,
+        Ok(Loaded::Advanced(stored)) => {
+            let a = advanced(Ok(stored));
+            CLoaded {
+                kind: 2,
+                block: a.block,
+                last: a.last,
+                number: a.number,
+                ..at
+            }
+        }
+        Ok(Loaded::NoneLeft) => CLoaded { kind: 3, ..at },
+        Err(fault) => {
+            let (refusal, line) = match fault {
+                LoadFault::Refused(why) => (why.number(), why.fault().unwrap_or(0)),
+                LoadFault::LineRefused(line, why) => (why.number(), line),
+                LoadFault::TooLong(line) => (20, line),
+                LoadFault::Malformed(line) => (21, line),
+            };
+            CLoaded {
+                refusal,
+                line: line as u64,
+                ..at
+            }
+        }
     }
 }
 
 // Whether a step leaves all as it was.
-fn leaves_all(answer: Loaded) -> bool
+fn leaves_all(answer: Result<Loaded, LoadFault>) -> bool
     ensures { result ≡ leaves_all (loaded_of answer) }
 {
     match answer {
-        Loaded::Refused(_) => true,
-        Loaded::LineRefused(_, _) => true,
-        Loaded::TooLong(_) => true,
-        Loaded::Malformed(_) => true,
-        Loaded::Started(_) => false,
-        Loaded::Advanced(a) => advance_refused(a),
-        Loaded::NoneLeft => true,
+        Ok(Loaded::Started(_)) => false,
+        Ok(Loaded::Advanced(_)) => false,
+        Ok(Loaded::NoneLeft) => true,
+        Err(_) => true,
     }
 }
 
@@ -165,7 +92,7 @@ fn leaves_all(answer: Loaded) -> bool
 fn keep_step(
     numbers: &mut [u64; 4],
     staged: &mut [u32; Limits::LOG_LENGTH],
-    answer: Loaded,
+    answer: Result<Loaded, LoadFault>,
     s: Session,
 )
     ensures { (numbers.new ≡ unless_left (loaded_of answer) numbers.old (numbers_of (encode s)))

@@ -3,6 +3,8 @@ use Prim.Native.Nat.{ℕ, zero, suc, ◌+◌, ◌*◌}
 use mathlib.Core.Path.{◌≡◌, refl, sym, ap, ap₂, ◌∙◌}
 use mathlib.Core.Bool.{Bool, true, false, cond, true≢false}
 use mathlib.Core.List.{List, [], ◌∷◌}
+use Rattle.std.specs.Prelude.{Option, Some, None, Ok, Err}
+use Rattle.std.specs.Prelude.{Result as Returned}
 use native.Mathlib.Omega.{arith}
 use borrow.Author.Tests.{ne_eqb}
 use lib.ListN.{length}
@@ -12,10 +14,6 @@ use Rattle.spec.specs.declared.Phase.TheVariants.{Closed, Ready, Committing, Rec
 use Rattle.spec.specs.declared.Session.{Session}
 use Rattle.spec.specs.declared.Refusal.{Refusal}
 use Rattle.spec.specs.declared.Refusal.TheVariants.{NotReady}
-use Rattle.spec.specs.declared.Done.{Done}
-use Rattle.spec.specs.declared.Done.TheVariants as done-cases
-use Rattle.spec.specs.declared.Started.{Started}
-use Rattle.spec.specs.declared.Started.TheVariants as started-cases
 use Rattle.spec.specs.Disk.{Slice, slice_of, blocks_of}
 use Rattle.spec.specs.Session.{staged_in}
 use Rattle.spec.specs.Answers.{Answer, refused, done, started, stored, idle, counted, file, no_file, run, no_run, refusal_of, done_of, started_of, is_refused, Result, refuse, accept, require, ◌>>◌}
@@ -25,14 +23,23 @@ use Rattle.promises.specs.Ready.{refusal_is, refused-is}
 use Rattle.promises.specs.Restored.{stored_in, restored, create-keeps, write_keeps}
 use Rattle.cardfile.specs.Cards.{amount_bytes}
 use Rattle.cardfile.specs.Lines.{Standing, card, too_long, malformed, nothing, standing, line_at, line_number, name_told}
-use Rattle.cardfile.specs.declared.Card.{Card}
 use Rattle.cardfile.specs.declared.Line.{Line}
-use Rattle.cardfile.specs.declared.Line.TheVariants as line-cases
+use Rattle.cardfile.specs.declared.LineFault.{LineFault}
+use Rattle.cardfile.specs.declared.LineFault.TheVariants as line-cases
 use Rattle.cardfile.proofs.Places.{long-at, bad-at, none-at, found_at}
 use Rattle.loader.specs.declared.Loaded.{Loaded}
 use Rattle.loader.specs.declared.Loaded.TheVariants as loaded-cases
+use Rattle.loader.specs.declared.LoadFault.{LoadFault}
+use Rattle.loader.specs.declared.LoadFault.TheVariants as fault-cases
 use Rattle.loader.specs.Load.{idle_ok, begin, or_back, store_line, answered, none_left, LoadOutcome, loaded, naming, taken_up, take_line, after_begin, advancing, load_in, load_step, loaded_of, left_load}
 use Rattle.loader.specs.Parts.{finish_line, take_named}
+
+-- what a call answers that is done, and one that starts stores
+abbrev Done : Type 0
+Done = Returned (Unit {0}) Refusal
+
+abbrev Started : Type 0
+Started = Returned ℕ Refusal
 
 -- ---- begin: what commit answers tells whether a load may begin
 
@@ -68,13 +75,13 @@ module _ (s t : Session) (d w : List ℕ) (a : Started) (eq : left t d w (starte
   begun-is : outcome (state_of s d w) (begun (started_of a)) ≡ begin (state_of s d w)
   begun-is = ap (λ (o : Outcome). outcome (state_of s d w) (begun o.answer)) eq ∙ begin-is (state_of s d w)
 
-  pub begin-refused : (r : Refusal) → a ≡ started-cases.Refused r → left s d w (done_of (done-cases.Refused r)) ≡ begin (state_of s d w)
+  pub begin-refused : (r : Refusal) → a ≡ Err r → left s d w (done_of (Err r)) ≡ begin (state_of s d w)
   begin-refused r h = ap (outcome (state_of s d w)) (sym (begun-refusal r) ∙ ap (λ (x : Started). begun (started_of x)) (sym h)) ∙ begun-is
 
-  pub begin-fine : (n : ℕ) → a ≡ started-cases.Stores n → n ≡ 0 → left s d w (done_of done-cases.Done) ≡ begin (state_of s d w)
+  pub begin-fine : (n : ℕ) → a ≡ Ok n → n ≡ 0 → left s d w (done_of (Ok tt)) ≡ begin (state_of s d w)
   begin-fine n h z = ap (λ (x : Answer). outcome (state_of s d w) (begun x)) (ap started (sym z) ∙ ap started_of (sym h)) ∙ begun-is
 
-  pub begin-busy : (n : ℕ) → a ≡ started-cases.Stores n → (n ≡ 0 → ⊥) → left s d w (done_of (done-cases.Refused NotReady)) ≡ begin (state_of s d w)
+  pub begin-busy : (n : ℕ) → a ≡ Ok n → (n ≡ 0 → ⊥) → left s d w (done_of (Err NotReady)) ≡ begin (state_of s d w)
   begin-busy n h z =
       ap (λ (b : Bool). outcome (state_of s d w) (cond b done (refusal_of NotReady))) (sym (ne_eqb n 0 z))
       ∙ ap (λ (x : Started). outcome (state_of s d w) (begun (started_of x))) (sym h) ∙ begun-is
@@ -131,7 +138,7 @@ module _ (s t : Session) (d w x name amount : List ℕ) (a : Done) (eq : left t 
   unfolding store_line
   goes_on o h e = rw h e
 
-  pub line-stops : (r : Refusal) → a ≡ done-cases.Refused r → left s d x (started_of (started-cases.Refused r)) ≡ store_line (state_of s d w) name amount
+  pub line-stops : (r : Refusal) → a ≡ Err r → left s d x (started_of (Err r)) ≡ store_line (state_of s d w) name amount
   line-stops r h =
       let f : refusal_of r ≡ (create (state_of s d w) name).answer = ap done_of (sym h) ∙ answer-is in
       let g : is_refused (create (state_of s d w) name).answer ≡ true = ap is_refused (sym f) ∙ refused-is r in
@@ -139,7 +146,7 @@ module _ (s t : Session) (d w x name amount : List ℕ) (a : Done) (eq : left t 
       stops (left s d x (refusal_of r))
       (ap₂ (λ (u : Slice) (b : Answer). outcome (record { session = s; device = slice_of d; work = u }) b) same f) g
 
-  pub line-goes-on : a ≡ done-cases.Done → staged_in s ≡ [] → (kept : List ℕ) → kept ≡ blocks_of w 0 → (o : Outcome)
+  pub line-goes-on : a ≡ (Ok tt) → staged_in s ≡ [] → (kept : List ℕ) → kept ≡ blocks_of w 0 → (o : Outcome)
       → o ≡ finish_line (state_of t d x) s kept name amount → o ≡ store_line (state_of s d w) name amount
   unfolding finish_line
   line-goes-on h bare kept k o e =
@@ -158,8 +165,8 @@ module _ (s m t : Session) (d x y kept name amount : List ℕ) (a : Done) (eq : 
   wrote_after : state_of t d y ≡ (write (state_of m d x) name 0 amount).after
   wrote_after = ap (λ (o : Outcome). o.after) eq
 
-  pub write-stops : (r : Refusal) (z : List ℕ) → a ≡ done-cases.Refused r → slice_of z ≡ stored_in (slice_of y) 0 kept
-      → left s d z (started_of (started-cases.Refused r)) ≡ finish_line (state_of m d x) s kept name amount
+  pub write-stops : (r : Refusal) (z : List ℕ) → a ≡ Err r → slice_of z ≡ stored_in (slice_of y) 0 kept
+      → left s d z (started_of (Err r)) ≡ finish_line (state_of m d x) s kept name amount
   unfolding finish_line
   write-stops r z h k =
       let f : refusal_of r ≡ (write (state_of m d x) name 0 amount).answer = ap done_of (sym h) ∙ wrote-answer in
@@ -168,18 +175,13 @@ module _ (s m t : Session) (d x y kept name amount : List ℕ) (a : Done) (eq : 
       (wrote_after ∙ ap (λ (o : Outcome). o.after) (write_keeps (state_of m d x) name 0 amount g)) in
       rw g (ap₂ (λ (u : Slice) (b : Answer). outcome (record { session = s; device = slice_of d; work = u }) b) (k ∙ ap (λ (u : Slice). stored_in u 0 kept) same) f)
 
-  pub write-goes-on : (o : Outcome) → a ≡ done-cases.Done → o ≡ commit (state_of t d y) → o ≡ finish_line (state_of m d x) s kept name amount
+  pub write-goes-on : (o : Outcome) → a ≡ (Ok tt) → o ≡ commit (state_of t d y) → o ≡ finish_line (state_of m d x) s kept name amount
   unfolding finish_line
   write-goes-on o h e =
       let g : is_refused (write (state_of m d x) name 0 amount).answer ≡ false = ap is_refused (sym wrote-answer) ∙ ap (λ (b : Done). is_refused (done_of b)) h in
       rw g (e ∙ ap commit wrote_after)
 
 -- ---- what stands at a place
-
--- what is told of a session, an answer and a place
-pub told-load : (t s : Session) (a b : Loaded) (n m : ℕ) (d w : List ℕ) (o : LoadOutcome) → t ≡ s → a ≡ b → n ≡ m
-    → left_load s d w m (loaded_of b) ≡ o → left_load t d w n (loaded_of a) ≡ o
-told-load t s a b n m d w o e f g h = rw (e, f, g) h
 
 module _ (s : State) (t : Session) (d x : List ℕ) (at number next : ℕ) (name amount : List ℕ) (a : Started)
     (eq : left t d x (started_of a) ≡ store_line s name amount)
@@ -188,42 +190,33 @@ module _ (s : State) (t : Session) (d x : List ℕ) (at number next : ℕ) (name
     unfolding take_named
     as-named o e = e ∙ ap (taken_up s at next number) eq
 
-    pub take-refused : (r : Refusal) → a ≡ started-cases.Refused r
-        → left_load t d x at (loaded_of (loaded-cases.LineRefused number r)) ≡ take_named s at number next name amount
+    pub take-refused : (r : Refusal) → a ≡ Err r
+        → left_load t d x at (loaded_of (Err (fault-cases.LineRefused number r))) ≡ take_named s at number next name amount
     take-refused r h =
         as-named (left_load t d x at (answered (naming number (refusal_of r))))
         (ap (λ (b : Bool). loaded (state_of t d x) (cond b at next) (answered (naming number (refusal_of r)))) (sym (refused-is r))
         ∙ ap (λ (y : Started). taken_up s at next number (left t d x (started_of y))) (sym h))
 
-    pub take-started : (n : ℕ) → a ≡ started-cases.Stores n → left_load t d x next (loaded_of (loaded-cases.Started n)) ≡ take_named s at number next name amount
+    pub take-started : (n : ℕ) → a ≡ Ok n → left_load t d x next (loaded_of (Ok (loaded-cases.Started n))) ≡ take_named s at number next name amount
     take-started n h = as-named (left_load t d x next (answered (started n))) (ap (λ (y : Started). taken_up s at next number (left t d x (started_of y))) (sym h))
 
 -- what the code read at the place is what stands there
-module _ (s : State) (text : List ℕ) (at number : ℕ) (r : Line) (read : r ≡ line_at text at) where
+module _ (s : State) (text : List ℕ) (at number : ℕ) (r : Returned (Option Line) LineFault) (read : r ≡ line_at text at) where
   taken_as : (o : LoadOutcome) (z : Standing) → standing text at ≡ z → o ≡ take_line s at number z → o ≡ take_line s at number (standing text at)
   taken_as o z h e = e ∙ ap (take_line s at number) (sym h)
 
-  pub take_long : r ≡ line-cases.TooLong → loaded s at (answered (refused 20 (number ∷ []))) ≡ take_line s at number (standing text at)
-  take_long h = taken_as (loaded s at (answered (refused 20 (number ∷ [])))) too_long (long-at text at (sym read ∙ h)) refl
-
-  pub take-bad : r ≡ line-cases.BadForm → loaded s at (answered (refused 21 (number ∷ []))) ≡ take_line s at number (standing text at)
-  take-bad h = taken_as (loaded s at (answered (refused 21 (number ∷ [])))) malformed (bad-at text at (sym read ∙ h)) refl
-
-  pub take_none : r ≡ line-cases.NoLine → loaded s at none_left ≡ take_line s at number (standing text at)
-  take_none h = taken_as (loaded s at none_left) nothing (none-at text at (sym read ∙ h)) refl
-
-  pub take_found : (c : Card) (next : ℕ) (o : LoadOutcome) → r ≡ line-cases.Found c next
-      → o ≡ take_named s at number next (name_told c.bytes c.number) (amount_bytes c.amount) → o ≡ take_line s at number (standing text at)
+  pub take_found : (x : Line) (o : LoadOutcome) → r ≡ Ok (Some x)
+      → o ≡ take_named s at number x.next (name_told x.card.serial.bytes x.card.serial.number) (amount_bytes x.card.amount) → o ≡ take_line s at number (standing text at)
   unfolding take_named
-  take_found c next o h e =
-      let f = found_at text at c next (sym read ∙ h) in
-      taken_as o (card f.entry next) f.is
-      (e ∙ ap₂ (λ (n : List ℕ) (m : ℕ). taken_up s at next number (store_line s n (amount_bytes m))) f.name f.amount)
+  take_found x o h e =
+      let f = found_at text at x (sym read ∙ h) in
+      taken_as o (card f.entry x.next) f.is
+      (e ∙ ap₂ (λ (n : List ℕ) (m : ℕ). taken_up s at x.next number (store_line s n (amount_bytes m))) f.name f.amount)
 
 -- ---- the next line, and a step
 
 module _ (s : State) (text : List ℕ) (at : ℕ) where
-  pub next-stops : (a : Done) (r : Refusal) → outcome s (done_of a) ≡ begin s → a ≡ done-cases.Refused r → loaded s at (answered (refusal_of r)) ≡ after_begin s text at (idle_ok s)
+  pub next-stops : (a : Done) (r : Refusal) → outcome s (done_of a) ≡ begin s → a ≡ Err r → loaded s at (answered (refusal_of r)) ≡ after_begin s text at (idle_ok s)
   unfolding begin
   next-stops a r e k = go (idle_ok s) (ap (λ (x : Done). outcome s (done_of x)) (sym k) ∙ e)
     where
@@ -244,17 +237,27 @@ module _ (s : State) (text : List ℕ) (at : ℕ) (o : LoadOutcome) where
   unfolding load_step
   in-phase p h e = e ∙ ap (load_in s text at) (sym h)
 
-  pub step-closed : s.session.phase ≡ Closed → o ≡ after_begin s text at (idle_ok s) → o ≡ load_step s text at
+  step-closed : s.session.phase ≡ Closed → o ≡ after_begin s text at (idle_ok s) → o ≡ load_step s text at
   unfolding load_in
   step-closed h e = in-phase Closed h e
 
-  pub step-ready : s.session.phase ≡ Ready → o ≡ after_begin s text at (idle_ok s) → o ≡ load_step s text at
+  step-ready : s.session.phase ≡ Ready → o ≡ after_begin s text at (idle_ok s) → o ≡ load_step s text at
   unfolding load_in
   step-ready h e = in-phase Ready h e
 
-  pub step-recovering : (n : ℕ) → s.session.phase ≡ Recovering n → o ≡ after_begin s text at (idle_ok s) → o ≡ load_step s text at
+  step-recovering : (n : ℕ) → s.session.phase ≡ Recovering n → o ≡ after_begin s text at (idle_ok s) → o ≡ load_step s text at
   unfolding load_in
   step-recovering n h e = in-phase (Recovering n) h e
+
+  -- a phase that is not committing
+  pub step-other : ((n : ℕ) → s.session.phase ≡ Committing n → ⊥) → o ≡ after_begin s text at (idle_ok s) → o ≡ load_step s text at
+  step-other h e = go s.session.phase refl
+    where
+      go : (p : Phase) → s.session.phase ≡ p → o ≡ load_step s text at
+      go Closed q = step-closed q e
+      go Ready q = step-ready q e
+      go (Committing n) q = absurd (h n q)
+      go (Recovering n) q = step-recovering n q e
 
   pub step-committing : (n : ℕ) → s.session.phase ≡ Committing n → o ≡ advancing at (advance s) → o ≡ load_step s text at
   unfolding load_in

@@ -1,5 +1,6 @@
 -- A load: the lines of a text, each one committed transaction, step by step.
-use Rattle.std.specs.Prelude.{ℕ, Bool, true, cond, List, [], ◌∷◌, length, eqb}
+use Rattle.std.specs.Prelude.{ℕ, Bool, true, cond, List, [], ◌∷◌, length, eqb, Ok, Err}
+use Rattle.std.specs.Prelude.{Result as Returned}
 use Rattle.spec.specs.declared.Phase.{Phase}
 use Rattle.spec.specs.declared.Phase.TheVariants.{Closed, Ready, Committing, Recovering}
 use Rattle.spec.specs.declared.Session.{Session}
@@ -12,6 +13,8 @@ use Rattle.cardfile.specs.Cards.{name_of, amount_bytes}
 use Rattle.cardfile.specs.Lines.{Standing, card, too_long, malformed, nothing, standing, line_number}
 use Rattle.loader.specs.declared.Loaded.{Loaded}
 use Rattle.loader.specs.declared.Loaded.TheVariants as loaded-cases
+use Rattle.loader.specs.declared.LoadFault.{LoadFault}
+use Rattle.loader.specs.declared.LoadFault.TheVariants as fault-cases
 
 -- ---- begin
 
@@ -103,19 +106,14 @@ load_step s text at = load_in s text at s.session.phase
 
 -- ---- the form of the promise
 
-abbrev pub loaded_of : Loaded → LoadAnswer
-loaded_of (loaded-cases.Refused r) = answered (refusal_of r)
-loaded_of (loaded-cases.LineRefused line r) = answered (naming line (refusal_of r))
-loaded_of (loaded-cases.TooLong line) = answered (refused 20 (line ∷ []))
-loaded_of (loaded-cases.Malformed line) = answered (refused 21 (line ∷ []))
-loaded_of (loaded-cases.Started n) = answered (started n)
-loaded_of (loaded-cases.Advanced a) = answered (stored_of a)
-loaded_of loaded-cases.NoneLeft = none_left
+abbrev pub loaded_of : Returned Loaded LoadFault → LoadAnswer
+loaded_of (Ok (loaded-cases.Started n)) = answered (started n)
+loaded_of (Ok (loaded-cases.Advanced a)) = answered (stored_of (Ok a))
+loaded_of (Ok loaded-cases.NoneLeft) = none_left
+loaded_of (Err (fault-cases.Refused r)) = answered (refusal_of r)
+loaded_of (Err (fault-cases.LineRefused line r)) = answered (naming line (refusal_of r))
+loaded_of (Err (fault-cases.TooLong line)) = answered (refused 20 (line ∷ []))
+loaded_of (Err (fault-cases.Malformed line)) = answered (refused 21 (line ∷ []))
 
 abbrev pub left_load : Session → List ℕ → List ℕ → ℕ → LoadAnswer → LoadOutcome
 left_load s device work next a = loaded (state_of s device work) next a
-
--- opens what this module seals
-unfoldable pub open-Load : Unit {0}
-unfolding idle_ok begin store_line load_in load_step
-open-Load = tt

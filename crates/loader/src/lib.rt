@@ -14,68 +14,47 @@ ghost use Rattle.cardfile.specs.Cards.{amount_bytes};
 ghost use Rattle.loader.specs.Parts.{finish_line, take_named};
 ghost use Rattle.loader.specs.Load.{begin, store_line, take_line, after_begin, idle_ok, load_step, left_load, loaded_of};
 
-use cardfile::{Card, Line, amount_bytes, line_at, line_number, name_of};
-use spec::{ByteOffset, Committed, Done, Limits, Phase, Refusal, Session, Started, Stored};
+use cardfile::{Line, LineFault, amount_bytes, line_at, line_number, name_of};
+use spec::{Answered, BlockStored, ByteOffset, Limits, Phase, Refusal, Session};
 use store::{advance, commit, create, write};
 
-// What a step answers: loaded_of in specs/Load.antt. A line is named by its number, counted from 1.
+// What a step has done: loaded_of in specs/Load.antt.
 #[derive(Clone, Copy)]
 pub enum Loaded {
+    Started(usize),
+    Advanced(Option<BlockStored>),
+    NoneLeft,
+}
+
+// Why it is refused. A line is named by its number, counted from 1.
+#[derive(Clone, Copy)]
+pub enum LoadFault {
     Refused(Refusal),
     LineRefused(usize, Refusal),
     TooLong(usize),
     Malformed(usize),
-    Started(usize),
-    Advanced(Stored),
-    NoneLeft,
 }
 
 // A step's answer, the session, and the load's place in the text.
 #[derive(Clone, Copy)]
 pub struct LoadStep {
     pub session: Session,
-    pub answer: Loaded,
+    pub answer: Result<Loaded, LoadFault>,
     pub next: usize,
 }
 
-fn load_step(session: Session, answer: Loaded, next: usize) -> LoadStep
-    ensures { (result.session ≡ session) × (result.answer ≡ answer) × (result.next ≡ next) }
-{
-    LoadStep {
-        session: session,
-        answer: answer,
-        next: next,
-    }
-}
-
 // Whether a load may begin: on a ready session with nothing staged. Commit tells it, and nothing is done with the session that it answers.
-pub fn begin(device: &[u8], work: &[u8], session: Session) -> Done
+pub fn begin(device: &[u8], work: &[u8], session: Session) -> Result<(), Refusal>
     ensures { left session device.now work.now (done_of result)
         ≡ begin (state_of session device.now work.now) }
 {
     let c = commit(device, work, session);
-    let answer = c.answer;
-    match answer {
-        Started::Refused(why) => Done::Refused(why),
-        Started::Stores(n) => {
-            if n == 0 {
-                return Done::Done;
-            }
-            Done::Refused(Refusal::NotReady)
-        }
+    let stores = c.answer?;
+    let staged = stores != 0;
+    if staged {
+        return Err(Refusal::NotReady);
     }
-}
-
-// All bytes of one slice copied to another of the same length.
-fn copy(from: &[u8], to: &mut [u8])
-    requires { length from.now ≡ length to.old }
-    ensures { to.new ≡ from.now }
-{
-    let mut k: usize = 0;
-    while k < to.len() {
-        to[k] = from[k];
-        k += 1;
-    }
+    Ok(())
 }
 
 // The first image of the work space.
@@ -83,8 +62,8 @@ fn first_image(work: &[u8]) -> [u8; Limits::BLOCK_SIZE]
     requires { length work.now ≡ 16384 }
     ensures { result ≡ blocks_of work.now 0 }
 {
-    let mut image = [0u8; Limits::BLOCK_SIZE];
-    copy(&work[0..Limits::BLOCK_SIZE], &mut image);
+    let mut image = [0; Limits::BLOCK_SIZE];
+    image.copy_from_slice(&work[..Limits::BLOCK_SIZE]);
     image
 }
 
@@ -93,7 +72,7 @@ fn put_back(work: &mut [u8], image: &[u8; Limits::BLOCK_SIZE])
     requires { length work.old ≡ 16384 }
     ensures { slice_of work.new ≡ stored_in (slice_of work.old) 0 image.now }
 {
-    copy(image, &mut work[0..Limits::BLOCK_SIZE]);
+    work[..Limits::BLOCK_SIZE].copy_from_slice(image);
 }
 
 // The amount written into the file just made, and the transaction committed; refused, the first image is put back.
@@ -105,26 +84,21 @@ fn finish_line(
     kept: &[u8; Limits::BLOCK_SIZE],
     name: &[u8],
     amount: &[u8],
-) -> Committed
+) -> Answered<usize>
     requires { length work.old ≡ 16384 }
     ensures { left result.session device.now work.new (started_of result.answer)
         ≡ finish_line (state_of made device.now work.old) session kept.now name.now amount.now }
 {
     let wrote = write(device, work, made, name, ByteOffset(0), amount);
-    let answer = wrote.answer;
-    match answer {
-        Done::Refused(why) => {
-            put_back(work, kept);
-            Committed {
-                session: session,
-                answer: Started::Refused(why),
-            }
-        }
-        Done::Done => {
-            let next = wrote.session;
-            commit(device, work, next)
-        }
+    if let Err(why) = wrote.answer {
+        put_back(work, kept);
+        return Answered {
+            session,
+            answer: Err(why),
+        };
     }
+    let next = wrote.session;
+    commit(device, work, next)
 }
 
 // One line: create, write, commit. A refusal leaves all as it was, the work space too.
@@ -134,51 +108,50 @@ fn store_line(
     session: Session,
     name: &[u8],
     amount: &[u8],
-) -> Committed
+) -> Answered<usize>
     requires { (staged_in session ≡ []) × (length work.old ≡ 16384) }
     ensures { left result.session device.now work.new (started_of result.answer)
         ≡ store_line (state_of session device.now work.old) name.now amount.now }
 {
     let kept = first_image(work);
     let made = create(device, work, session, name);
-    let answer = made.answer;
-    match answer {
-        Done::Refused(why) => Committed {
-            session: session,
-            answer: Started::Refused(why),
-        },
-        Done::Done => {
-            let next = made.session;
-            finish_line(device, work, session, next, &kept, name, amount)
-        }
+    if let Err(why) = made.answer {
+        return Answered {
+            session,
+            answer: Err(why),
+        };
     }
+    let next = made.session;
+    finish_line(device, work, session, next, &kept, name, amount)
 }
 
-// The line of a card, with the next line behind it. Its number is counted where it is refused.
+// The line of a card. Its number is counted where it is refused.
 fn take_card(
     device: &[u8],
     work: &mut [u8],
     session: Session,
     text: &[u8],
     at: usize,
-    card: Card,
-    next: usize,
+    line: Line,
 ) -> LoadStep
     requires { (staged_in session ≡ []) × (length work.old ≡ 16384) }
     ensures { left_load result.session device.now work.new result.next (loaded_of result.answer)
-        ≡ take_named (state_of session device.now work.old) at (line_number text.now at) next
-        (name_told card.bytes card.number) (amount_bytes card.amount) }
+        ≡ take_named (state_of session device.now work.old) at (line_number text.now at) line.next
+        (name_told line.card.serial.bytes line.card.serial.number) (amount_bytes line.card.amount) }
 {
+    let card = line.card;
     let name = name_of(card);
     let amount = amount_bytes(card.amount);
     let c = store_line(device, work, session, &name, &amount);
-    let answer = c.answer;
     let after = c.session;
-    match answer {
-        Started::Refused(why) => {
-            load_step(after, Loaded::LineRefused(line_number(text, at), why), at)
-        }
-        Started::Stores(n) => load_step(after, Loaded::Started(n), next),
+    let (answer, next) = match c.answer {
+        Ok(n) => (Ok(Loaded::Started(n)), line.next),
+        Err(why) => (Err(LoadFault::LineRefused(line_number(text, at), why)), at),
+    };
+    LoadStep {
+        session: after,
+        answer,
+        next,
     }
 }
 
@@ -188,11 +161,16 @@ fn take_line(device: &[u8], work: &mut [u8], session: Session, text: &[u8], at: 
     ensures { left_load result.session device.now work.new result.next (loaded_of result.answer)
         ≡ take_line (state_of session device.now work.old) at (line_number text.now at) (standing text.now at) }
 {
-    match line_at(text, at) {
-        Line::TooLong => load_step(session, Loaded::TooLong(line_number(text, at)), at),
-        Line::BadForm => load_step(session, Loaded::Malformed(line_number(text, at)), at),
-        Line::NoLine => load_step(session, Loaded::NoneLeft, at),
-        Line::Found(card, next) => take_card(device, work, session, text, at, card, next),
+    let answer = match line_at(text, at) {
+        Ok(Some(line)) => return take_card(device, work, session, text, at, line),
+        Ok(None) => Ok(Loaded::NoneLeft),
+        Err(LineFault::TooLong) => Err(LoadFault::TooLong(line_number(text, at))),
+        Err(LineFault::BadForm) => Err(LoadFault::Malformed(line_number(text, at))),
+    };
+    LoadStep {
+        session,
+        answer,
+        next: at,
     }
 }
 
@@ -201,10 +179,14 @@ fn next_line(device: &[u8], work: &mut [u8], session: Session, text: &[u8], at: 
     ensures { left_load result.session device.now work.new result.next (loaded_of result.answer)
         ≡ after_begin (state_of session device.now work.old) text.now at (idle_ok (state_of session device.now work.old)) }
 {
-    match begin(device, work, session) {
-        Done::Refused(why) => load_step(session, Loaded::Refused(why), at),
-        Done::Done => take_line(device, work, session, text, at),
+    if let Err(why) = begin(device, work, session) {
+        return LoadStep {
+            session,
+            answer: Err(LoadFault::Refused(why)),
+            next: at,
+        };
     }
+    take_line(device, work, session, text, at)
 }
 
 // One step of a load: an advance while a commit is under way, else the next line.
@@ -218,16 +200,18 @@ pub fn step(
     ensures { left_load result.session device.new work.new result.next (loaded_of result.answer)
         ≡ load_step (state_of session device.old work.old) text.now at }
 {
-    let phase = session.phase;
-    match phase {
-        Phase::Committing(_) => {
-            let a = advance(device, work, session);
-            let answer = a.answer;
-            let after = a.session;
-            load_step(after, Loaded::Advanced(answer), at)
-        }
-        Phase::Closed => next_line(device, work, session, text, at),
-        Phase::Ready => next_line(device, work, session, text, at),
-        Phase::Recovering(_) => next_line(device, work, session, text, at),
+    if let Phase::Committing(_) = session.phase {
+        let a = advance(device, work, session);
+        let after = a.session;
+        let answer = match a.answer {
+            Ok(stored) => Ok(Loaded::Advanced(stored)),
+            Err(why) => Err(LoadFault::Refused(why)),
+        };
+        return LoadStep {
+            session: after,
+            answer,
+            next: at,
+        };
     }
+    next_line(device, work, session, text, at)
 }

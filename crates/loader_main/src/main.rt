@@ -1,8 +1,8 @@
 // Runs loads on devices of 64 blocks: what each step answers, and whether a refused step leaves the device and the work space as they were.
 #![tactic(auto)]
 
-use loader::{LoadStep, Loaded, begin, step};
-use spec::{Done, Limits, Phase, Refusal, Session, Started, Stored};
+use loader::{LoadFault, LoadStep, Loaded, begin, step};
+use spec::{BlockStored, Limits, Phase, Refusal, Session};
 use std::io;
 
 // ---- text
@@ -16,95 +16,51 @@ fn number(rt: &impl Print, n: usize) -> io::Result<()> {
     rt.print(n)
 }
 
-// The numbers of document 01.
-fn refusal_number(why: Refusal) -> usize {
-    match why {
-        Refusal::DeviceSize => 1,
-        Refusal::WorkSize => 2,
-        Refusal::BadName => 3,
-        Refusal::TooLarge => 4,
-        Refusal::BadHeader(_) => 10,
-        Refusal::Unsound => 11,
-        Refusal::NotReady => 12,
-        Refusal::Unknown => 13,
-        Refusal::Taken => 14,
-        Refusal::NoInode => 15,
-        Refusal::NoSpace => 16,
-        Refusal::TooManyExtents => 17,
-        Refusal::TooManyStaged => 18,
-        Refusal::ListShort => 19,
-    }
-}
-
-fn refused(rt: &impl Print, n: usize) -> io::Result<()> {
+fn refused(rt: &impl Print, n: u32) -> io::Result<()> {
     say(rt, b" refused")?;
-    number(rt, n)
+    number(rt, n as usize)
 }
 
-fn line_refused(rt: &impl Print, n: usize, line: usize) -> io::Result<()> {
+fn line_refused(rt: &impl Print, n: u32, line: usize) -> io::Result<()> {
     refused(rt, n)?;
     say(rt, b", line")?;
     number(rt, line)
 }
 
 // The block stored.
-fn stored(rt: &impl Print, a: Stored) -> io::Result<()> {
-    match a {
-        Stored::Refused(why) => refused(rt, refusal_number(why)),
-        Stored::Stored {
-            block,
-            last: _,
-            number: _,
-        } => number(rt, block.0 as usize),
-        Stored::Idle => say(rt, b" idle"),
+fn stored(rt: &impl Print, stored: Option<BlockStored>) -> io::Result<()> {
+    match stored {
+        Some(stored) => number(rt, stored.block.0 as usize),
+        None => say(rt, b" idle"),
     }
 }
 
-fn told(rt: &impl Print, a: Loaded) -> io::Result<()> {
-    match a {
-        Loaded::Refused(why) => refused(rt, refusal_number(why)),
-        Loaded::LineRefused(line, why) => line_refused(rt, refusal_number(why), line),
-        Loaded::TooLong(line) => line_refused(rt, 20, line),
-        Loaded::Malformed(line) => line_refused(rt, 21, line),
-        Loaded::Started(n) => {
+fn told(rt: &impl Print, answer: Result<Loaded, LoadFault>) -> io::Result<()> {
+    match answer {
+        Ok(Loaded::Started(n)) => {
             say(rt, b" started")?;
             number(rt, n)?;
             say(rt, b":")
         }
-        Loaded::Advanced(a) => stored(rt, a),
-        Loaded::NoneLeft => say(rt, b" none left"),
+        Ok(Loaded::Advanced(block)) => stored(rt, block),
+        Ok(Loaded::NoneLeft) => say(rt, b" none left"),
+        Err(LoadFault::Refused(why)) => refused(rt, why.number()),
+        Err(LoadFault::LineRefused(line, why)) => line_refused(rt, why.number(), line),
+        Err(LoadFault::TooLong(line)) => line_refused(rt, 20, line),
+        Err(LoadFault::Malformed(line)) => line_refused(rt, 21, line),
     }
 }
 
 fn may_begin<'a>(rt: &impl Print, device: &'a [u8], work: &'a [u8], s: Session) -> io::Result<()> {
     say(rt, b" begin")?;
     match begin(device, work, s) {
-        Done::Refused(why) => {
-            refused(rt, refusal_number(why))?;
-        }
-        Done::Done => {
-            say(rt, b" done")?;
-        }
+        Ok(()) => say(rt, b" done")?,
+        Err(why) => refused(rt, why.number())?,
     }
     say(rt, b",")
 }
 
 // ---- steps
-
-// Whether all bytes of one are those of the other.
-fn same(x: &[u8], y: &[u8]) -> bool {
-    if x.len() != y.len() {
-        return false;
-    }
-    let mut k: usize = 0;
-    while k < x.len() {
-        if x[k] != y[k] {
-            return false;
-        }
-        k += 1;
-    }
-    true
-}
 
 // n steps from a place, each told.
 fn steps(
@@ -118,18 +74,15 @@ fn steps(
 ) -> io::Result<LoadStep> {
     let mut t = s;
     let mut p = at;
-    let mut k: usize = 0;
-    while k < n {
+    for _ in 0..n {
         let r = step(device, work, t, text, p);
-        let a = r.answer;
-        told(rt, a)?;
+        told(rt, r.answer)?;
         t = r.session;
         p = r.next;
-        k += 1;
     }
     Ok(LoadStep {
         session: t,
-        answer: Loaded::NoneLeft,
+        answer: Ok(Loaded::NoneLeft),
         next: p,
     })
 }
@@ -137,23 +90,17 @@ fn steps(
 // n advances with no word.
 fn advance(device: &mut [u8], work: &[u8], s: Session, n: usize) -> Session {
     let mut t = s;
-    let mut k: usize = 0;
-    while k < n {
+    for _ in 0..n {
         let r = store::advance(device, work, t);
         t = r.session;
-        k += 1;
     }
     t
 }
 
 fn commit(device: &mut [u8], work: &[u8], s: Session) -> Session {
     let r = store::commit(device, work, s);
-    let a = r.answer;
     let t = r.session;
-    match a {
-        Started::Refused(_) => t,
-        Started::Stores(n) => advance(device, work, t, n),
-    }
+    advance(device, work, t, r.answer.unwrap_or(0))
 }
 
 // A file made and its size set.
@@ -181,7 +128,7 @@ impl Till {
         let r = store::open_store(&device, Session::never_opened());
         let s = r.session;
         Till {
-            device: device,
+            device,
             work: [9; Limits::WORK_SIZE],
             session: s,
         }
@@ -198,8 +145,7 @@ impl Till {
         let mut device = self.device;
         let mut work = self.work;
         let r = step(&mut device, &mut work, s, text, at);
-        let a = r.answer;
-        told(rt, a)?;
+        told(rt, r.answer)?;
         say(rt, b", next")?;
         number(rt, r.next)?;
         say(rt, b"\n")?;
@@ -210,7 +156,7 @@ impl Till {
     fn step_kept(self, rt: &impl Print, text: &[u8], at: usize) -> io::Result<()> {
         let work = self.step(rt, self.session, text, at)?;
         say(rt, b"its work space:")?;
-        if same(&work, &self.work) {
+        if work == self.work {
             return say(rt, b" kept\n");
         }
         say(rt, b" changed\n")
@@ -223,8 +169,8 @@ impl Till {
         let r = make(&device, &mut work, self.session, name, size);
         let s = commit(&mut device, &work, r);
         Till {
-            device: device,
-            work: work,
+            device,
+            work,
             session: s,
         }
     }
@@ -280,8 +226,8 @@ fn three_lines(rt: &impl Print, t: Till, text: &[u8]) -> io::Result<()> {
     let r = two_lines(rt, &mut device, &mut work, t.session, text)?;
     let s = r.session;
     let u = Till {
-        device: device,
-        work: work,
+        device,
+        work,
         session: s,
     };
     u.third(rt, text, r.next)
@@ -331,8 +277,8 @@ fn foreign(rt: &impl Print, t: Till, text: &[u8]) -> io::Result<()> {
     let mut work = t.work;
     let s = make(&device, &mut work, t.session, b"ABCDEFGH", 0);
     let u = Till {
-        device: device,
-        work: work,
+        device,
+        work,
         session: s,
     };
     say(rt, b"staged:")?;
@@ -381,12 +327,10 @@ fn no_room(rt: &impl Print, t: Till) -> io::Result<()> {
 // Files with the names 0 to n - 1 and seven bytes more.
 fn create_all(device: &[u8], work: &mut [u8], s: Session, n: u8) -> Session {
     let mut t = s;
-    let mut k: u8 = 0;
-    while k < n {
+    for k in 0..n {
         let name = [k, 2, 3, 4, 5, 6, 7, 8];
         let r = store::create(device, work, t, &name);
         t = r.session;
-        k += 1;
     }
     t
 }
@@ -398,8 +342,8 @@ fn all_records(rt: &impl Print, t: Till) -> io::Result<()> {
     let r = create_all(&device, &mut work, t.session, 128);
     let s = commit(&mut device, &work, r);
     let u = Till {
-        device: device,
-        work: work,
+        device,
+        work,
         session: s,
     };
     u.step_kept(rt, b"04A1B2C3;H;1250\n", 0)

@@ -1,5 +1,5 @@
 -- The cases of a look-up. Assumes nothing.
-use Prim.Native.Nat.{ℕ, ◌*◌, ◌-◌, ◌≤◌, min}
+use Prim.Native.Nat.{ℕ, ◌*◌, ◌-◌, ◌<◌, ◌≤◌, min}
 use native.Mathlib.Omega.{arith}
 use mathlib.Core.Path.{◌≡◌, refl, sym, ap, ◌∙◌}
 use mathlib.Core.Bool.{Bool, true, false, not, true≢false}
@@ -15,17 +15,20 @@ use Rattle.spec.specs.declared.Refusal.{Refusal}
 use Rattle.spec.specs.declared.Refusal.TheVariants.{BadName, TooLarge, NotReady, Unknown, Taken, NoInode}
 use Rattle.spec.specs.Answers.{Result, refuse, accept, require, ◌>>=◌, ◌>>◌}
 use Rattle.spec.specs.Session.{staged_in}
-use Rattle.spec.specs.Transaction.{state_of, view}
-use Rattle.transaction.specs.Places.{session_of, view_in}
-use Rattle.transaction.proofs.Laws.{staged-lent, staged-parts, cells-lent, view_of}
+use Rattle.spec.specs.Transaction.{State, state_of, view}
+use Rattle.transaction.specs.Places.{session_of}
+use Rattle.transaction.specs.Volumes.{working, Shows}
+use Rattle.transaction.specs.declared.volume.Volume.{Volume}
+use Rattle.transaction.proofs.Laws.{staged-lent, staged-parts, cells-lent, shows-view}
 use Rattle.spec.specs.Calls.{lent_ok, name_ok, size_fits, is_ready, is_taken, known, empty_inode, file_ok, sized_ok}
 use Rattle.checks.specs.Checks.{Of, Seen, names_ok, name_size_ok}
 use Rattle.checks.proofs.Laws.{accept≢refuse, lent_says, then-passed, require-passed, named-says, names-say, sized-says}
 use Rattle.inode.specs.Records.{found_of}
-use Rattle.inode.proofs.Laws.{found_at, found_nothing}
-use Rattle.inode.specs.declared.Found.{Found}
-use Rattle.inode.specs.declared.Found.TheVariants.{At, Nothing}
-use Rattle.lookup.specs.Looks.{new_ok, unless_taken, rename_ok}
+use Rattle.inode.proofs.Laws.{find-low, find-empty-low}
+use Rattle.std.specs.Prelude.{Option as Returned, Some, ok_or}
+use Rattle.std.specs.Prelude.{is_some as given}
+use Rattle.spec.specs.Bytes.{found, is_some}
+use Rattle.lookup.specs.Looks.{looked_of, InTable, new_ok, unless_taken, rename_ok}
 
 then-assoc : {A B C : Type 0} (a : Result A) (b : Result B) (x : Result C) → (a >> b) >> x ≡ a >> (b >> x)
 then-assoc (refuse r) b x = refl
@@ -40,89 +43,63 @@ pub seen-cells : (blocks : ℕ) (phase : Phase) (cells : List ℕ) (count n : �
 seen-cells blocks phase cells count n h e =
     record { head = record { size = refl; at-phase = refl }; numbers = staged-parts cells count blocks phase ∙ sym (cells-lent cells count n h e) }
 
--- what is found in the view of the numbers staged
-pub found_of_lem : (s : Session) (d w l name : List ℕ) (r : Found) → staged_in s ≡ l → r ≡ found_of (find (view_in l d w) name) → r ≡ found_of (find (view (state_of s d w)) name)
-found_of_lem s d w l name r e f = f ∙ ap (λ (v : Disk). found_of (find v name)) (view_of s d w l e)
+-- ---- 13, 14 and 15
 
-module _ (s : Session) (d w name : List ℕ) where
-  -- ---- 13 and 15
+-- what a search tells, as a record or a refusal
+module _ (o : Option ℕ) (r : Refusal) where
+  looked-found : looked_of (ok_or (found_of o) r) ≡ found o (refuse r) accept
+  looked-found = go o
+    where
+      go : (x : Option ℕ) → looked_of (ok_or (found_of x) r) ≡ found x (refuse r) accept
+      go none = refl
+      go (some i) = refl
 
-  pub known_at : (i : ℕ) → found_of (find (view (state_of s d w)) name) ≡ At i → accept i ≡ known (state_of s d w) name
-  known_at i f = rw (found_at (find (view (state_of s d w)) name) i f)
+  looked_low : ((i : ℕ) → found_of o ≡ Some i → i < 128) → InTable (ok_or (found_of o) r)
+  looked_low = go o
+    where
+      go : (x : Option ℕ) → ((i : ℕ) → found_of x ≡ Some i → i < 128) → InTable (ok_or (found_of x) r)
+      go none h = tt
+      go (some i) h = h i refl
 
-  pub known-nothing : found_of (find (view (state_of s d w)) name) ≡ Nothing → refuse Unknown ≡ known (state_of s d w) name
-  known-nothing f = rw (found_nothing (find (view (state_of s d w)) name) f)
+some-found : (o : Option ℕ) → given (found_of o) ≡ is_some o
+some-found none = refl
+some-found (some i) = refl
 
-  pub empty-at : (i : ℕ) → found_of (find_empty (view (state_of s d w))) ≡ At i → accept i ≡ empty_inode (state_of s d w)
-  empty-at i f = rw (found_at (find_empty (view (state_of s d w))) i f)
+module _ (v : Volume) (name : List ℕ) (r : Returned ℕ) (f : r ≡ found_of (find (working v.copy) name)) where
+  pub known_is : (s : State) → Shows v s → looked_of (ok_or r Unknown) ≡ known s name
+  known_is s e = rw f (looked-found (find (working v.copy) name) Unknown ∙ ap (λ (d : Disk). found (find d name) (refuse Unknown) accept) (shows-view v s e))
 
-  pub empty-nothing : found_of (find_empty (view (state_of s d w))) ≡ Nothing → refuse NoInode ≡ empty_inode (state_of s d w)
-  empty-nothing f = rw (found_nothing (find_empty (view (state_of s d w))) f)
+  pub known-low : InTable (ok_or r Unknown)
+  known-low = rw f (looked_low (find (working v.copy) name) Unknown (find-low (working v.copy) name))
 
-  -- ---- a file
+  pub taken_is : (s : State) (t : Bool) → Shows v s → t ≡ given r → is_taken s name ≡ t
+  taken_is s t e q = sym (q ∙ rw f (some-found (find (working v.copy) name) ∙ ap (λ (d : Disk). is_some (find d name)) (shows-view v s e)))
 
-  pub look-bad : (r : Refusal) → refuse r ≡ name_ok (state_of s d w) name → refuse r ≡ file_ok (state_of s d w) name
-  unfolding file_ok
-  look-bad r e = rw (← e)
+module _ (v : Volume) (r : Returned ℕ) (f : r ≡ found_of (find_empty (working v.copy))) where
+  pub empty_is : (s : State) → Shows v s → looked_of (ok_or r NoInode) ≡ empty_inode s
+  empty_is s e = rw f (looked-found (find_empty (working v.copy)) NoInode ∙ ap (λ (d : Disk). found (find_empty d) (refuse NoInode) accept) (shows-view v s e))
 
-  pub look-fine : (t : Bool) → accept t ≡ name_ok (state_of s d w) name → known (state_of s d w) name ≡ file_ok (state_of s d w) name
-  unfolding file_ok
-  look-fine t e = rw (← e)
+  pub empty-low : InTable (ok_or r NoInode)
+  empty-low = rw f (looked_low (find_empty (working v.copy)) NoInode (find-empty-low (working v.copy)))
 
+module _ (s : State) (name : List ℕ) where
   -- ---- a file and a size
 
   module _ (size : ℕ) where
-    sized-parts : name_size_ok (state_of s d w) name size >> known (state_of s d w) name ≡ sized_ok (state_of s d w) name size
+    sized-parts : name_size_ok s name size >> known s name ≡ sized_ok s name size
     unfolding name_size_ok sized_ok
     sized-parts =
-        then-assoc (lent_ok (state_of s d w)) _ (known (state_of s d w) name)
-        ∙ ap (λ (x : Result ℕ). lent_ok (state_of s d w) >> x)
-        (then-assoc (require (is_name name) BadName) _ (known (state_of s d w) name)
+        then-assoc (lent_ok s) _ (known s name)
+        ∙ ap (λ (x : Result ℕ). lent_ok s >> x)
+        (then-assoc (require (is_name name) BadName) _ (known s name)
         ∙ ap (λ (x : Result ℕ). require (is_name name) BadName >> x)
-        (then-assoc (require (size_fits size) TooLarge) (require (is_ready s.phase) NotReady) (known (state_of s d w) name)))
+        (then-assoc (require (size_fits size) TooLarge) (require (is_ready s.session.phase) NotReady) (known s name)))
 
-    pub sized-bad : (r : Refusal) → refuse r ≡ name_size_ok (state_of s d w) name size → refuse r ≡ sized_ok (state_of s d w) name size
-    sized-bad r e = ap (λ (x : Result Bool). x >> known (state_of s d w) name) e ∙ sized-parts
+    pub sized-bad : (r : Refusal) → refuse r ≡ name_size_ok s name size → refuse r ≡ sized_ok s name size
+    sized-bad r e = ap (λ (x : Result Bool). x >> known s name) e ∙ sized-parts
 
-    pub sized-fine : (t : Bool) → accept t ≡ name_size_ok (state_of s d w) name size → known (state_of s d w) name ≡ sized_ok (state_of s d w) name size
-    sized-fine t e = ap (λ (x : Result Bool). x >> known (state_of s d w) name) e ∙ sized-parts
-
-  -- ---- a new file
-
-  pub new-bad : (r : Refusal) → refuse r ≡ name_ok (state_of s d w) name → refuse r ≡ new_ok (state_of s d w) name
-  unfolding new_ok
-  new-bad r e = rw (← e)
-
-  pub new-taken : (t : Bool) (i : ℕ) → accept t ≡ name_ok (state_of s d w) name → found_of (find (view (state_of s d w)) name) ≡ At i → refuse Taken ≡ new_ok (state_of s d w) name
-  unfolding new_ok
-  new-taken t i e f = rw (← e, found_at (find (view (state_of s d w)) name) i f)
-
-  pub new-fine : (t : Bool) → accept t ≡ name_ok (state_of s d w) name → found_of (find (view (state_of s d w)) name) ≡ Nothing → empty_inode (state_of s d w) ≡ new_ok (state_of s d w) name
-  unfolding new_ok
-  new-fine t e f = rw (← e, found_nothing (find (view (state_of s d w)) name) f)
-
-  -- ---- two names
-
-  module _ (new : List ℕ) where
-    pub pair-unknown : found_of (find (view (state_of s d w)) name) ≡ Nothing → refuse Unknown ≡ unless_taken (state_of s d w) name new
-    unfolding unless_taken
-    pair-unknown f = rw (found_nothing (find (view (state_of s d w)) name) f)
-
-    pub pair-taken : (i j : ℕ) → found_of (find (view (state_of s d w)) name) ≡ At i → found_of (find (view (state_of s d w)) new) ≡ At j → refuse Taken ≡ unless_taken (state_of s d w) name new
-    unfolding unless_taken
-    pair-taken i j f g = rw (found_at (find (view (state_of s d w)) name) i f, found_at (find (view (state_of s d w)) new) j g)
-
-    pub pair-fine : (i : ℕ) → found_of (find (view (state_of s d w)) name) ≡ At i → found_of (find (view (state_of s d w)) new) ≡ Nothing → accept i ≡ unless_taken (state_of s d w) name new
-    unfolding unless_taken
-    pair-fine i f g = rw (found_at (find (view (state_of s d w)) name) i f, found_nothing (find (view (state_of s d w)) new) g)
-
-    pub rename-bad : (r : Refusal) → refuse r ≡ names_ok (state_of s d w) name new → refuse r ≡ rename_ok (state_of s d w) name new
-    unfolding rename_ok
-    rename-bad r e = rw (← e)
-
-    pub rename-fine : (t : Bool) → accept t ≡ names_ok (state_of s d w) name new → unless_taken (state_of s d w) name new ≡ rename_ok (state_of s d w) name new
-    unfolding rename_ok
-    rename-fine t e = rw (← e)
+    pub sized-fine : (t : Bool) → accept t ≡ name_size_ok s name size → known s name ≡ sized_ok s name size
+    sized-fine t e = ap (λ (x : Result Bool). x >> known s name) e ∙ sized-parts
 
 -- ---- what a record that was found has shown: the length of the work space, and of a name or a size
 
@@ -170,27 +147,5 @@ module _ (s : Session) (d w name : List ℕ) (i : ℕ) where
 
   pub size-says : (size : ℕ) → accept i ≡ sized_ok (state_of s d w) name size → (length w ≡ 16384) × (size ≤ 1048576)
   size-says size h =
-      let p = then-passed (name_size_ok (state_of s d w) name size) (known (state_of s d w) name) i (h ∙ sym (sized-parts s d w name size)) in
+      let p = then-passed (name_size_ok (state_of s d w) name size) (known (state_of s d w) name) i (h ∙ sym (sized-parts (state_of s d w) name size)) in
       sized-says s d w name size p.value p.first
-
--- ---- slices made anew
-
--- a part that is the whole
-pub whole : (xs : List ℕ) (n : ℕ) → n ≡ length xs → take (n - 0) (drop 0 xs) ≡ xs
-whole xs n e = let z : n - 0 ≡ n = omega arith in rw z (take_all n xs (omega arith))
-
--- what tests that passed have shown of the device
-module _ (blocks : ℕ) (phase : Phase) (d w name : List ℕ) (t : Bool) where
-  abbrev any : Session
-  any = session_of blocks phase [] 0
-
-  parts : Of blocks phase any
-  parts = record { size = refl; at-phase = refl }
-
-  pub named-device : ((s : Session) → Of blocks phase s → accept t ≡ name_ok (state_of s d w) name) → 512 * blocks ≡ length d
-  unfolding name_ok
-  named-device h = let p = then-passed (lent_ok (state_of any d w)) _ t (h any parts) in (lent_says any d w p.value p.first).device
-
-  pub sized-device : (size : ℕ) → ((s : Session) → Of blocks phase s → accept t ≡ name_size_ok (state_of s d w) name size) → 512 * blocks ≡ length d
-  unfolding name_size_ok
-  sized-device size h = let p = then-passed (lent_ok (state_of any d w)) _ t (h any parts) in (lent_says any d w p.value p.first).device

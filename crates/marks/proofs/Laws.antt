@@ -16,7 +16,6 @@ use lib.Seq.{get_or-set_same, get_or-set_other}
 use Rattle.spec.specs.Bytes.{exactly, all, occurs, up_from, concat, lowest}
 use Rattle.spec.specs.Bitmap.{bits_of}
 use Rattle.spec.specs.Disk.{Disk, is_data_area, area_of, in_data}
-use Rattle.spec.specs.declared.Area.{Area}
 use Rattle.spec.specs.declared.Area.TheVariants.{Header, Log, Bitmap, Inodes, Data}
 use Rattle.spec.specs.Inode.{reached_from, reached}
 use Rattle.spec.specs.Sound.{block_sound, bit_fault, block_fault}
@@ -24,11 +23,11 @@ use Rattle.lists.specs.Counts.{up_from-occurs}
 use Rattle.lists.specs.All.{all-at}
 use Rattle.bitmap.proofs.Laws.{length-bits, bit_at, bits-binary, occurs-append}
 use Rattle.block.proofs.Laws.{lt-or-le, length-exactly}
-use Rattle.inode.specs.declared.Found.{Found}
-use Rattle.inode.specs.declared.Found.TheVariants.{Nothing}
+use Rattle.std.specs.Prelude.{Option, None}
 use Rattle.inode.specs.Records.{found_of, lowest_to}
 use Rattle.inode.proofs.Laws.{lowest-agree}
 use Rattle.mkfs.specs.Table.{Cleared}
+use Rattle.marks.specs.declared.Marks.{Marks}
 use Rattle.marks.specs.Marks.{bit, counted, Kept, reach_to, wrong, right_to}
 
 -- ---- within 42 to N-1
@@ -53,21 +52,6 @@ data-low N x h =
 data-in : (N x : ℕ) → 42 ≤ x → x < N → in_data N x ≡ true
 unfolding in_data area_of
 data-in N x l h = rw (le-ltb x 1 (omega arith), le-ltb x 33 (omega arith), le-ltb x 34 (omega arith), le-ltb x 42 l, lt-ltb x N h)
-
--- a block lies from 42 on exactly where its area is that of data
-data-from-42 : (b : ℕ) → 42 ≤ b → is_data_area (area_of b) ≡ true
-unfolding area_of
-data-from-42 b l = rw (le-ltb b 1 (omega arith), le-ltb b 33 (omega arith), le-ltb b 34 (omega arith), le-ltb b 42 l)
-
-module _ (b : ℕ) (x a : Area) (e : x ≡ area_of b) (q : x ≡ a) where
-  pub area-low : is_data_area a ≡ false → 42 ≡ max 42 b
-  area-low h = ⊎_elim (λ l. omega arith) (λ l. absurd (true≢false (sym (data-from-42 b l) ∙ ap is_data_area (sym e ∙ q) ∙ h))) (lt-or-le b 42)
-
-  pub area-data : is_data_area a ≡ true → b ≡ max 42 b
-  unfolding area_of
-  area-data h =
-      let l = ltb-false b 42 (data-area (ltb b 1) (ltb b 33) (ltb b 34) (ltb b 42) (ap is_data_area (sym e ∙ q) ∙ h)) in
-      omega arith
 
 -- ---- bits
 
@@ -170,8 +154,8 @@ unfolding counted
 counted-in N x bs h = rw h
 
 -- a block that does not count
-pub mark-out : (N b : ℕ) (o t : List ℕ) (r : Bool) → r ≡ in_data N b → not r ≡ true → Kept N o t [] o t (b ∷ [])
-mark-out N b o t r e h = record { once = λ x. omega (arith, counted-nil N x, none_of x); twice = λ x. omega (arith, counted-nil N x, none_of x) }
+pub mark-out : (N b : ℕ) (m : Marks) (r : Bool) → r ≡ in_data N b → not r ≡ true → Kept N m [] m (b ∷ [])
+mark-out N b m r e h = record { once = λ x. omega (arith, counted-nil N x, none_of x); twice = λ x. omega (arith, counted-nil N x, none_of x) }
   where
     none_of : (x : ℕ) → counted N x (b ∷ []) ≡ 0
     none_of x = go (eqb b x) refl
@@ -181,7 +165,13 @@ mark-out N b o t r e h = record { once = λ x. omega (arith, counted-nil N x, no
         go false q = counted_none N x (b ∷ []) (rw q)
 
 -- blocks marked whose bits lie in one byte
-module _ (o t : List ℕ) (b n : ℕ) (lo : length o ≡ 512) (lt : length t ≡ 512) (low : 42 ≤ b) (some : 0 < n) (few : b % 8 + n ≤ 8) (less : b < 4096) where
+module _ (s : Marks) (b n : ℕ) (lo : length s.once ≡ 512) (lt : length s.twice ≡ 512) (low : 42 ≤ b) (some : 0 < n) (few : b % 8 + n ≤ 8) (less : b < 4096) where
+  abbrev o : List ℕ
+  o = s.once
+
+  abbrev t : List ℕ
+  t = s.twice
+
   abbrev m : ℕ
   m = mask n (b % 8)
 
@@ -255,13 +245,13 @@ module _ (o t : List ℕ) (b n : ℕ) (lo : length o ≡ 512) (lt : length t ≡
     each x = ⊎_elim (below-run x) (λ h. ⊎_elim (in-run x h) (above-run x) (lt-or-le x (b + n))) (lt-or-le x b)
 
     pub byte-marked : (y z : ℕ) → y ≡ bit_or (get_or o (b / 8) 0) m → z ≡ bit_or (get_or t (b / 8) 0) (bit_and (get_or o (b / 8) 0) m)
-        → Kept N (set o (b / 8) y) (set t (b / 8) z) [] o t (up_from b n)
+        → Kept N (record { once = set o (b / 8) y; twice = set t (b / 8) z }) [] s (up_from b n)
     byte-marked y z ey ez = rw (ey, ez) (record { once = λ x. (each x).0; twice = λ x. (each x).1 })
 
 -- ---- some of the blocks that are left marked
 
-pub kept-start : (N : ℕ) (o t bs cs : List ℕ) → bs ≡ cs → Kept N o t bs o t cs
-kept-start N o t bs cs e = record { once = λ x. rw e; twice = λ x. rw e }
+pub kept-start : (N : ℕ) (m : Marks) (bs cs : List ℕ) → bs ≡ cs → Kept N m bs m cs
+kept-start N m bs cs e = record { once = λ x. rw e; twice = λ x. rw e }
 
 -- blocks L are bs and those of M
 abbrev pub Split : List ℕ → List ℕ → List ℕ → Type 0
@@ -275,22 +265,22 @@ counted-split N L bs M s x = go (in_data N x)
     go true = s x
     go false = refl
 
-module _ (N : ℕ) (o t L o₀ t₀ L₀ : List ℕ) (k : Kept N o t L o₀ t₀ L₀) where
-  pub kept_on : (o₁ t₁ bs M : List ℕ) → Split L bs M → Kept N o₁ t₁ [] o t bs → Kept N o₁ t₁ M o₀ t₀ L₀
-  kept_on o₁ t₁ bs M s m = record {
-    once = λ x. let a = k.once x in let b = m.once x in let n = counted-nil N x in let c = counted-split N L bs M s x in omega (arith, a, b, n, c);
-    twice = λ x. let a = k.twice x in let b = m.twice x in let n = counted-nil N x in let c = counted-split N L bs M s x in omega (arith, a, b, n, c);
+module _ (N : ℕ) (m : Marks) (L : List ℕ) (m₀ : Marks) (L₀ : List ℕ) (k : Kept N m L m₀ L₀) where
+  pub kept_on : (m₁ : Marks) (bs M : List ℕ) → Split L bs M → Kept N m₁ [] m bs → Kept N m₁ M m₀ L₀
+  kept_on m₁ bs M s g = record {
+    once = λ x. let a = k.once x in let b = g.once x in let n = counted-nil N x in let c = counted-split N L bs M s x in omega (arith, a, b, n, c);
+    twice = λ x. let a = k.twice x in let b = g.twice x in let n = counted-nil N x in let c = counted-split N L bs M s x in omega (arith, a, b, n, c);
   }
 
   -- none is left, and those marked are the blocks cs
-  pub kept-end : (cs : List ℕ) → L ≡ [] → L₀ ≡ cs → Kept N o t [] o₀ t₀ cs
+  pub kept-end : (cs : List ℕ) → L ≡ [] → L₀ ≡ cs → Kept N m [] m₀ cs
   kept-end cs e f = record { once = λ x. rw (← e, ← f) (k.once x); twice = λ x. rw (← e, ← f) (k.twice x) }
 
 -- ---- a run of blocks
 
 -- those within 42 to N-1 alone count
-pub run-start : (N a m b e : ℕ) (o t : List ℕ) → b ≡ max 42 a → e ≡ min (a + m) N → Kept N o t (up_from b (e - b)) o t (up_from a m)
-run-start N a m b e o t eb ee = record { once = λ x. rw (same x); twice = λ x. rw (same x) }
+pub run-start : (N a m b e : ℕ) (s : Marks) → b ≡ max 42 a → e ≡ min (a + m) N → Kept N s (up_from b (e - b)) s (up_from a m)
+run-start N a m b e s eb ee = record { once = λ x. rw (same x); twice = λ x. rw (same x) }
   where
     inner : (x : ℕ) → in_data N x ≡ true → occurs x (up_from b (e - b)) ≡ occurs x (up_from a m)
     inner x d =
@@ -312,10 +302,11 @@ run-append a (suc n) k =
     let y : suc n + k ≡ suc (n + k) = omega arith in let z : a + suc n ≡ suc a + n = omega arith in
     rw (y, z) (ap (λ (l : List ℕ). a ∷ l) (run-append (suc a) n k))
 
-pub run_more : (b e n : ℕ) → b + n ≤ e → Split (up_from b (e - b)) (up_from b n) (up_from (b + n) (e - (b + n)))
-run_more b e n h x =
-    let z : e - b ≡ n + (e - (b + n)) = omega arith in
-    ap (λ (k : ℕ). occurs x (up_from b k)) z ∙ ap (occurs x) (run-append b n (e - (b + n))) ∙ occurs-append x (up_from b n) (up_from (b + n) (e - (b + n)))
+pub run_more : (b e n p : ℕ) → b + n ≡ p → p ≤ e → Split (up_from b (e - b)) (up_from b n) (up_from p (e - p))
+run_more b e n p q h x =
+    let z : e - b ≡ n + (e - p) = omega arith in
+    ap (λ (k : ℕ). occurs x (up_from b k)) z ∙ ap (occurs x) (run-append b n (e - p)) ∙ occurs-append x (up_from b n) (up_from (b + n) (e - p))
+    ∙ ap (λ (k : ℕ). occurs x (up_from b n) + occurs x (up_from k (e - p))) q
 
 pub run_end : (b e : ℕ) → e ≤ b → up_from b (e - b) ≡ []
 run_end b e h = let z : e - b ≡ 0 = omega arith in rw z
@@ -374,46 +365,46 @@ lowest-off : (a n : ℕ) → lowest a n (λ k. false) ≡ none
 lowest-off a zero = refl
 lowest-off a (suc n) = lowest-off (suc a) n
 
-found-off : (m i : ℕ) → lowest_to m (λ k. false) i ≡ Nothing
+found-off : (m i : ℕ) → lowest_to m (λ k. false) i ≡ None
 unfolding lowest_to
 found-off m i = ap found_of (lowest-off i (m - i))
 
 -- whole bytes compared
-module _ (o t bits : List ℕ) where
-  pub right-none : (r : Bool) → r ≡ true → r ≡ right_to 0 o t bits
+module _ (m : Marks) (bits : List ℕ) where
+  pub right-none : (r : Bool) → r ≡ true → r ≡ right_to 0 m bits
   unfolding right_to
   right-none r e = e
 
-  pub right-more : (k : ℕ) (r : Bool) → r ≡ right_to k o t bits → r && (eqb (get_or o k 0) (get_or bits k 0) && eqb (get_or t k 0) 0) ≡ right_to (k + 1) o t bits
+  pub right-more : (k : ℕ) (r : Bool) → r ≡ right_to k m bits → r && (eqb (get_or m.once k 0) (get_or bits k 0) && eqb (get_or m.twice k 0) 0) ≡ right_to (k + 1) m bits
   unfolding right_to
   right-more k r e = rw (add-one k, e)
 
-  pub right_end : (k : ℕ) (r : Bool) → r ≡ right_to k o t bits → k ≡ 512 → r ≡ right_to 512 o t bits
+  pub right_end : (k : ℕ) (r : Bool) → r ≡ right_to k m bits → k ≡ 512 → r ≡ right_to 512 m bits
   right_end k r e h = rw (← h) e
 
-  right-says : (n k : ℕ) → k < n → right_to n o t bits ≡ true → (get_or o k 0 ≡ get_or bits k 0) × (get_or t k 0 ≡ 0)
+  right-says : (n k : ℕ) → k < n → right_to n m bits ≡ true → (get_or m.once k 0 ≡ get_or bits k 0) × (get_or m.twice k 0 ≡ 0)
   unfolding right_to
   right-says zero k h e = absurd (omega arith)
   right-says (suc n) k h e = go (eqb k n) refl (right-says n k)
     where
-      p : (right_to n o t bits ≡ true) × (eqb (get_or o n 0) (get_or bits n 0) && eqb (get_or t n 0) 0 ≡ true)
-      p = and-true (right_to n o t bits) (eqb (get_or o n 0) (get_or bits n 0) && eqb (get_or t n 0) 0) e
+      p : (right_to n m bits ≡ true) × (eqb (get_or m.once n 0) (get_or bits n 0) && eqb (get_or m.twice n 0) 0 ≡ true)
+      p = and-true (right_to n m bits) (eqb (get_or m.once n 0) (get_or bits n 0) && eqb (get_or m.twice n 0) 0) e
 
-      go : (d : Bool) → eqb k n ≡ d → (k < n → right_to n o t bits ≡ true → (get_or o k 0 ≡ get_or bits k 0) × (get_or t k 0 ≡ 0)) → (get_or o k 0 ≡ get_or bits k 0) × (get_or t k 0 ≡ 0)
+      go : (d : Bool) → eqb k n ≡ d → (k < n → right_to n m bits ≡ true → (get_or m.once k 0 ≡ get_or bits k 0) × (get_or m.twice k 0 ≡ 0)) → (get_or m.once k 0 ≡ get_or bits k 0) × (get_or m.twice k 0 ≡ 0)
       go true q ih =
-          let r = and-true (eqb (get_or o n 0) (get_or bits n 0)) (eqb (get_or t n 0) 0) p.1 in
-          rw (eqb-true k n q) (eqb-true (get_or o n 0) (get_or bits n 0) r.0, eqb-true (get_or t n 0) 0 r.1)
+          let r = and-true (eqb (get_or m.once n 0) (get_or bits n 0)) (eqb (get_or m.twice n 0) 0) p.1 in
+          rw (eqb-true k n q) (eqb-true (get_or m.once n 0) (get_or bits n 0) r.0, eqb-true (get_or m.twice n 0) 0 r.1)
       go false q ih = let ne = eqb-false k n q in ih (omega arith) p.0
 
-  module _ (lo : length o ≡ 512) (lt : length t ≡ 512) (lb : length bits ≡ 512) where
-    right-bit : right_to 512 o t bits ≡ true → (b : ℕ) → b < 4096 → wrong o t bits b ≡ false
+  module _ (lo : length m.once ≡ 512) (lt : length m.twice ≡ 512) (lb : length bits ≡ 512) where
+    right-bit : right_to 512 m bits ≡ true → (b : ℕ) → b < 4096 → wrong m bits b ≡ false
     unfolding wrong
     right-bit h b l =
         let p = right-says 512 (b / 8) (omega arith) h in
-        rw (bit-same o bits b lo lb l p.0, bit-zero t b lt l p.1, beq_same (eqb (bit bits b) 1))
+        rw (bit-same m.once bits b lo lb l p.0, bit-zero m.twice b lt l p.1, beq_same (eqb (bit bits b) 1))
 
-    pub all_right : right_to 512 o t bits ≡ true → lowest_to 4096 (wrong o t bits) 0 ≡ Nothing
-    all_right h = lowest-agree 4096 (wrong o t bits) (λ k. false) 0 (λ k a l. right-bit h k l) ∙ found-off 4096 0
+    pub all_right : right_to 512 m bits ≡ true → lowest_to 4096 (wrong m bits) 0 ≡ None
+    all_right h = lowest-agree 4096 (wrong m bits) (λ k. false) 0 (λ k a l. right-bit h k l) ∙ found-off 4096 0
 
 -- ---- the marks of all records and the bitmap
 
@@ -455,47 +446,47 @@ zero-byte (suc n) zero = refl
 zero-byte (suc n) (suc i) = zero-byte n i
 
 -- `once` begins with zeros from 42 to N-1 and ones elsewhere, `twice` with zeros
-module _ (N n : ℕ) (y z o t reach bm : List ℕ) (most : n ≡ max 42 N) (start : Cleared y n) (blank : z ≡ replicate 512 0) (full : length bm ≡ 512) (k : Kept N o t [] y z reach) where
-  blank-bit : (b : ℕ) → b < 4096 → bit z b ≡ 0
-  blank-bit b h = bit-zero z b (ap length blank ∙ length-replicate {A = ℕ} 512 0) h (ap (λ (l : List ℕ). get_or l (b / 8) 0) blank ∙ zero-byte 512 (b / 8))
+module _ (N : ℕ) (s m : Marks) (reach bm : List ℕ) (start : Cleared s.once (max 42 N)) (blank : s.twice ≡ replicate 512 0) (full : length bm ≡ 512) (k : Kept N m [] s reach) where
+  blank-bit : (b : ℕ) → b < 4096 → bit s.twice b ≡ 0
+  blank-bit b h = bit-zero s.twice b (ap length blank ∙ length-replicate {A = ℕ} 512 0) h (ap (λ (l : List ℕ). get_or l (b / 8) 0) blank ∙ zero-byte 512 (b / 8))
 
-  start-in : (b : ℕ) → in_data N b ≡ true → bit y b ≡ 0
+  start-in : (b : ℕ) → in_data N b ≡ true → bit s.once b ≡ 0
   unfolding bit
   start-in b q = let l = data-low N b q in start.zero_bit b l.0 (omega arith)
 
-  start-out : (b : ℕ) → b < 4096 → in_data N b ≡ false → bit y b ≡ 1
+  start-out : (b : ℕ) → b < 4096 → in_data N b ≡ false → bit s.once b ≡ 1
   unfolding bit
   start-out b h q =
       ⊎_elim (start.low b) (λ l. start.high b l (⊎_elim (λ m. absurd (true≢false (sym (data-in N b l m) ∙ q))) (λ m. omega arith) (lt-or-le b N)) h) (lt-or-le b 42)
 
-  wrong-is : (b : ℕ) → b < 4096 → wrong o t bm b ≡ not (block_sound N reach b (bit bm b))
+  wrong-is : (b : ℕ) → b < 4096 → wrong m bm b ≡ not (block_sound N reach b (bit bm b))
   unfolding wrong counted
   wrong-is b h = go (in_data N b) refl
     where
-      go : (p : Bool) → in_data N b ≡ p → wrong o t bm b ≡ not (block_sound N reach b (bit bm b))
+      go : (p : Bool) → in_data N b ≡ p → wrong m bm b ≡ not (block_sound N reach b (bit bm b))
       go true q =
           let e = rw (q, start-in b q) at (k.once b) in
           let f = rw (q, start-in b q, blank-bit b h) at (k.twice b) in
-          rw q (marks-say (bit o b) (bit t b) (bit bm b) (occurs b reach) (bit-lt o b) (bit-lt t b) (bit-lt bm b) (omega arith) (omega arith))
+          rw q (marks-say (bit m.once b) (bit m.twice b) (bit bm b) (occurs b reach) (bit-lt m.once b) (bit-lt m.twice b) (bit-lt bm b) (omega arith) (omega arith))
       go false q =
           let e = rw (q, start-out b h q) at (k.once b) in
           let f = rw (q, start-out b h q, blank-bit b h) at (k.twice b) in
-          let a : bit o b ≡ 1 = let l = bit-lt o b in omega arith in
-          let c : bit t b ≡ 0 = omega arith in
+          let a : bit m.once b ≡ 1 = let l = bit-lt m.once b in omega arith in
+          let c : bit m.twice b ≡ 0 = omega arith in
           rw (q, a, c) (beq-true (eqb (bit bm b) 1))
 
-  pub fault-is : (r : Found) → r ≡ lowest_to 4096 (wrong o t bm) 0 → r ≡ found_of (bit_fault N reach 0 (bits_of bm))
+  pub fault-is : (r : Option ℕ) → r ≡ lowest_to 4096 (wrong m bm) 0 → r ≡ found_of (bit_fault N reach 0 (bits_of bm))
   unfolding lowest_to bit
   fault-is r e =
       let l : length (bits_of bm) ≡ 4096 = omega (arith, length-bits bm) in
-      e ∙ lowest-agree 4096 (wrong o t bm) (λ b. not (block_sound N reach b (bit bm b))) 0 (λ b p h. wrong-is b h)
+      e ∙ lowest-agree 4096 (wrong m bm) (λ b. not (block_sound N reach b (bit bm b))) 0 (λ b p h. wrong-is b h)
       ∙ ap (λ (i : ℕ). found_of (lowest 0 i (λ b. not (block_sound N reach b (bit bm b))))) (sym l)
       ∙ sym (ap found_of (bits-lowest N reach (bit bm) (bits_of bm) 0 (λ j h. ap (bit bm) (let y : j ≡ 0 + j = omega arith in y))))
 
 -- the whole test of a disk, with its bitmap lent
-pub disk-fault : (N n : ℕ) (v : Disk) (y z o t bm lent : List ℕ) (r : Found) → n ≡ max 42 N → Cleared y n → z ≡ replicate 512 0 → Kept N o t [] y z (reached v)
-    → exactly 512 lent ≡ v 33 → bm ≡ exactly 512 lent → r ≡ lowest_to 4096 (wrong o t bm) 0 → r ≡ found_of (block_fault N v)
+pub disk-fault : (N : ℕ) (v : Disk) (s m : Marks) (bm lent : List ℕ) (r : Option ℕ) → Cleared s.once (max 42 N) → s.twice ≡ replicate 512 0 → Kept N m [] s (reached v)
+    → exactly 512 lent ≡ v 33 → bm ≡ exactly 512 lent → r ≡ lowest_to 4096 (wrong m bm) 0 → r ≡ found_of (block_fault N v)
 unfolding block_fault
-disk-fault N n v y z o t bm lent r most start blank k l e h =
-    fault-is N n y z o t (reached v) bm most start blank (ap length e ∙ length-exactly 512 lent) k r h
+disk-fault N v s m bm lent r start blank k l e h =
+    fault-is N s m (reached v) bm start blank (ap length e ∙ length-exactly 512 lent) k r h
     ∙ ap (λ (x : List ℕ). found_of (bit_fault N (reached v) 0 (bits_of x))) (e ∙ l)

@@ -1,22 +1,26 @@
 -- The numbers of sessions and answers: a session is what its numbers stand for, and the cases of the results. Assumes nothing.
 use Prim.Native.Nat.{ℕ}
 use mathlib.Core.Path.{◌≡◌, refl, sym, ap, ◌∙◌, subst}
-use mathlib.Core.Bool.{Bool, cond}
+use mathlib.Core.Bool.{Bool, true, false, cond}
 use mathlib.Core.List.{List, []}
 use lib.ListN.{replicate}
 use borrow.Author.Tests.{ne_eqb}
+use Rattle.std.specs.Prelude.{unwrap_or}
+use Rattle.std.specs.Int.{from_bool}
+use Rattle.spec.specs.declared.BlockStored.{BlockStored}
 use Rattle.spec.specs.declared.Phase.{Phase}
 use Rattle.spec.specs.declared.Phase.TheVariants.{Closed, Ready, Committing, Recovering}
 use Rattle.spec.specs.declared.Session.{Session}
 use Rattle.spec.specs.declared.Extent.{Extent}
 use Rattle.spec.specs.declared.Refusal.{Refusal}
 use Rattle.spec.specs.declared.Refusal.TheVariants.{DeviceSize, WorkSize, BadName, TooLarge, BadHeader, Unsound, NotReady, Unknown, Taken, NoInode, NoSpace, TooManyExtents, TooManyStaged, ListShort}
-use Rattle.spec.specs.Answers.{Answer, done, started, stored, idle, counted, file, no_file, run, no_run, refusal_of}
-use Rattle.spec.specs.Session.{never_opened}
+use Rattle.spec.specs.Answers.{Answer, done, started, stored, idle, counted, file, no_file, run, no_run, refusal_of, refusal_number, fault_told}
 use Rattle.spec.specs.Calls.{Outcome, left, left_buffer}
+use Rattle.mirror.specs.declared.CAdvanced.{CAdvanced}
 use Rattle.mirror.specs.declared.CCounted.{CCounted}
+use Rattle.mirror.specs.declared.CRun.{CRun}
 use Rattle.mirror.specs.declared.CRecord.{CRecord}
-use Rattle.mirror.specs.Mirror.{phase_of, phase_number, place_in, decode, encode, refusal_number, fault_in, values_of, name_in, finished_of, committed_of, advanced_of, counted_of, recorded_of, run_of, Stays, Reads, Names}
+use Rattle.mirror.specs.Mirror.{phase_of, phase_number, place_in, decode, encode, fault_in, values_of, name_in, finished_of, committed_of, advanced_of, counted_of, recorded_of, run_of, Stays, Reads, Names}
 
 -- ---- sessions
 
@@ -31,11 +35,6 @@ phase-back (Recovering d) = refl
 pub decode-encode : (s : Session) → decode (encode s) s.staged ≡ s
 decode-encode s =
     ap (λ (p : Phase). record { blocks = s.blocks; phase = p; staged = s.staged; count = s.count }) (phase-back s.phase)
-
--- numbers that are all zero stand for a session never opened
-pub zeros-never-opened : decode (record { blocks = 0; phase = 0; place = 0; count = 0 }) (replicate 32 0) ≡ never_opened
-unfolding phase_of
-zeros-never-opened = refl
 
 module _ (n d : ℕ) where
   pub phase-1 : n ≡ 1 → Ready ≡ phase_of n d
@@ -54,7 +53,26 @@ module _ (n d : ℕ) where
   unfolding phase_of
   phase-other f g h = rw (ne_eqb n 1 f, ne_eqb n 2 g, ne_eqb n 3 h)
 
--- ---- a refusal has no values
+-- what the answers of phase_in need
+pub ruleset phase_rules = (phase-1, phase-2, phase-3, phase-other)
+
+-- ---- a refusal has no values, and 10 alone names a record
+
+pub fault-is : (r : Refusal) → unwrap_or (fault_told r) 0 ≡ fault_in (refusal_of r)
+fault-is DeviceSize = refl
+fault-is WorkSize = refl
+fault-is BadName = refl
+fault-is TooLarge = refl
+fault-is (BadHeader i) = refl
+fault-is Unsound = refl
+fault-is NotReady = refl
+fault-is Unknown = refl
+fault-is Taken = refl
+fault-is NoInode = refl
+fault-is NoSpace = refl
+fault-is TooManyExtents = refl
+fault-is TooManyStaged = refl
+fault-is ListShort = refl
 
 pub no-values : (r : Refusal) → values_of (refusal_of r) ≡ []
 no-values DeviceSize = refl
@@ -99,21 +117,23 @@ module _ (r : Refusal) (n : ℕ) (f : n ≡ refusal_number (refusal_of r)) where
   unfolding committed_of
   committed-refused = rw (f, no-values r)
 
-  pub advanced-refused : record { refusal = n; block = 0; last = 0; number = 0 } ≡ advanced_of (refusal_of r)
+  pub advanced-refused : (q : CAdvanced) → (q.refusal ≡ 0) × ((q.block ≡ 0) × ((q.last ≡ 0) × (q.number ≡ 0)))
+      → record { refusal = n; block = q.block; last = q.last; number = q.number } ≡ advanced_of (refusal_of r)
   unfolding advanced_of
-  advanced-refused = simp (f, no-values r)
+  advanced-refused q z = simp (f, no-values r, z.1.0, z.1.1.0, z.1.1.1)
 
   pub counted-refused : record { refusal = n; count = 0 } ≡ counted_of (refusal_of r)
   unfolding counted_of
   counted-refused = rw (f, no-values r)
 
-  pub recorded-refused : (q : CRecord) (name : List ℕ) (a : Answer) → a ≡ refusal_of r → q ≡ record { refusal = n; used = 0; size = 0 } → Names q name name a
+  pub recorded-refused : (q : CRecord) → (q.refusal ≡ 0) × ((q.used ≡ 0) × (q.size ≡ 0)) → (name : List ℕ)
+      → Names (record { refusal = n; used = q.used; size = q.size }) name name (refusal_of r)
   unfolding recorded_of
-  recorded-refused q name a g e = rw g (e ∙ simp (f, no-values r), sym (name-stays r name))
+  recorded-refused q z name = (simp (f, no-values r, z.1.0, z.1.1), sym (name-stays r name))
 
-  pub run-refused : record { refusal = n; first = 0; count = 0 } ≡ run_of (refusal_of r)
+  pub run-refused : (q : CRun) → (q.refusal ≡ 0) × ((q.first ≡ 0) × (q.count ≡ 0)) → record { refusal = n; first = q.first; count = q.count } ≡ run_of (refusal_of r)
   unfolding run_of
-  run-refused = simp (f, no-values r)
+  run-refused q z = simp (f, no-values r, z.1.0, z.1.1)
 
 pub finished-done : record { refusal = 0; fault = 0 } ≡ finished_of done
 unfolding finished_of
@@ -123,9 +143,14 @@ pub committed-started : (n : ℕ) → record { refusal = 0; stores = n } ≡ com
 unfolding committed_of
 committed-started n = refl
 
-pub advanced-stored : (b n x : ℕ) (l : Bool) → x ≡ cond l 1 0 → record { refusal = 0; block = b; last = x; number = n } ≡ advanced_of (stored b l n)
+pub advanced-stored : (s : BlockStored) (b x : ℕ) → b ≡ s.block.0 → x ≡ from_bool s.last
+    → record { refusal = 0; block = b; last = x; number = s.number } ≡ advanced_of (stored s.block.0 s.last s.number)
 unfolding advanced_of
-advanced-stored b n x l f = rw f
+advanced-stored s b x e f = rw (e, f ∙ go s.last)
+  where
+    go : (l : Bool) → from_bool l ≡ cond l 1 0
+    go true = refl
+    go false = refl
 
 pub advanced-idle : record { refusal = 0; block = 0; last = 0; number = 0 } ≡ advanced_of idle
 unfolding advanced_of
@@ -135,13 +160,13 @@ pub counted-count : (n : ℕ) → record { refusal = 0; count = n } ≡ counted_
 unfolding counted_of
 counted-count n = refl
 
-pub recorded-file : (before x : List ℕ) (n : ℕ) (a : Answer) → a ≡ file x n → Names (record { refusal = 0; used = 1; size = n }) before x a
+pub recorded-file : (before x : List ℕ) (n m : ℕ) → m ≡ n → Names (record { refusal = 0; used = 1; size = m }) before x (file x n)
 unfolding recorded_of
-recorded-file before x n a g = rw g (refl, refl)
+recorded-file before x n m e = rw e (refl, refl)
 
-pub recorded-none : (q : CRecord) (before : List ℕ) (a : Answer) → a ≡ no_file → q ≡ record { refusal = 0; used = 0; size = 0 } → Names q before (replicate 8 0) a
+pub recorded-none : (q : CRecord) (before : List ℕ) → q ≡ record { refusal = 0; used = 0; size = 0 } → Names q before (replicate 8 0) no_file
 unfolding recorded_of
-recorded-none q before a g e = rw g (e, refl)
+recorded-none q before e = (e, refl)
 
 pub run-extent : (e : Extent) → record { refusal = 0; first = e.first; count = e.count } ≡ run_of (run e)
 unfolding run_of

@@ -5,7 +5,7 @@ use Rattle.spec.specs.declared.Phase.TheVariants.{Closed, Ready, Committing, Rec
 use Rattle.spec.specs.declared.Session.{Session}
 use Rattle.spec.specs.declared.Extent.{Extent}
 use Rattle.spec.specs.Inode.{extent}
-use Rattle.spec.specs.Answers.{Answer, refused, done, started, stored, idle, counted, file, no_file, run, no_run, is_refused}
+use Rattle.spec.specs.Answers.{Answer, refused, done, started, stored, idle, counted, file, no_file, run, no_run, refusal_number, is_refused}
 use Rattle.spec.specs.Transaction.{State, state_of}
 use Rattle.spec.specs.Calls.{Outcome}
 use Rattle.mirror.specs.declared.Head.{Head}
@@ -54,19 +54,6 @@ abbrev pub encode : Session → Head
 encode s = head_of s.blocks s.phase s.count
 
 -- ---- answers
-
--- the refusal's number, 0 where the call is accepted
-abbrev pub refusal_number : Answer → ℕ
-refusal_number (refused n vs) = n
-refusal_number done = 0
-refusal_number (started n) = 0
-refusal_number (stored b l n) = 0
-refusal_number idle = 0
-refusal_number (counted n) = 0
-refusal_number (file x n) = 0
-refusal_number no_file = 0
-refusal_number (run e) = 0
-refusal_number no_run = 0
 
 -- refusal 10: "the lowest record that is" wrong; 0 for any other answer
 abbrev pub fault_in : Answer → ℕ

@@ -1,13 +1,11 @@
 // Sessions and answers as structs of numbers, in which they cross to C. What the numbers mean is defined in specs/Mirror.antt.
 #![tactic(auto)]
 
-ghost use Rattle.std.specs.Prelude.{◌≡◌, cond, min};
-ghost use Rattle.spec.specs.Answers.{refusal_of, done_of, started_of, stored_of, counted_of as answer_of, recorded_of as file_of, run_of as extent_of};
-ghost use Rattle.mirror.specs.Mirror.{phase_of, phase_number, place_in, head_of, head_in, numbers_of, decode, encode, refusal_number, fault_in, finished_of, committed_of, advanced_of, counted_of, run_of, Names};
+ghost use Rattle.std.specs.Prelude.{◌≡◌};
+ghost use Rattle.spec.specs.Answers.{done_of, started_of, stored_of, counted_of as answer_of, recorded_of as file_of, run_of as extent_of};
+ghost use Rattle.mirror.specs.Mirror.{phase_of, head_of, head_in, numbers_of, decode, encode, finished_of, committed_of, advanced_of, counted_of, run_of, Names};
 
-use spec::{
-    Counted, Done, FileRecord, Limits, Phase, Recorded, Refusal, Run, Session, Started, Stored,
-};
+use spec::{BlockStored, Extent, FileRecord, Limits, Phase, Refusal, Session};
 
 // A session in numbers, but for the cells of its staged blocks: both are lent.
 // phase: 0 closed, 1 ready, 2 committing, 3 recovering; place: the stores made so far of a commit or a recovery, else 0.
@@ -21,7 +19,7 @@ pub struct Head {
 
 // format, open, abort, create, remove, rename, write, set-size: refusal 0 is accepted; fault is the wrong record of refusal 10, else 0.
 #[repr(C)]
-#[derive(Clone, Copy)]
+#[derive(Clone, Copy, Default)]
 pub struct CFinished {
     pub refusal: u32,
     pub fault: u64,
@@ -29,7 +27,7 @@ pub struct CFinished {
 
 // commit
 #[repr(C)]
-#[derive(Clone, Copy)]
+#[derive(Clone, Copy, Default)]
 pub struct CCommitted {
     pub refusal: u32,
     pub stores: u64,
@@ -37,7 +35,7 @@ pub struct CCommitted {
 
 // advance: all 0 but the session where nothing is under way.
 #[repr(C)]
-#[derive(Clone, Copy)]
+#[derive(Clone, Copy, Default)]
 pub struct CAdvanced {
     pub refusal: u32,
     pub block: u64,
@@ -47,7 +45,7 @@ pub struct CAdvanced {
 
 // read, size, free count, run list
 #[repr(C)]
-#[derive(Clone, Copy)]
+#[derive(Clone, Copy, Default)]
 pub struct CCounted {
     pub refusal: u32,
     pub count: u64,
@@ -55,7 +53,7 @@ pub struct CCounted {
 
 // record i: used is 1 where a file is answered, else size is zero, and the name lent becomes zero unless the call is refused.
 #[repr(C)]
-#[derive(Clone, Copy)]
+#[derive(Clone, Copy, Default)]
 pub struct CRecord {
     pub refusal: u32,
     pub used: u32,
@@ -64,56 +62,23 @@ pub struct CRecord {
 
 // n-th extent: 0 and 0 where there is none.
 #[repr(C)]
-#[derive(Clone, Copy)]
+#[derive(Clone, Copy, Default)]
 pub struct CRun {
     pub refusal: u32,
     pub first: u32,
     pub count: u32,
 }
 
-fn phase_of(n: u64, place: u64) -> Phase
-    ensures { result ≡ phase_of n place }
-{
-    match n {
-        1 => Phase::Ready,
-        2 => Phase::Committing(place as usize),
-        3 => Phase::Recovering(place as usize),
-        _ => Phase::Closed,
-    }
-}
-
-fn phase_number(p: Phase) -> u64
-    ensures { result ≡ phase_number p }
-{
-    match p {
-        Phase::Closed => 0,
-        Phase::Ready => 1,
-        Phase::Committing(_) => 2,
-        Phase::Recovering(_) => 3,
-    }
-}
-
-fn place_in(p: Phase) -> u64
-    ensures { result ≡ place_in p }
-{
-    match p {
-        Phase::Closed => 0,
-        Phase::Ready => 0,
-        Phase::Committing(d) => d as u64,
-        Phase::Recovering(d) => d as u64,
-    }
-}
-
 // The numbers of a session where they are lent.
 pub fn head_in(numbers: &[u64; 4]) -> Head
     ensures { result ≡ head_in numbers.now }
 {
-    let n: &[u64] = numbers;
+    let [blocks, phase, place, count] = *numbers;
     Head {
-        blocks: n[0],
-        phase: n[1],
-        place: n[2],
-        count: n[3],
+        blocks,
+        phase,
+        place,
+        count,
     }
 }
 
@@ -125,40 +90,41 @@ pub fn keep(numbers: &mut [u64; 4], h: Head)
 }
 
 // The phase of the session that numbers stand for.
+#[tactic(auto, using(crate::proofs::Laws::phase_rules))]
 pub fn phase_in(h: Head) -> Phase
     ensures { result ≡ phase_of h.phase h.place }
 {
-    phase_of(h.phase, h.place)
-}
-
-// How many of the 32 cells are in use.
-pub fn staged_in(h: Head) -> usize
-    ensures { result ≡ min h.count 32 }
-{
-    let n = h.count as usize;
-    if n < Limits::LOG_LENGTH {
-        return n;
+    let place = h.place as usize;
+    match h.phase {
+        1 => Phase::Ready,
+        2 => Phase::Committing(place),
+        3 => Phase::Recovering(place),
+        _ => Phase::Closed,
     }
-    Limits::LOG_LENGTH
 }
 
 // The session that numbers and cells stand for: any stand for one.
 pub fn decode(h: Head, staged: [u32; Limits::LOG_LENGTH]) -> Session
     ensures { result ≡ decode h staged }
 {
-    let phase = phase_in(h);
-    Session::with_cells(h.blocks as usize, phase, staged, h.count as usize)
+    Session::with_cells(h.blocks as usize, phase_in(h), staged, h.count as usize)
 }
 
 // The numbers of a session on so many blocks, in this phase, with so many cells in use.
 pub fn head_of(blocks: u64, phase: Phase, count: u64) -> Head
     ensures { result ≡ head_of blocks phase count }
 {
+    let (phase, place) = match phase {
+        Phase::Closed => (0, 0),
+        Phase::Ready => (1, 0),
+        Phase::Committing(d) => (2, d as u64),
+        Phase::Recovering(d) => (3, d as u64),
+    };
     Head {
-        blocks: blocks,
-        phase: phase_number(phase),
-        place: place_in(phase),
-        count: count,
+        blocks,
+        phase,
+        place,
+        count,
     }
 }
 
@@ -170,181 +136,107 @@ pub fn encode(s: Session) -> Head
     head_of(s.blocks as u64, phase, s.count as u64)
 }
 
-// The number of a refusal.
-fn refusal_number(r: Refusal) -> u32
-    ensures { result ≡ refusal_number (refusal_of r) }
-{
-    match r {
-        Refusal::DeviceSize => 1,
-        Refusal::WorkSize => 2,
-        Refusal::BadName => 3,
-        Refusal::TooLarge => 4,
-        Refusal::BadHeader(_) => 10,
-        Refusal::Unsound => 11,
-        Refusal::NotReady => 12,
-        Refusal::Unknown => 13,
-        Refusal::Taken => 14,
-        Refusal::NoInode => 15,
-        Refusal::NoSpace => 16,
-        Refusal::TooManyExtents => 17,
-        Refusal::TooManyStaged => 18,
-        Refusal::ListShort => 19,
-    }
-}
-
-// The wrong record of refusal 10.
-fn fault_in(r: Refusal) -> u64
-    ensures { result ≡ fault_in (refusal_of r) }
-{
-    match r {
-        Refusal::DeviceSize => 0,
-        Refusal::WorkSize => 0,
-        Refusal::BadName => 0,
-        Refusal::TooLarge => 0,
-        Refusal::BadHeader(i) => i as u64,
-        Refusal::Unsound => 0,
-        Refusal::NotReady => 0,
-        Refusal::Unknown => 0,
-        Refusal::Taken => 0,
-        Refusal::NoInode => 0,
-        Refusal::NoSpace => 0,
-        Refusal::TooManyExtents => 0,
-        Refusal::TooManyStaged => 0,
-        Refusal::ListShort => 0,
-    }
-}
-
-pub fn finished(answer: Done) -> CFinished
+pub fn finished(answer: Result<(), Refusal>) -> CFinished
     ensures { result ≡ finished_of (done_of answer) }
 {
     match answer {
-        Done::Refused(why) => CFinished {
-            refusal: refusal_number(why),
-            fault: fault_in(why),
-        },
-        Done::Done => CFinished {
-            refusal: 0,
-            fault: 0,
+        Ok(()) => CFinished::default(),
+        Err(why) => CFinished {
+            refusal: why.number(),
+            fault: why.fault().unwrap_or(0) as u64,
         },
     }
 }
 
-pub fn committed(answer: Started) -> CCommitted
+pub fn committed(answer: Result<usize, Refusal>) -> CCommitted
     ensures { result ≡ committed_of (started_of answer) }
 {
     match answer {
-        Started::Refused(why) => CCommitted {
-            refusal: refusal_number(why),
-            stores: 0,
-        },
-        Started::Stores(n) => CCommitted {
+        Ok(n) => CCommitted {
             refusal: 0,
             stores: n as u64,
         },
+        Err(why) => CCommitted {
+            refusal: why.number(),
+            stores: 0,
+        },
     }
 }
 
-fn flag(b: bool) -> u64
-    ensures { result ≡ cond b 1 0 }
-{
-    if b { 1 } else { 0 }
-}
-
-pub fn advanced(answer: Stored) -> CAdvanced
+pub fn advanced(answer: Result<Option<BlockStored>, Refusal>) -> CAdvanced
     ensures { result ≡ advanced_of (stored_of answer) }
 {
     match answer {
-        Stored::Refused(why) => CAdvanced {
-            refusal: refusal_number(why),
-            block: 0,
-            last: 0,
-            number: 0,
-        },
-        Stored::Stored {
-            block,
-            last,
-            number,
-        } => CAdvanced {
+        Ok(None) => CAdvanced::default(),
+        Ok(Some(stored)) => CAdvanced {
             refusal: 0,
-            block: block.0 as u64,
-            last: flag(last),
-            number: number as u64,
+            block: u64::from(stored.block.0),
+            last: u64::from(stored.last),
+            number: stored.number as u64,
         },
-        Stored::Idle => CAdvanced {
-            refusal: 0,
-            block: 0,
-            last: 0,
-            number: 0,
+        Err(why) => CAdvanced {
+            refusal: why.number(),
+            ..CAdvanced::default()
         },
     }
 }
 
-pub fn counted(answer: Counted) -> CCounted
+pub fn counted(answer: Result<usize, Refusal>) -> CCounted
     ensures { result ≡ counted_of (answer_of answer) }
 {
     match answer {
-        Counted::Refused(why) => CCounted {
-            refusal: refusal_number(why),
-            count: 0,
-        },
-        Counted::Count(n) => CCounted {
+        Ok(n) => CCounted {
             refusal: 0,
             count: n as u64,
         },
-    }
-}
-
-fn no_file(refusal: u32) -> CRecord
-    ensures { result ≡ record { refusal = refusal; used = 0; size = 0 } }
-{
-    CRecord {
-        refusal: refusal,
-        used: 0,
-        size: 0,
+        Err(why) => CCounted {
+            refusal: why.number(),
+            count: 0,
+        },
     }
 }
 
 // A refusal leaves the name lent as it was.
-pub fn recorded(f: FileRecord, name: &mut [u8; Limits::NAME_SIZE]) -> CRecord
-    ensures { Names result name.old name.new (file_of f.answer f.name f.size) }
+pub fn recorded(
+    answer: Result<Option<FileRecord>, Refusal>,
+    name: &mut [u8; Limits::NAME_SIZE],
+) -> CRecord
+    ensures { Names result name.old name.new (file_of answer) }
 {
-    let answer = f.answer;
-    let own = f.name;
     match answer {
-        Recorded::Refused(why) => no_file(refusal_number(why)),
-        Recorded::File => {
+        Ok(Some(file)) => {
+            let own = file.name;
             *name = own;
             CRecord {
                 refusal: 0,
                 used: 1,
-                size: f.size as u64,
+                size: u64::from(file.size),
             }
         }
-        Recorded::Empty => {
+        Ok(None) => {
             *name = [0; Limits::NAME_SIZE];
-            no_file(0)
+            CRecord::default()
         }
+        Err(why) => CRecord {
+            refusal: why.number(),
+            ..CRecord::default()
+        },
     }
 }
 
-pub fn run(answer: Run) -> CRun
+pub fn run(answer: Result<Option<Extent>, Refusal>) -> CRun
     ensures { result ≡ run_of (extent_of answer) }
 {
     match answer {
-        Run::Refused(why) => CRun {
-            refusal: refusal_number(why),
-            first: 0,
-            count: 0,
-        },
-        Run::Extent(e) => CRun {
+        Ok(Some(extent)) => CRun {
             refusal: 0,
-            first: e.first,
-            count: e.count,
+            first: extent.first,
+            count: extent.count,
         },
-        Run::Nothing => CRun {
-            refusal: 0,
-            first: 0,
-            count: 0,
+        Ok(None) => CRun::default(),
+        Err(why) => CRun {
+            refusal: why.number(),
+            ..CRun::default()
         },
     }
 }

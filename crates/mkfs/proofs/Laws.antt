@@ -1,13 +1,13 @@
 -- Laws of an empty store. Assumes nothing.
 use Prim.Native.Nat.{ℕ, zero, suc, ◌+◌, ◌*◌, ◌-◌, ◌/◌, ◌%◌, ◌^◌, ◌<◌, ◌≤◌}
 use mathlib.Core.Path.{◌≡◌, refl, sym, ap, ap₂, ◌∙◌, fun_ext}
-use mathlib.Core.List.{List, [], ◌∷◌, ◌++◌}
+use mathlib.Core.List.{List, ◌∷◌, ◌++◌}
 use native.Mathlib.Omega.{arith}
 use mathlib.Core.Logic.{⊎_elim}
 use native.Mathlib.Nat.{sub-zero, zero-sub, suc-sub-suc, zero-div, eq-or-lt_of_le}
-use native.Mathlib.Numerals.{add-one}
-use lib.ListN.{length, take, drop, get_or, set, replicate, length-append, length-replicate, replicate-append-replicate, length-set, get_or-replicate, get_or-append}
-use lib.Seq.{take-suc-set, take_all, ext_get_or, get_or-set_same, get_or-set_other, get_or-append-add}
+use lib.ListN.{length, take, drop, get_or, set, replicate, length-append, length-take, length-drop, length-replicate, replicate-append-replicate, get_or-replicate, get_or-append}
+use lib.Seq.{ext_get_or, get_or-set_same, get_or-set_other, get_or-append-add, get_or-take, get_or-drop}
+use Rattle.std.proofs.lemmas.List.{get_or-append_right}
 use Rattle.spec.specs.Bytes.{zeros, exactly}
 use Rattle.spec.specs.Disk.{Disk, blocks_of, slice_of, with_block}
 use Rattle.spec.specs.Bitmap.{bits_of, bytes_of}
@@ -19,15 +19,6 @@ use Rattle.block.specs.Stores.{stored_in}
 use Rattle.mkfs.specs.Table.{Cleared}
 
 -- ---- zeros
-
-pub cleared_more : (k : ℕ) (xs : List ℕ) → take k xs ≡ replicate k 0 → k < length xs → take (k + 1) (set xs k 0) ≡ replicate (k + 1) 0
-cleared_more k xs e h = rw (add-one k) (take-suc-set xs k 0 h ∙ ap (λ (l : List ℕ). l ++ (0 ∷ [])) e ∙ replicate-append-replicate k 1 0 ∙ rw (add-one k))
-
-pub cleared-all : (k n : ℕ) (xs : List ℕ) → take k xs ≡ replicate k 0 → length xs ≡ n → k ≤ n → n ≤ k → xs ≡ replicate n 0
-cleared-all k n xs e l h m = let q : k ≡ n = omega arith in sym (take_all k xs (omega arith)) ∙ e ∙ ap (λ (i : ℕ). same i) q
-  where
-    same : ℕ → List ℕ
-    same i = replicate i 0
 
 drop-zeros : (k n : ℕ) → drop {A = ℕ} k (replicate n 0) ≡ replicate (n - k) 0
 drop-zeros zero n = rw (sub-zero n)
@@ -82,27 +73,47 @@ cleared-bit t u b c l h full e = record {
     other : (x : ℕ) → (x ≡ b → ⊥) → get_or (bits_of u) x 0 ≡ get_or (bits_of t) x 0
     other x ne = ap (λ (l : List ℕ). get_or l x 0) e ∙ get_or-set_other (bits_of t) b x 0 0 ne
 
--- eight more bits
-pub cleared-byte : (t : List ℕ) (i : ℕ) → Cleared t (8 * i) → 6 ≤ i → i < 512 → Cleared (set t i 0) (8 * (i + 1))
-cleared-byte t i c l h = record {
-  full = full;
-  low = λ x k. other x (omega arith) (λ z. omega arith) ∙ c.low x k;
-  zero_bit = λ x k m. ⊎_elim (λ q. other x (omega arith) (λ z. omega arith) ∙ c.zero_bit x k q) (λ q. here x (omega arith) (omega arith)) (lt-or-le x (8 * i));
-  high = λ x k m n. other x n (λ z. omega arith) ∙ c.high x k (omega arith) n;
-}
-  where
-    full : length (set t i 0) ≡ 512
-    full = simp length-set c.full
+-- whole bytes from a up to e, which are zero now
+module _ (t zs : List ℕ) (a e : ℕ) (c : Cleared t (8 * a)) (l : 6 ≤ a) (h : a ≤ e) (m : e ≤ 512) (z : zs ≡ replicate (length (take (e - a) (drop a t))) 0) where
+  abbrev u : List ℕ
+  u = take a t ++ (zs ++ drop (e - a) (drop a t))
 
-    here : (x : ℕ) → x < 4096 → x / 8 ≡ i → get_or (bits_of (set t i 0)) x 0 ≡ 0
-    here x k e =
-        bit_at (set t i 0) x 0 (omega (arith, full)) ∙ ap (λ (j : ℕ). get_or (set t i 0) j 0 / 2 ^ (x % 8) % 2) e
-        ∙ ap (λ (y : ℕ). y / 2 ^ (x % 8) % 2) (get_or-set_same t i 0 0 (omega (arith, c.full))) ∙ ap (λ (y : ℕ). y % 2) (zero-div (2 ^ (x % 8)))
+  front : length (take a t) ≡ a
+  front = omega (arith, length-take a t, c.full)
 
-    other : (x : ℕ) → x < 4096 → (x / 8 ≡ i → ⊥) → get_or (bits_of (set t i 0)) x 0 ≡ get_or (bits_of t) x 0
-    other x k ne =
-        bit_at (set t i 0) x 0 (omega (arith, full)) ∙ ap (λ (y : ℕ). y / 2 ^ (x % 8) % 2) (get_or-set_other t i (x / 8) 0 0 ne)
-        ∙ sym (bit_at t x 0 (omega (arith, c.full)))
+  few : length zs ≡ e - a
+  few = ap length z ∙ length-replicate {A = ℕ} _ 0 ∙ omega (arith, length-take (e - a) (drop a t), length-drop a t, c.full)
+
+  full : length u ≡ 512
+  full = simp (length-append, length-drop) (omega (arith, front, few, c.full))
+
+  below : (i : ℕ) → i < a → get_or u i 0 ≡ get_or t i 0
+  below i k = get_or-append (take a t) _ 0 i (omega (arith, front)) ∙ get_or-take a t i 0 k
+
+  within : (i : ℕ) → a ≤ i → i < e → get_or u i 0 ≡ 0
+  within i k n =
+      get_or-append_right (take a t) _ a i 0 front k ∙ get_or-append zs _ 0 (i - a) (omega (arith, few)) ∙ ap (λ (l : List ℕ). get_or l (i - a) 0) z
+      ∙ get_or-replicate (length (take (e - a) (drop a t))) (i - a) 0 0 (omega (arith, length-take (e - a) (drop a t), length-drop a t, c.full))
+
+  above : (i : ℕ) → e ≤ i → get_or u i 0 ≡ get_or t i 0
+  above i k =
+      let q : a + ((e - a) + (i - a - (e - a))) ≡ i = omega arith in
+      get_or-append_right (take a t) _ a i 0 front (omega arith) ∙ get_or-append_right zs _ (e - a) (i - a) 0 few (omega arith) ∙ get_or-drop (e - a) (drop a t) (i - a - (e - a)) 0
+      ∙ get_or-drop a t _ 0 ∙ ap (λ (j : ℕ). get_or t j 0) q
+
+  same : (x : ℕ) → x < 4096 → get_or u (x / 8) 0 ≡ get_or t (x / 8) 0 → get_or (bits_of u) x 0 ≡ get_or (bits_of t) x 0
+  same x k q = bit_at u x 0 (omega (arith, full)) ∙ ap (λ (y : ℕ). y / 2 ^ (x % 8) % 2) q ∙ sym (bit_at t x 0 (omega (arith, c.full)))
+
+  zeroed : (x : ℕ) → x < 4096 → get_or u (x / 8) 0 ≡ 0 → get_or (bits_of u) x 0 ≡ 0
+  zeroed x k q = bit_at u x 0 (omega (arith, full)) ∙ ap (λ (y : ℕ). y / 2 ^ (x % 8) % 2) q ∙ ap (λ (y : ℕ). y % 2) (zero-div (2 ^ (x % 8)))
+
+  pub cleared-bytes : Cleared u (8 * e)
+  cleared-bytes = record {
+    full = full;
+    low = λ x k. same x (omega arith) (below (x / 8) (omega arith)) ∙ c.low x k;
+    zero_bit = λ x k n. ⊎_elim (λ q. same x (omega arith) (below (x / 8) (omega arith)) ∙ c.zero_bit x k q) (λ q. zeroed x (omega arith) (within (x / 8) (omega arith) (omega arith))) (lt-or-le x (8 * a));
+    high = λ x k n o. same x o (above (x / 8) (omega arith)) ∙ c.high x k (omega arith) o;
+  }
 
 -- the bits of an empty store, one by one
 module _ (n : ℕ) (l : 42 ≤ n) (h : n ≤ 4096) where

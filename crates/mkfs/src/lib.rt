@@ -1,7 +1,7 @@
 // An empty store: all zero but the bitmap.
 #![tactic(auto)]
 
-ghost use Rattle.std.specs.Prelude.{◌≡◌, true, ◌*◌, ◌/◌, ◌≤◌, length, replicate};
+ghost use Rattle.std.specs.Prelude.{◌≡◌, true, ◌*◌, ◌/◌, ◌≤◌, length};
 ghost use Rattle.spec.specs.Disk.{is_allowed, slice_of};
 ghost use Rattle.spec.specs.Bitmap.{bytes_of};
 ghost use Rattle.spec.specs.Calls.{empty_bits, empty_disk};
@@ -14,27 +14,14 @@ use spec::{DiskBlock, Limits};
 // The first block whose bit begins a byte of zeros.
 const WHOLE: u32 = 48;
 
-// All bytes zero.
-fn clear(bytes: &mut [u8])
-    ensures { bytes.new ≡ replicate (length bytes.old) 0 }
-{
-    let mut k: usize = 0;
-    while k < bytes.len() {
-        bytes[k] = 0;
-        k += 1;
-    }
-}
-
 // Bits up to `end` become 0, one at a time.
 fn clear_bits(t: &mut [u8; Limits::BLOCK_SIZE], from: u32, end: u32)
     requires { (42 ≤ from) × (from ≤ end) × (end ≤ 4096) × Cleared t.old from }
     ensures { Cleared t.new end }
 {
-    let mut b = from;
-    while b < end {
+    for b in from..end {
         clear_bit(t, DiskBlock(b));
         known(*t);
-        b += 1;
     }
 }
 
@@ -43,11 +30,7 @@ fn clear_bytes(t: &mut [u8; Limits::BLOCK_SIZE], from: usize, end: usize)
     requires { (6 ≤ from) × (from ≤ end) × (end ≤ 512) × Cleared t.old (8 * from) }
     ensures { Cleared t.new (8 * end) }
 {
-    let mut i = from;
-    while i < end {
-        t[i] = 0;
-        i += 1;
-    }
+    t[from..end].fill(0);
 }
 
 // The bitmap of an empty store of n blocks: zeros from 42 to n-1, ones elsewhere.
@@ -75,7 +58,7 @@ pub fn make_empty(device: &mut [u8])
     ensures { slice_of device.new ≡ record { size = length device.old; block = empty_disk (length device.old / 512) } }
 {
     let n = device.len() / Limits::BLOCK_SIZE;
-    clear(device);
+    device.fill(0);
     let table = empty_table(n as u32);
     store_block(device, DiskBlock(Limits::BITMAP_BLOCK), &table);
 }

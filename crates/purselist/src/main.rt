@@ -7,7 +7,8 @@ use listing::{LISTING_SIZE, list_image};
 use std::io;
 use std::io::Read;
 
-// Reads until the buffer is full or the input ends, and answers how many bytes that are.
+// Reads until the buffer is full or the input ends, and answers how many bytes that are. The loop goes on by what each read gives; std's read_exact
+// takes the input's end for an error, and its read_to_end needs a heap.
 fn read_full(rt: &impl Input, buffer: &mut [u8]) -> io::Result<usize>
     ensures { IfOk result (λ n. n ≤ length buffer.new) }
 {

@@ -1,16 +1,14 @@
--- What the steps of a run list answer, for the contracts of this crate.
-use Rattle.std.specs.Prelude.{ℕ, List, [], ◌++◌, length, take, drop, leb}
+-- What the steps of a run list answer, for those who take it in two steps: first the count, then the runs.
+use Rattle.std.specs.Prelude.{ℕ, List, [], ◌++◌, length, take, drop, leb, Ok, Err}
+use Rattle.std.specs.Prelude.{Result as Returned}
 use Rattle.spec.specs.declared.Extent.{Extent}
-use Rattle.spec.specs.declared.Counted.{Counted}
-use Rattle.spec.specs.declared.Counted.TheVariants.{Refused, Count}
+use Rattle.spec.specs.declared.Refusal.{Refusal}
 use Rattle.spec.specs.declared.Refusal.TheVariants.{ListShort}
 use Rattle.spec.specs.Answers.{Result, refuse, accept, require, ◌>>=◌, ◌>>◌}
 use Rattle.spec.specs.Transaction.{State}
 use Rattle.spec.specs.Calls.{file_ok, runs_of}
-
-abbrev pub counts_of : Counted → Result ℕ
-counts_of (Refused r) = refuse r
-counts_of (Count n) = accept n
+-- how many runs, or the first test that failed
+pub use Rattle.lookup.specs.Looks.{looked_of as counts_of}
 
 -- 1, 2, 3, 12, 13, and 19: "Lent list shorter than the run list", of a list of `room` places
 unfoldable pub count_ok : State → List ℕ → ℕ → ℕ → ℕ → Result ℕ
@@ -28,9 +26,9 @@ unfoldable pub named_runs : State → List ℕ → ℕ → ℕ → List Extent
 named_runs s name from n = runs_in s (file_ok s name) from n
 
 -- how many runs are listed under an answer: none where it refuses
-abbrev pub many_of : Counted → ℕ
-many_of (Refused r) = 0
-many_of (Count n) = n
+abbrev pub many_of : Returned ℕ Refusal → ℕ
+many_of (Err r) = 0
+many_of (Ok n) = n
 
 -- a list with the first k of these runs in its first k places
 unfoldable pub filled : List Extent → ℕ → List Extent → List Extent

@@ -2,42 +2,9 @@
 // File k has the name k 02 03 04 05 06 07 08. The list lent has eight places, each of them 7+9 before the call.
 #![tactic(auto)]
 
-ghost use Rattle.std.specs.Prelude.{◌≡◌};
-ghost use Rattle.spec.specs.Answers.{counted_of};
-ghost use Rattle.spec.specs.Transaction.{state_of};
-ghost use Rattle.spec.specs.Calls.{left_list, run_list};
-
-use spec::{Counted, Extent, FileBlock, Limits, Refusal, Session};
+use spec::{Extent, FileBlock, Limits, Refusal, Session};
 use std::io;
 use store::run_list;
-
-// An answer, and the list as the call leaves it.
-#[derive(Clone, Copy)]
-struct Listed {
-    answer: Counted,
-    list: [Extent; 8],
-}
-
-// A list of eight places, lent to the call.
-fn list_runs<'a>(
-    device: &'a [u8],
-    work: &'a [u8],
-    session: Session,
-    name: &[u8],
-    from: FileBlock,
-    n: usize,
-    before: [Extent; 8],
-) -> Listed
-    ensures { left_list session device.now work.now (counted_of result.answer) result.list
-        ≡ run_list (state_of session device.now work.now) name.now from.0 n before }
-{
-    let mut list = before;
-    let answer = run_list(device, work, session, name, from, n, &mut list);
-    Listed {
-        answer: answer,
-        list: list,
-    }
-}
 
 // ---- text
 
@@ -50,15 +17,13 @@ fn number(rt: &impl Print, n: usize) -> io::Result<()> {
     rt.print(n)
 }
 
-fn answered(rt: &impl Print, a: Counted) -> io::Result<()> {
+fn answered(rt: &impl Print, a: Result<usize, Refusal>) -> io::Result<()> {
     match a {
-        Counted::Refused(why) => match why {
-            Refusal::ListShort => say(rt, b" refused 19"),
-            Refusal::Unknown => say(rt, b" refused 13"),
-            Refusal::NotReady => say(rt, b" refused 12"),
-            _ => say(rt, b" refused"),
-        },
-        Counted::Count(n) => number(rt, n),
+        Ok(n) => number(rt, n),
+        Err(why) => {
+            say(rt, b" refused")?;
+            number(rt, why.number() as usize)
+        }
     }
 }
 
@@ -71,11 +36,8 @@ fn extent(rt: &impl Print, e: Extent) -> io::Result<()> {
 
 // The eight places of a list.
 fn places(rt: &impl Print, list: [Extent; 8]) -> io::Result<()> {
-    let mut i: usize = 0;
-    while i < 8 {
-        let e = list[i];
+    for e in list {
         extent(rt, e)?;
-        i += 1;
     }
     Ok(())
 }
@@ -97,10 +59,8 @@ fn show<'a>(
     n: usize,
 ) -> io::Result<()> {
     let file = name(k);
-    let place = Extent { first: 7, count: 9 };
-    let r = list_runs(device, work, s, &file, FileBlock(from), n, [place; 8]);
-    let a = r.answer;
-    let list = r.list;
+    let mut list = [Extent { first: 7, count: 9 }; 8];
+    let a = run_list(device, work, s, &file, FileBlock(from), n, &mut list);
     say(rt, b"file")?;
     number(rt, k as usize)?;
     say(rt, b" from")?;
@@ -128,11 +88,9 @@ fn grow(device: &[u8], work: &mut [u8], s: Session, k: u8, blocks: usize) -> Ses
 // Files 1 and 2 grown by one block in turn, so that each block is a run.
 fn in_turn(device: &[u8], work: &mut [u8], s: Session, n: usize) -> Session {
     let mut t = s;
-    let mut i: usize = 0;
-    while i < n {
-        i += 1;
-        let u = grow(device, work, t, 1, i);
-        t = grow(device, work, u, 2, i);
+    for i in 0..n {
+        let u = grow(device, work, t, 1, i + 1);
+        t = grow(device, work, u, 2, i + 1);
     }
     t
 }

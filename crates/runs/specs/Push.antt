@@ -1,24 +1,12 @@
 -- Extents held by value, and growing a list of extents at its end.
-use Rattle.std.specs.Prelude.{ℕ, ◌+◌, ◌-◌, ◌<◌, ◌≤◌, ◌≡◌, cond, List, [], ◌∷◌, map, length, take, get_or, eqb}
+use Rattle.std.specs.Prelude.{ℕ, ◌+◌, ◌-◌, ◌<◌, ◌≤◌, ◌≡◌, cond, List, [], ◌∷◌, length, take, get_or, replicate, eqb}
 use Rattle.spec.specs.declared.Extent.{Extent}
 use Rattle.spec.specs.Inode.{extent}
-use Rattle.runs.specs.Tree.{Runs}
-use Rattle.runs.specs.declared.End.{End}
-
--- two columns and where they end, as one value
-abbrev pub columns : List ℕ → List ℕ → End → Runs
-columns first count end = record { first = first; count = count; len = end.len; next = end.next }
+use Rattle.runs.specs.declared.ExtentList.{ExtentList}
 
 -- no extents
-abbrev pub no_end : End
-no_end = record { len = 0; next = 0 }
-
--- the columns of a list of extents
-unfoldable pub firsts : List Extent → List ℕ
-firsts es = map (λ e. e.first) es
-
-unfoldable pub lengths : List Extent → List ℕ
-lengths es = map (λ e. e.count) es
+abbrev pub no_extents : ExtentList
+no_extents = record { cells = replicate 512 (extent 0 0); len = 0; next = 0 }
 
 -- the block after the last extent, and `a` where there is none
 unfoldable pub end_from : ℕ → List Extent → ℕ
@@ -31,31 +19,25 @@ grown [] b c = extent b c ∷ []
 grown (e ∷ []) b c = cond (eqb (e.first + e.count) b) (extent e.first (e.count + c) ∷ []) (e ∷ extent b c ∷ [])
 grown (e ∷ f ∷ es) b c = e ∷ grown (f ∷ es) b c
 
--- an array holds the first entries of a column
-unfoldable pub Column : ℕ → List ℕ → List ℕ → Type 0
-Column n xs ys = take n xs ≡ take (length xs) ys
-
--- the arrays hold the first of these extents, beside how many they are and where they end
-pub record Holds (r : Runs) (es : List Extent) : Type 0 where
+-- the list holds the first of these extents, beside how many they are and where the last of them ends
+pub record Holds (r : ExtentList) (es : List Extent) : Type 0 where
   pub many : r.len ≡ length es
-  pub first : Column r.len r.first (firsts es)
-  pub count : Column r.len r.count (lengths es)
-  pub next : r.next ≡ end_from 0 es
+  pub cells : take r.len r.cells ≡ take (length r.cells) es
+  pub next : 0 < length es → r.next ≡ end_from 0 es
 
--- the count of the last extent, where the array has it
-abbrev pub last_count : Runs → ℕ
-last_count r = get_or r.count (r.len - 1) 0
+-- the count of the last extent, where the list has it
+abbrev pub last_count : ExtentList → ℕ
+last_count r = (get_or r.cells (r.len - 1) (extent 0 0)).count
 
--- no number is large where n blocks are held, and the arrays have their length
-pub record Small (r : Runs) (n : ℕ) : Type 0 where
-  pub firsts : length r.first ≡ 512
-  pub counts : length r.count ≡ 512
-  pub first : (k : ℕ) → get_or r.first k 0 < 131072
-  pub count : (k : ℕ) → get_or r.count k 0 ≤ n
+-- no number is large where n blocks are held, and the array has its length
+pub record Small (r : ExtentList) (n : ℕ) : Type 0 where
+  pub full : length r.cells ≡ 512
+  pub first : (k : ℕ) → (get_or r.cells k (extent 0 0)).first < 131072
+  pub count : (k : ℕ) → (get_or r.cells k (extent 0 0)).count ≤ n
   pub len : r.len ≤ n
   pub next : r.next ≤ 131072 + n
 
 -- what one more run does
-pub record Pushed (r : Runs) (b c : ℕ) (q : Runs) : Type 0 where
+pub record Pushed (r : ExtentList) (b c : ℕ) (q : ExtentList) : Type 0 where
   pub holds : (es : List Extent) → Holds r es → Holds q (grown es b c)
   pub small : (n : ℕ) → Small r n → b < 131072 → 0 < c → Small q (n + c)

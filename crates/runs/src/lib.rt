@@ -1,53 +1,89 @@
-// A file's extents in two columns.
+// A file's extents, and growing them at their end.
 #![tactic(auto)]
 
-ghost use Rattle.std.specs.Prelude.{◌≡◌, ◌+◌, ◌<◌, length};
-ghost use Rattle.runs.specs.Push.{columns, Pushed, last_count};
+ghost use Rattle.std.specs.Prelude.{◌≡◌, ◌+◌, ◌^◌, ◌<◌, ◌≤◌, length, take, sum_by};
+ghost use Rattle.runs.specs.Runs.{listed};
+ghost use Rattle.runs.specs.Push.{Pushed, last_count, no_extents};
 
-use spec::{DiskBlock, Limits};
+use spec::{DiskBlock, Extent, Limits};
 
-// How many extents two columns have, and the block after the last one.
+// A file's first 512 extents, the number of all of them, and the block after the last one.
 #[derive(Clone, Copy)]
-pub struct End {
+pub struct ExtentList {
+    pub cells: [Extent; Limits::MAX_EXTENTS],
     pub len: usize,
     pub next: usize,
 }
 
-// c blocks from b on, behind the others: joined to the last extent where that ends at b.
-pub fn push(
-    first: &mut [u32; Limits::MAX_EXTENTS],
-    count: &mut [u32; Limits::MAX_EXTENTS],
-    end: End,
-    b: DiskBlock,
-    c: u32,
-) -> End
-    requires { (last_count (columns first.old count.old end) + c < 4294967296) × (end.len < 1000000) × (end.next < 1000000000000)
-        × (length first.old ≡ 512) × (length count.old ≡ 512) }
-    ensures { Pushed (columns first.old count.old end) b.0 c (columns first.new count.new result) }
-{
-    let at = end.len;
-    let next = end.next;
-    if 0 < at && next == (b.0 as usize) {
-        let then = End {
-            len: at,
-            next: next + (c as usize),
-        };
-        if at <= Limits::MAX_EXTENTS {
-            let k = at - 1;
-            let n = count[k];
-            count[k] = n + c;
-            return then;
+// The extent blocks of a file: the first `len` of four.
+#[derive(Clone, Copy)]
+pub struct Nodes {
+    pub node: [u32; 4],
+    pub len: usize,
+}
+
+impl ExtentList {
+    // A list of no extents.
+    pub fn empty() -> ExtentList
+        ensures { result ≡ no_extents }
+    {
+        ExtentList {
+            cells: [Extent { first: 0, count: 0 }; Limits::MAX_EXTENTS],
+            len: 0,
+            next: 0,
         }
-        return then;
     }
-    let then = End {
-        len: at + 1,
-        next: (b.0 as usize) + (c as usize),
-    };
-    if at < Limits::MAX_EXTENTS {
-        first[at] = b.0;
-        count[at] = c;
-        return then;
+
+    // The extents, where the array holds all of them.
+    pub fn listed(&self) -> &[Extent]
+        requires { self.now.len ≤ 512 }
+        ensures { (result.now ≡ listed self.now) × (length result.now ≡ self.now.len) }
+    {
+        &self.cells[..self.len]
     }
-    then
+
+    // c blocks from b on, behind the others: joined to the last extent where that ends at b.
+    pub fn push(&mut self, b: DiskBlock, c: u32)
+        requires { (last_count self.old + c < 4294967296) × (self.old.len < 1000000) × (self.old.next < 1000000000000) }
+        ensures { Pushed self.old b.0 c self.new }
+    {
+        let len = self.len;
+        let joins = (0 < len) & (self.next == b.0 as usize);
+        self.next = b.0 as usize + c as usize;
+        if joins {
+            if len <= Limits::MAX_EXTENTS {
+                let last = self.cells[len - 1];
+                self.cells[len - 1] = Extent {
+                    first: last.first,
+                    count: last.count + c,
+                };
+            }
+            return;
+        }
+        self.len = len + 1;
+        if len < Limits::MAX_EXTENTS {
+            self.cells[len] = Extent {
+                first: b.0,
+                count: c,
+            };
+        }
+    }
+}
+
+impl Nodes {
+    // The blocks of the nodes.
+    pub fn blocks(&self) -> &[u32]
+        requires { self.now.len ≤ 4 }
+        ensures { (result.now ≡ take self.now.len self.now.node) × (length result.now ≡ self.now.len) }
+    {
+        &self.node[..self.len]
+    }
+}
+
+// How many blocks some extents have.
+pub fn block_count(extents: &[Extent]) -> u32
+    requires { sum_by (λ e. e.count) extents.now < 2 ^ 32 }
+    ensures { result ≡ sum_by (λ e. e.count) extents.now }
+{
+    extents.iter().map(|e| e.count).sum()
 }

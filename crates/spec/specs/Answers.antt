@@ -1,19 +1,9 @@
 -- What calls answer, in document 01's numbers and values.
-use Rattle.std.specs.Prelude.{ℕ, ◌≡◌, Bool, true, false, List, [], ◌∷◌, replicate}
-use Rattle.spec.specs.Layout.{name_size}
+use Rattle.std.specs.Prelude.{ℕ, Bool, true, false, List, [], ◌∷◌, Option, Some, None, Ok, Err}
+use Rattle.std.specs.Prelude.{Result as Returned}
 use Rattle.spec.specs.Inode.{Extent}
-use Rattle.spec.specs.declared.Done.{Done}
-use Rattle.spec.specs.declared.Done.TheVariants as done-cases
-use Rattle.spec.specs.declared.Started.{Started}
-use Rattle.spec.specs.declared.Started.TheVariants as started-cases
-use Rattle.spec.specs.declared.Stored.{Stored}
-use Rattle.spec.specs.declared.Stored.TheVariants as stored-cases
-use Rattle.spec.specs.declared.Counted.{Counted}
-use Rattle.spec.specs.declared.Counted.TheVariants as counted-cases
-use Rattle.spec.specs.declared.Recorded.{Recorded}
-use Rattle.spec.specs.declared.Recorded.TheVariants as recorded-cases
-use Rattle.spec.specs.declared.Run.{Run}
-use Rattle.spec.specs.declared.Run.TheVariants as run-cases
+use Rattle.spec.specs.declared.BlockStored.{BlockStored}
+use Rattle.spec.specs.declared.FileRecord.{FileRecord}
 pub use Rattle.spec.specs.declared.Refusal.{Refusal}
 pub use Rattle.spec.specs.declared.Refusal.TheVariants.{DeviceSize, WorkSize, BadName, TooLarge, BadHeader, Unsound, NotReady, Unknown, Taken, NoInode, NoSpace, TooManyExtents, TooManyStaged, ListShort}
 
@@ -54,39 +44,63 @@ refusal_of TooManyExtents = refused 17 []
 refusal_of TooManyStaged = refused 18 []
 refusal_of ListShort = refused 19 []
 
+-- the number of an answer that is a refusal, 0 of one that is none
+abbrev pub refusal_number : Answer → ℕ
+refusal_number (refused n vs) = n
+refusal_number done = 0
+refusal_number (started n) = 0
+refusal_number (stored b l n) = 0
+refusal_number idle = 0
+refusal_number (counted n) = 0
+refusal_number (file x n) = 0
+refusal_number no_file = 0
+refusal_number (run e) = 0
+refusal_number no_run = 0
+
+-- the wrong record that refusal 10 names
+abbrev pub fault_told : Refusal → Option ℕ
+fault_told DeviceSize = None
+fault_told WorkSize = None
+fault_told BadName = None
+fault_told TooLarge = None
+fault_told (BadHeader i) = Some i
+fault_told Unsound = None
+fault_told NotReady = None
+fault_told Unknown = None
+fault_told Taken = None
+fault_told NoInode = None
+fault_told NoSpace = None
+fault_told TooManyExtents = None
+fault_told TooManyStaged = None
+fault_told ListShort = None
+
 -- "When an answer is an enum, a definition tells you this paper's number and values for each of its cases."
-abbrev pub done_of : Done → Answer
-done_of (done-cases.Refused r) = refusal_of r
-done_of done-cases.Done = done
+abbrev pub done_of : Returned (Unit {0}) Refusal → Answer
+done_of (Err r) = refusal_of r
+done_of (Ok _) = done
 
-abbrev pub started_of : Started → Answer
-started_of (started-cases.Refused r) = refusal_of r
-started_of (started-cases.Stores n) = started n
+abbrev pub started_of : Returned ℕ Refusal → Answer
+started_of (Err r) = refusal_of r
+started_of (Ok n) = started n
 
-abbrev pub stored_of : Stored → Answer
-stored_of (stored-cases.Refused r) = refusal_of r
-stored_of (stored-cases.Stored b l n) = stored b.0 l n
-stored_of stored-cases.Idle = idle
+abbrev pub stored_of : Returned (Option BlockStored) Refusal → Answer
+stored_of (Err r) = refusal_of r
+stored_of (Ok (Some x)) = stored x.block.0 x.last x.number
+stored_of (Ok None) = idle
 
-abbrev pub counted_of : Counted → Answer
-counted_of (counted-cases.Refused r) = refusal_of r
-counted_of (counted-cases.Count n) = counted n
+abbrev pub counted_of : Returned ℕ Refusal → Answer
+counted_of (Err r) = refusal_of r
+counted_of (Ok n) = counted n
 
-abbrev pub recorded_of : Recorded → List ℕ → ℕ → Answer
-recorded_of (recorded-cases.Refused r) name size = refusal_of r
-recorded_of recorded-cases.File name size = file name size
-recorded_of recorded-cases.Empty name size = no_file
+abbrev pub recorded_of : Returned (Option FileRecord) Refusal → Answer
+recorded_of (Err r) = refusal_of r
+recorded_of (Ok (Some f)) = file f.name f.size
+recorded_of (Ok None) = no_file
 
--- name and size are zero where no file is answered
-abbrev pub Blank : Recorded → List ℕ → ℕ → Type 0
-Blank (recorded-cases.Refused r) name size = (name ≡ replicate name_size 0) × (size ≡ 0)
-Blank recorded-cases.File name size = Unit {0}
-Blank recorded-cases.Empty name size = (name ≡ replicate name_size 0) × (size ≡ 0)
-
-abbrev pub run_of : Run → Answer
-run_of (run-cases.Refused r) = refusal_of r
-run_of (run-cases.Extent e) = run e
-run_of run-cases.Nothing = no_run
+abbrev pub run_of : Returned (Option Extent) Refusal → Answer
+run_of (Err r) = refusal_of r
+run_of (Ok (Some e)) = run e
+run_of (Ok None) = no_run
 
 -- "A refusal gives count 0 where a count is due": the count of an answer
 abbrev pub count_of : Answer → ℕ

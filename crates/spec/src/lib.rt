@@ -2,6 +2,7 @@
 #![tactic(auto)]
 
 ghost use Rattle.std.specs.Prelude.{◌≡◌, [], ◌∷◌, ◌++◌, ◌<◌, length};
+ghost use Rattle.spec.specs.Answers.{refusal_of, refusal_number, fault_told};
 ghost use Rattle.spec.specs.Session.{opened, closed_on, never_opened, with_cells, in_phase, with_staged, staged_in};
 
 // "These limits belong to the store as a whole".
@@ -106,8 +107,8 @@ impl Session {
         ensures { result ≡ opened blocks phase }
     {
         Session {
-            blocks: blocks,
-            phase: phase,
+            blocks,
+            phase,
             staged: [0; Limits::LOG_LENGTH],
             count: 0,
         }
@@ -136,10 +137,10 @@ impl Session {
         ensures { result ≡ with_cells blocks phase cells count }
     {
         Session {
-            blocks: blocks,
-            phase: phase,
+            blocks,
+            phase,
             staged: cells,
-            count: count,
+            count,
         }
     }
 
@@ -170,80 +171,58 @@ pub enum Refusal {
     ListShort,
 }
 
-// What a call answers that has no value to tell.
-#[derive(Clone, Copy)]
-pub enum Done {
-    Refused(Refusal),
-    Done,
+impl Refusal {
+    // "Refusals from the input", "Refusals from the state": the number of each.
+    pub fn number(self) -> u32
+        ensures { result ≡ refusal_number (refusal_of self) }
+    {
+        match self {
+            Refusal::DeviceSize => 1,
+            Refusal::WorkSize => 2,
+            Refusal::BadName => 3,
+            Refusal::TooLarge => 4,
+            Refusal::BadHeader(_) => 10,
+            Refusal::Unsound => 11,
+            Refusal::NotReady => 12,
+            Refusal::Unknown => 13,
+            Refusal::Taken => 14,
+            Refusal::NoInode => 15,
+            Refusal::NoSpace => 16,
+            Refusal::TooManyExtents => 17,
+            Refusal::TooManyStaged => 18,
+            Refusal::ListShort => 19,
+        }
+    }
+
+    // The wrong record that refusal 10 names.
+    pub fn fault(self) -> Option<usize>
+        ensures { result ≡ fault_told self }
+    {
+        match self {
+            Refusal::BadHeader(i) => Some(i),
+            _ => None,
+        }
+    }
 }
 
-// What commit answers: how many stores it has started.
+// What an advance that stores a block answers: the block, whether it was the last, and how many it has stored.
 #[derive(Clone, Copy)]
-pub enum Started {
-    Refused(Refusal),
-    Stores(usize),
+pub struct BlockStored {
+    pub block: DiskBlock,
+    pub last: bool,
+    pub number: usize,
 }
 
-// What advance answers.
-#[derive(Clone, Copy)]
-pub enum Stored {
-    Refused(Refusal),
-    Stored {
-        block: DiskBlock,
-        last: bool,
-        number: usize,
-    },
-    Idle,
-}
-
-// What read, size, free count and run list answer.
-#[derive(Clone, Copy)]
-pub enum Counted {
-    Refused(Refusal),
-    Count(usize),
-}
-
-// What record i answers; name and size stand beside it.
-#[derive(Clone, Copy)]
-pub enum Recorded {
-    Refused(Refusal),
-    File,
-    Empty,
-}
-
-// What n-th extent answers.
-#[derive(Clone, Copy)]
-pub enum Run {
-    Refused(Refusal),
-    Extent(Extent),
-    Nothing,
-}
-
-// format, open, abort, create, remove, rename, write, set-size
-#[derive(Clone, Copy)]
-pub struct Finished {
-    pub session: Session,
-    pub answer: Done,
-}
-
-// commit
-#[derive(Clone, Copy)]
-pub struct Committed {
-    pub session: Session,
-    pub answer: Started,
-}
-
-// advance
-#[derive(Clone, Copy)]
-pub struct Advanced {
-    pub session: Session,
-    pub answer: Stored,
-}
-
-// record i: name and size are zero unless it answers a file.
+// What record i answers of a file.
 #[derive(Clone, Copy)]
 pub struct FileRecord {
-    pub answer: Recorded,
-    pub name: [u8; 8],
+    pub name: [u8; Limits::NAME_SIZE],
     pub size: u32,
+}
+
+// What a call that may change the session answers, and the session that it leaves, refused or not.
+#[derive(Clone, Copy)]
+pub struct Answered<T> {
+    pub session: Session,
+    pub answer: Result<T, Refusal>,
 }

@@ -4,16 +4,15 @@ use mathlib.Core.Path.{◌≡◌, refl, sym, ap, ap₂, ◌∙◌}
 use mathlib.Core.Bool.{true, false}
 use mathlib.Core.List.{List}
 use native.Mathlib.Omega.{arith}
-use mathlib.Core.Option.{Option, none, some}
+use mathlib.Core.Option as math
+use mathlib.Core.Option.{none, some}
+use Rattle.std.specs.Prelude.{Option, None, Some}
+use Rattle.block.specs.Places.{found_at}
 use borrow.Author.Tests.{eq-eqb, ne_eqb}
 use lib.ListN.{length, take, drop, length-take, length-drop}
 use Rattle.spec.specs.Disk.{Slice, blocks_of, is_allowed, slice_of}
 use Rattle.spec.specs.Sound.{volume_sound}
 use Rattle.spec.specs.Journal.{header_fault, targets_in}
-use Rattle.header.specs.declared.Fault.{Fault}
-use Rattle.header.specs.declared.Fault.TheVariants.{At, Nothing}
-use Rattle.header.specs.declared.Targets.{Targets}
-use Rattle.header.specs.Header.{fault_of, Holds}
 use Rattle.block.proofs.Laws.{allowed-says, block-is, exactly-all}
 use Rattle.spec.specs.declared.Session.{Session}
 use Rattle.spec.specs.declared.Phase.TheVariants.{Ready, Recovering}
@@ -46,11 +45,11 @@ head-is d h =
     let l : length (take 512 (drop (512 * 0) d)) ≡ 512 = simp (length-take, length-drop) (omega arith) in
     sym (block-is d 0 ∙ exactly-all 512 (take 512 (drop (512 * 0) d)) l)
 
-abbrev fault_in : Fault → Option ℕ
-fault_in Nothing = none
-fault_in (At i) = some i
+abbrev fault_in : Option ℕ → math.Option ℕ
+fault_in None = none
+fault_in (Some i) = some i
 
-fault-in : (o : Option ℕ) → o ≡ fault_in (fault_of o)
+fault-in : (o : math.Option ℕ) → o ≡ fault_in (found_at o)
 fault-in none = refl
 fault-in (some i) = refl
 
@@ -59,14 +58,14 @@ module _ (d x : List ℕ) (e : is_allowed (length d) ≡ true) (h : x ≡ take 5
   head : blocks_of d 0 ≡ x
   head = sym (h ∙ head-is d e)
 
-  pub fault-at : (n i : ℕ) (b : Fault) → b ≡ fault_of (header_fault n x) → b ≡ At i → header_fault n (blocks_of d 0) ≡ some i
+  pub fault-at : (n i : ℕ) (b : Option ℕ) → b ≡ found_at (header_fault n x) → b ≡ Some i → header_fault n (blocks_of d 0) ≡ some i
   fault-at n i b p q = rw head (fault-in (header_fault n x) ∙ ap fault_in (sym p ∙ q))
 
-  pub no-fault : (n : ℕ) (b : Fault) → b ≡ fault_of (header_fault n x) → b ≡ Nothing → header_fault n (blocks_of d 0) ≡ none
+  pub no-fault : (n : ℕ) (b : Option ℕ) → b ≡ found_at (header_fault n x) → b ≡ None → header_fault n (blocks_of d 0) ≡ none
   no-fault n b p q = rw head (fault-in (header_fault n x) ∙ ap fault_in (sym p ∙ q))
 
-  pub counted : (t : Targets) → Holds t (targets_in x) → t.count ≡ length (targets_in (blocks_of d 0))
-  counted t k = rw head k.count
+  pub counted : (n : ℕ) → n ≡ length (targets_in x) → n ≡ length (targets_in (blocks_of d 0))
+  counted n k = rw head k
 
 module _ (s : Session) (d w : List ℕ) where
   pub open-device : is_allowed (length d) ≡ false → left s d w (refusal_of DeviceSize) ≡ open_store (state_of s d w)

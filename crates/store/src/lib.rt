@@ -7,19 +7,19 @@ ghost use Rattle.spec.specs.Transaction.{state_of};
 ghost use Rattle.spec.specs.Calls.{left, format, open_store, advance, commit, abort};
 
 use block::block_in;
-use checks::{Checked, done, is_allowed, ready, refused};
+use checks::{done, is_allowed, ready, refused};
 use fsck::is_sound;
-use header::{Fault, header_fault, targets_in};
+use header::{header_fault, targets_in};
 use journal::{advance_in, after, begun_phase, commit_in};
 use mkfs::make_empty;
 pub use query::{free_count, nth_extent, read, record_at, size};
 pub use runlist::run_list;
-use spec::{Advanced, Committed, DiskBlock, Finished, Limits, Phase, Refusal, Session, Stored};
-use transaction::staged_count;
+use spec::{Answered, BlockStored, DiskBlock, Limits, Phase, Refusal, Session};
+use transaction::{Volume, staged_count};
 pub use update::{create, remove, rename, set_size, write};
 
 // Makes an empty store. The work space is not lent: whatever it holds stays.
-pub fn format(device: &mut [u8], session: Session) -> Finished
+pub fn format(device: &mut [u8], session: Session) -> Answered<()>
     ensures { (work : List ℕ) → left result.session device.new work (done_of result.answer)
         ≡ format (state_of session device.old work) }
 {
@@ -32,7 +32,7 @@ pub fn format(device: &mut [u8], session: Session) -> Finished
 }
 
 // Opens a device: recovering where the header lists targets, else ready if the volume is sound.
-pub fn open_store(device: &[u8], session: Session) -> Finished
+pub fn open_store(device: &[u8], session: Session) -> Answered<()>
     ensures { (work : List ℕ) → left result.session device.now work (done_of result.answer)
         ≡ open_store (state_of session device.now work) }
 {
@@ -41,11 +41,10 @@ pub fn open_store(device: &[u8], session: Session) -> Finished
     }
     let n = device.len() / Limits::BLOCK_SIZE;
     let head = block_in(device, DiskBlock(0));
-    if let Fault::At(i) = header_fault(n, head) {
+    if let Some(i) = header_fault(n, head) {
         return refused(session, Refusal::BadHeader(i));
     }
-    let t = targets_in(head);
-    if t.count != 0 {
+    if targets_in(head).len() != 0 {
         return done(Session::opened(n, Phase::Recovering(0)));
     }
     if !is_sound(device, n) {
@@ -55,7 +54,7 @@ pub fn open_store(device: &[u8], session: Session) -> Finished
 }
 
 // Stores the next block of a commit or a recovery under way.
-pub fn advance(device: &mut [u8], work: &[u8], session: Session) -> Advanced
+pub fn advance(device: &mut [u8], work: &[u8], session: Session) -> Answered<Option<BlockStored>>
     ensures { left result.session device.new work.now (stored_of result.answer)
         ≡ advance (state_of session device.old work.now) }
 {
@@ -65,36 +64,32 @@ pub fn advance(device: &mut [u8], work: &[u8], session: Session) -> Advanced
     let n = staged_count(session);
     let answer = advance_in(device, work, blocks, phase, &l[0..n]);
     let next = after(phase, session, answer);
-    Advanced {
+    Answered {
         session: next,
-        answer: answer,
+        answer,
     }
 }
 
 // Starts the stores of a commit and tells how many they are.
-pub fn commit(device: &[u8], work: &[u8], session: Session) -> Committed
+pub fn commit(device: &[u8], work: &[u8], session: Session) -> Answered<usize>
     ensures { left result.session device.now work.now (started_of result.answer)
         ≡ commit (state_of session device.now work.now) }
 {
-    let blocks = session.blocks;
-    let phase = session.phase;
-    let answer = commit_in(device, work, blocks, phase, staged_count(session));
-    let next = session.in_phase(begun_phase(phase, answer));
-    Committed {
+    let answer = commit_in(&Volume::of(device, work, &session));
+    let next = session.in_phase(begun_phase(session.phase, answer));
+    Answered {
         session: next,
-        answer: answer,
+        answer,
     }
 }
 
 // Empties the transaction.
-pub fn abort(device: &[u8], work: &[u8], session: Session) -> Finished
+pub fn abort(device: &[u8], work: &[u8], session: Session) -> Answered<()>
     ensures { left result.session device.now work.now (done_of result.answer)
         ≡ abort (state_of session device.now work.now) }
 {
-    let blocks = session.blocks;
-    let phase = session.phase;
-    match ready(device, work, blocks, phase) {
-        Checked::Bad(why) => refused(session, why),
-        Checked::Fine => done(Session::opened(blocks, Phase::Ready)),
+    match ready(&Volume::of(device, work, &session)) {
+        Err(why) => refused(session, why),
+        Ok(()) => done(Session::opened(session.blocks, Phase::Ready)),
     }
 }

@@ -6,7 +6,8 @@ use native.Mathlib.Omega.{arith}
 use lib.ListN.{length, set, take, drop, get_or, length-append}
 use borrow.Author.Tests.{lt-ltb, le-ltb}
 use Rattle.spec.specs.Listing.{digits, hex_digit}
-use Rattle.text.specs.Written.{laid, Written}
+use Rattle.text.specs.declared.Writer.{Writer}
+use Rattle.text.specs.Written.{laid, Written, Put}
 
 pub length-laid : (out : List ℕ) (at : ℕ) (text : List ℕ) → length (laid out at text) ≡ length out
 unfolding laid
@@ -50,9 +51,6 @@ module _ (out : List ℕ) (at : ℕ) (a mid : List ℕ) (p : ℕ) (h : Written o
         place = g.place ∙ ap (λ (k : ℕ). p + min (length b) (k - p)) l ∙ stop-join at (length a) (length b) (length out) p h.place ∙ ap (λ (k : ℕ). at + min k (length out - at)) (sym (length-append a b));
       }
 
-  pub written_as : (b : List ℕ) → a ≡ b → Written out at b mid p
-  written_as b e = rw e at h
-
 -- a text from the front on: the bytes hold as much of it as they can, and are unchanged behind it
 pub laid-front : (out text : List ℕ) → laid out 0 text ≡ take (length out) text ++ drop (length text) out
 unfolding laid
@@ -82,59 +80,76 @@ module _ (out : List ℕ) (at x : ℕ) where
   pub written-past : length out ≤ at → Written out at (x ∷ []) out at
   written-past h = record { bytes = sym (past-laid out at (x ∷ []) h); place = omega arith }
 
+-- ---- a writer
+
+pub put_none : (w : Writer) → Put w w []
+put_none w = record { same = refl; written = written_none _ _ }
+
+pub put_then : (w w' : Writer) (a : List ℕ) → Put w w' a → (w'' : Writer) (b : List ℕ) → Put w' w'' b → Put w w'' (a ++ b)
+put_then w w' a p w'' b q = record { same = q.same ∙ p.same; written = written_then _ _ _ _ _ p.written _ _ _ q.written }
+
+pub put_as : (w w' : Writer) (a b : List ℕ) → Put w w' a → a ≡ b → Put w w' b
+put_as w w' a b p e = rw e at p
+
+-- what a writer made of lent bytes leaves in them
+pub lent-written : (out after : List ℕ) (w w' : Writer) (text : List ℕ) → w.out.now ≡ out → w.at ≡ 0 → Put w w' text → after ≡ w'.out.now → Written out 0 text after w'.at
+lent-written out after w w' text e f p g = rw (g, ← e, ← f) p.written
+
 -- ---- a text written by and by: what is left of it leads to the same end
 
-pub record Left (out₀ : List ℕ) (at₀ : ℕ) (whole out : List ℕ) (at : ℕ) (rest : List ℕ) : Type 0 where
-  pub bytes : laid out at rest ≡ laid out₀ at₀ whole
-  pub place : at + min (length rest) (length out - at) ≡ at₀ + min (length whole) (length out₀ - at₀)
+pub record Left (w₀ : Writer) (whole : List ℕ) (w : Writer) (rest : List ℕ) : Type 0 where
+  pub same : w.out.ghost_name ≡ w₀.out.ghost_name
+  pub bytes : laid w.out.now w.at rest ≡ laid w₀.out.now w₀.at whole
+  pub place : w.at + min (length rest) (length w.out.now - w.at) ≡ w₀.at + min (length whole) (length w₀.out.now - w₀.at)
 
-pub left-start : (out : List ℕ) (at : ℕ) (whole rest : List ℕ) → rest ≡ whole → Left out at whole out at rest
-left-start out at whole rest e = rw e (record { bytes = refl; place = refl })
+pub left-start : (w : Writer) (whole rest : List ℕ) → rest ≡ whole → Left w whole w rest
+left-start w whole rest e = rw e (record { same = refl; bytes = refl; place = refl })
 
-module _ (out₀ : List ℕ) (at₀ : ℕ) (whole out : List ℕ) (at : ℕ) (rest : List ℕ) (h : Left out₀ at₀ whole out at rest) where
-  pub left_step : (x more mid : List ℕ) (p : ℕ) → rest ≡ x ++ more → Written out at x mid p → Left out₀ at₀ whole mid p more
-  left_step x more mid p e g =
-      let l : length mid ≡ length out = ap length g.bytes ∙ length-laid out at x in
+module _ (w₀ : Writer) (whole : List ℕ) (w : Writer) (rest : List ℕ) (h : Left w₀ whole w rest) where
+  pub left_step : (x more : List ℕ) (w' : Writer) → rest ≡ x ++ more → Put w w' x → Left w₀ whole w' more
+  left_step x more w' e p =
+      let g = p.written in
+      let l : length w'.out.now ≡ length w.out.now = ap length g.bytes ∙ length-laid w.out.now w.at x in
       let n : length rest ≡ length x + length more = ap length e ∙ length-append x more in
       record {
+        same = p.same ∙ h.same;
         bytes =
-            ap (λ (m : List ℕ). laid m p more) g.bytes ∙ laid-join out at x more p g.place
-            ∙ ap (laid out at) (sym e) ∙ h.bytes;
-        place = ap (λ (k : ℕ). p + min (length more) (k - p)) l ∙ stop-join at (length x) (length more) (length out) p g.place ∙ ap (λ (k : ℕ). at + min k (length out - at)) (sym n) ∙ h.place;
+            ap (λ (m : List ℕ). laid m w'.at more) g.bytes ∙ laid-join w.out.now w.at x more w'.at g.place
+            ∙ ap (laid w.out.now w.at) (sym e) ∙ h.bytes;
+        place =
+            ap (λ (k : ℕ). w'.at + min (length more) (k - w'.at)) l ∙ stop-join w.at (length x) (length more) (length w.out.now) w'.at g.place
+            ∙ ap (λ (k : ℕ). w.at + min k (length w.out.now - w.at)) (sym n) ∙ h.place;
       }
 
-  pub left-length : length out ≡ length out₀
-  left-length = sym (length-laid out at rest) ∙ ap length h.bytes ∙ length-laid out₀ at₀ whole
-
-  pub left_end : rest ≡ [] → Written out₀ at₀ whole out at
+  pub left_end : rest ≡ [] → Put w₀ w whole
   left_end e =
       record {
-        bytes = sym (laid_none out at) ∙ ap (laid out at) (sym e) ∙ h.bytes;
-        place = let z : length rest ≡ 0 = ap length e in omega (arith, h.place);
+        same = h.same;
+        written = record {
+          bytes = sym (laid_none w.out.now w.at) ∙ ap (laid w.out.now w.at) (sym e) ∙ h.bytes;
+          place = let z : length rest ≡ 0 = ap length e in omega (arith, h.place);
+        };
       }
 
 -- ---- digits
 
-module _ (out : List ℕ) (at most n : ℕ) where
-  pub digits-none : most ≡ 0 → Written out at (digits most n) out at
-  digits-none e = rw e (written_none out at)
+module _ (most n : ℕ) where
+  pub digits-none : most ≡ 0 → [] ≡ digits most n
+  digits-none e = rw e
 
-  pub digits_last : (after : List ℕ) (p : ℕ) → (most ≡ 0 → ⊥) → n < 10 → Written out at ((48 + n) ∷ []) after p → Written out at (digits most n) after p
-  digits_last after p e h w = go most e
+  pub digits_last : (most ≡ 0 → ⊥) → n < 10 → (48 + n) ∷ [] ≡ digits most n
+  digits_last e h = go most e
     where
-      go : (k : ℕ) → (k ≡ 0 → ⊥) → Written out at (digits k n) after p
+      go : (k : ℕ) → (k ≡ 0 → ⊥) → (48 + n) ∷ [] ≡ digits k n
       go zero e = absurd (e refl)
-      go (suc k) e = rw (lt-ltb n 10 h) w
+      go (suc k) e = rw (lt-ltb n 10 h)
 
-  pub digits_more : (mid : List ℕ) (q : ℕ) (after : List ℕ) (p : ℕ) → (most ≡ 0 → ⊥) → 10 ≤ n → Written out at (digits (most - 1) (n / 10)) mid q
-      → Written mid q ((48 + n % 10) ∷ []) after p → Written out at (digits most n) after p
-  digits_more mid q after p e h w g = go most e w
+  pub digits_more : (most ≡ 0 → ⊥) → 10 ≤ n → digits (most - 1) (n / 10) ++ ((48 + n % 10) ∷ []) ≡ digits most n
+  digits_more e h = go most e
     where
-      go : (k : ℕ) → (k ≡ 0 → ⊥) → Written out at (digits (k - 1) (n / 10)) mid q → Written out at (digits k n) after p
-      go zero e w = absurd (e refl)
-      go (suc k) e w =
-          let z : suc k - 1 ≡ k = omega arith in
-          rw (le-ltb n 10 h) (written_then out at (digits k (n / 10)) mid q (rw z at w) ((48 + n % 10) ∷ []) after p g)
+      go : (k : ℕ) → (k ≡ 0 → ⊥) → digits (k - 1) (n / 10) ++ ((48 + n % 10) ∷ []) ≡ digits k n
+      go zero e = absurd (e refl)
+      go (suc k) e = let z : suc k - 1 ≡ k = omega arith in rw (le-ltb n 10 h, z)
 
 pub hex-low : (n r : ℕ) → n < 10 → r ≡ 48 + n → r ≡ hex_digit n
 hex-low n r h e = rw (lt-ltb n 10 h) e

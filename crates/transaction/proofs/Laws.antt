@@ -4,14 +4,14 @@ use mathlib.Core.Path.{◌≡◌, refl, sym, ap, ap₂, ◌∙◌, fun_ext}
 use mathlib.Core.Bool.{Bool, true, false}
 use mathlib.Core.List.{List, [], ◌∷◌, ◌++◌}
 use mathlib.Core.Option.{Option, none, some}
-use lib.ListN.{length, take, drop, get_or, set, length-append, length-take, length-drop, take-append-drop, drop_of_length-le}
-use lib.Seq.{take-append_seam, take_all, drop-cons, set_split, append_snoc, drop-append-add, drop-drop}
+use lib.ListN.{length, take, drop, get_or, set, length-append, length-take, length-drop, take-append-drop}
+use lib.Seq.{take-append_seam, take_all, set_split, append_snoc, drop-append-add, drop-drop}
 use lib.Dec.{eqb}
 use native.Mathlib.Decide.{dec_lt}
 use native.Mathlib.Numerals.{add-one}
 use native.Mathlib.Omega.{arith}
 use borrow.Author.Tests.{eqb-true, eqb-false, eq-eqb, ne_eqb}
-use Rattle.spec.specs.Bytes.{found, place, place_from, distinct, all}
+use Rattle.spec.specs.Bytes.{found, place, distinct, all}
 use Rattle.spec.specs.Disk.{Disk, Slice, blocks_of, slice_of, is_target, with_block}
 use Rattle.spec.specs.declared.Phase.{Phase}
 use Rattle.spec.specs.declared.Phase.TheVariants.{Closed}
@@ -22,8 +22,12 @@ use Rattle.block.specs.Stores.{stored_in}
 use Rattle.block.proofs.Laws.{block-length}
 use Rattle.lists.specs.Places.{place-lt, place-value, place-new, place_other, no_place, distinct_snoc, all_append}
 use Rattle.transaction.specs.Places.{found_at, spot, blocks_with, session_of, view_in}
-use Rattle.transaction.specs.declared.Place.{Place}
-use Rattle.transaction.specs.declared.Place.TheVariants.{At, Nothing}
+use Rattle.transaction.specs.Volumes.{working, Shows}
+use Rattle.transaction.specs.declared.volume.Volume.{Volume}
+use Rattle.transaction.specs.declared.working_copy.WorkingCopy.{WorkingCopy}
+use Rattle.std.specs.Prelude.{Some, None}
+use Rattle.std.specs.Option.{unwrap_or}
+use Rattle.block.proofs.Places.{found-some, found-none}
 
 -- ---- the staged numbers
 
@@ -170,6 +174,10 @@ module _ (s : Session) (h : length s.staged ≡ 32) where
   pub staged-lent : (n : ℕ) → n ≡ length (staged_in s) → take (n - 0) (drop 0 s.staged) ≡ staged_in s
   staged-lent n e = let z : n - 0 ≡ n = omega arith in rw z (sym (staged-is n e))
 
+-- a place among the numbers lent
+pub spot-among : (s : Session) (b n i : ℕ) → length s.staged ≡ 32 → n ≡ length (staged_in s) → i ≡ spot (take (n - 0) (drop 0 s.staged)) b → i ≡ spot (staged_in s) b
+spot-among s b n i h e q = q ∙ ap (λ (l : List ℕ). spot l b) (staged-lent s h n e)
+
 -- the cells in use, of every session with these
 module _ (cells : List ℕ) (count : ℕ) where
   pub staged-parts : (N : ℕ) (p : Phase) → staged_in (session_of N p cells count) ≡ take count cells
@@ -185,59 +193,29 @@ module _ (cells : List ℕ) (count : ℕ) where
     pub cells-lent : take (n - 0) (drop 0 cells) ≡ take count cells
     cells-lent = staged-lent (session_of 0 Closed cells count) h n (cells-many ∙ sym (ap length (staged-parts 0 Closed))) ∙ staged-parts 0 Closed
 
-    pub cells-few : length (take (n - 0) (drop 0 cells)) ≤ 32
-    cells-few = simp (length-take, length-drop) (omega (arith, e, h))
+    pub lent-cells : (N : ℕ) (p : Phase) → staged_in (session_of N p cells count) ≡ take (n - 0) (drop 0 cells)
+    lent-cells N p = staged-parts N p ∙ sym cells-lent
 
     -- their working copy, of any session
     pub cells-view : (N : ℕ) (p : Phase) (device work : List ℕ) → view_in (take (n - 0) (drop 0 cells)) device work ≡ view (state_of (session_of N p cells count) device work)
     unfolding view view_in
     cells-view N p device work = ap (λ (l : List ℕ). view_in l device work) (cells-lent ∙ sym (staged-parts N p))
 
--- the place of b from i on in a list
-unfoldable pub place_in : List ℕ → ℕ → ℕ → Place
-place_in l i b = found_at (place_from i b (drop i l))
-
-module _ (l : List ℕ) (i b : ℕ) where
-  pub place-hit : i < length l → get_or l i 0 ≡ b → place_in l i b ≡ At i
-  unfolding place_in
-  place-hit h e = rw (drop-cons l i 0 h, eq-eqb (get_or l i 0) b e)
-
-  pub place-miss : i < length l → (get_or l i 0 ≡ b → ⊥) → place_in l i b ≡ place_in l (i + 1) b
-  unfolding place_in
-  place-miss h e = rw (drop-cons l i 0 h, ne_eqb (get_or l i 0) b e, add-one i)
-
-  pub place_end : length l ≤ i → place_in l i b ≡ Nothing
-  unfolding place_in
-  place_end h = rw (drop_of_length-le l h)
-
-pub place-start : (l : List ℕ) (b : ℕ) → found_at (place b l) ≡ place_in l 0 b
-unfolding place_in
-place-start l b = refl
-
--- what an answer of `staged_at` says
-at_place : (o : Option ℕ) (i : ℕ) → found_at o ≡ At i → o ≡ some i
-at_place none i e = let z : ◌≡◌ {A = ℕ} 0 1 = cc in absurd (omega arith)
-at_place (some j) i e = let z : j ≡ i = cc in ap some z
-
-no-place-at : (o : Option ℕ) → found_at o ≡ Nothing → o ≡ none
-no-place-at none e = refl
-no-place-at (some j) e = let z : ◌≡◌ {A = ℕ} 0 1 = cc in absurd (omega arith)
-
-pub at_lt : (l : List ℕ) (b i : ℕ) → found_at (place b l) ≡ At i → i < length l
-at_lt l b i e = place-lt b i l (at_place (place b l) i e)
+pub at_lt : (l : List ℕ) (b i : ℕ) → found_at (place b l) ≡ Some i → i < length l
+at_lt l b i e = place-lt b i l (found-some (place b l) i e)
 
 pub part-few : (xs ys : List ℕ) (b : ℕ) → ys ≡ take 512 (drop (512 * b) xs) → length ys ≤ 512
 part-few xs ys b e = rw e (simp length-take (omega arith))
 
 -- the working copy, of the numbers staged
 module _ (l device work : List ℕ) (b : ℕ) where
-  pub view-at : (i : ℕ) → found_at (place b l) ≡ At i → view_in l device work b ≡ blocks_of work i
+  pub view-at : (i : ℕ) → found_at (place b l) ≡ Some i → view_in l device work b ≡ blocks_of work i
   unfolding view_in
-  view-at i e = rw (at_place (place b l) i e)
+  view-at i e = rw (found-some (place b l) i e)
 
-  pub view-new : found_at (place b l) ≡ Nothing → view_in l device work b ≡ blocks_of device b
+  pub view-new : found_at (place b l) ≡ None → view_in l device work b ≡ blocks_of device b
   unfolding view_in
-  view-new e = rw (no-place-at (place b l) e)
+  view-new e = rw (found-none (place b l) e)
 
   pub view-in-length : length (view_in l device work b) ≡ 512
   unfolding view_in
@@ -262,13 +240,22 @@ pub lent-few : (s : Session) (n : ℕ) → length s.staged ≡ 32 → n ≤ 32 �
 lent-few s n h k = simp (length-take, length-drop) (omega arith)
 
 module _ (l : List ℕ) (b : ℕ) where
-  pub spot-at : (i : ℕ) → found_at (place b l) ≡ At i → i ≡ spot l b
+  pub spot-at : (i : ℕ) → found_at (place b l) ≡ Some i → i ≡ spot l b
   unfolding spot
-  spot-at i e = sym (rw (at_place (place b l) i e))
+  spot-at i e = sym (rw (found-some (place b l) i e))
 
-  pub spot-new : found_at (place b l) ≡ Nothing → length l ≡ spot l b
+  pub spot-new : found_at (place b l) ≡ None → length l ≡ spot l b
   unfolding spot
-  spot-new e = sym (rw (no-place-at (place b l) e))
+  spot-new e = sym (rw (found-none (place b l) e))
+
+  -- as the code finds it
+  pub spot-is : unwrap_or (found_at (place b l)) (length l) ≡ spot l b
+  unfolding spot
+  spot-is = go (place b l)
+    where
+      go : (o : Option ℕ) → unwrap_or (found_at o) (length l) ≡ found o (length l) (λ i. i)
+      go none = refl
+      go (some i) = refl
 
   pub spot-le : spot l b ≤ length l
   unfolding spot
@@ -279,36 +266,36 @@ module _ (l : List ℕ) (b : ℕ) where
       go (some i) e = rw e (omega (arith, place-lt b i l e))
 
   -- whether it is among them already is told by its place
-  pub spot-found : spot l b < length l → found_at (place b l) ≡ At (spot l b)
+  pub spot-found : spot l b < length l → found_at (place b l) ≡ Some (spot l b)
   unfolding spot
   spot-found h = go (place b l) refl
     where
-      go : (o : Option ℕ) → place b l ≡ o → found_at (place b l) ≡ At (spot l b)
+      go : (o : Option ℕ) → place b l ≡ o → found_at (place b l) ≡ Some (spot l b)
       go none e = let z : length l < length l = rw e at h in absurd (omega arith)
       go (some i) e = rw e
 
-  pub spot-absent : length l ≤ spot l b → found_at (place b l) ≡ Nothing
+  pub spot-absent : length l ≤ spot l b → found_at (place b l) ≡ None
   unfolding spot
   spot-absent h = go (place b l) refl
     where
-      go : (o : Option ℕ) → place b l ≡ o → found_at (place b l) ≡ Nothing
+      go : (o : Option ℕ) → place b l ≡ o → found_at (place b l) ≡ None
       go none e = rw e
       go (some i) e = let z : length l ≤ i = rw e at h in absurd (omega (arith, place-lt b i l e))
 
 module _ (s : Session) (b : ℕ) where
   -- the session's cells after staging: all as they were, or one more in use
-  pub with_at : (n i : ℕ) → length s.staged ≡ 32 → n ≡ length (staged_in s) → found_at (place b (staged_in s)) ≡ At i
+  pub with_at : (n i : ℕ) → length s.staged ≡ 32 → n ≡ length (staged_in s) → found_at (place b (staged_in s)) ≡ Some i
       → record { blocks = s.blocks; phase = s.phase; staged = s.staged; count = n } ≡ with_staged s (blocks_with (staged_in s) b)
   unfolding with_staged blocks_with
   with_at n i h e q =
-      rw (at_place (place b (staged_in s)) i q, ← e, staged-is s h n e, take-append-drop n s.staged)
+      rw (found-some (place b (staged_in s)) i q, ← e, staged-is s h n e, take-append-drop n s.staged)
 
-  pub with-new : (n : ℕ) → length s.staged ≡ 32 → n ≡ length (staged_in s) → n < 32 → found_at (place b (staged_in s)) ≡ Nothing
+  pub with-new : (n : ℕ) → length s.staged ≡ 32 → n ≡ length (staged_in s) → n < 32 → found_at (place b (staged_in s)) ≡ None
       → record { blocks = s.blocks; phase = s.phase; staged = set s.staged n b; count = n + 1 } ≡ with_staged s (blocks_with (staged_in s) b)
   unfolding with_staged blocks_with
   with-new n h e k q =
       let l : length (staged_in s ++ (b ∷ [])) ≡ suc n = length-append (staged_in s) (b ∷ []) ∙ omega arith in
-      rw (no-place-at (place b (staged_in s)) q, l, add-one n, set_split s.staged n b (omega arith), staged-is s h n e)
+      rw (found-none (place b (staged_in s)) q, l, add-one n, set_split s.staged n b (omega arith), staged-is s h n e)
       (ap (λ (x : List ℕ). record { blocks = s.blocks; phase = s.phase; staged = x; count = suc n }) (sym (append_snoc (take n s.staged) b (drop (suc n) s.staged))))
 
 -- the same, of every session with these cells
@@ -346,3 +333,19 @@ stage-leaves s q device work left b i x e f g =
     ap₂ (λ (n : Session) (w : Slice). record { session = n; device = slice_of device; work = w }) g
     (f ∙ ap (λ (k : ℕ). stored_in (slice_of work) k x) e)
     ∙ ap (with_staging (state_of s device work)) (sym (stage_is s device work b x))
+
+-- ---- what a call that only reads sees
+
+pub working-length : (c : WorkingCopy) (b : ℕ) → length (working c b) ≡ 512
+working-length c = view-in-length c.staged.now c.device.now c.work.now
+
+-- its blocks, and all of it
+module _ (v : Volume) (s : State) (e : Shows v s) where
+  pub shows-view : working v.copy ≡ view s
+  unfolding view view_in
+  shows-view =
+      ap₂ (λ (l : List ℕ) (d : Slice). λ b. found (place b l) (d.block b) (blocks_of v.copy.work.now)) (sym e.numbers) (sym e.device)
+      ∙ ap (λ (w : Slice). λ b. found (place b (staged_in s.session)) (s.device.block b) w.block) (sym e.work)
+
+  pub shows-all : s ≡ state_of s.session v.copy.device.now v.copy.work.now
+  shows-all = ap₂ (λ (d w : Slice). record { session = s.session; device = d; work = w }) e.device e.work

@@ -1,17 +1,10 @@
 -- Places among the staged blocks, for the contracts of this crate.
 use Rattle.std.specs.Prelude.{ℕ, List, [], ◌∷◌, ◌++◌, length}
-use Rattle.std.proofs.Math.Option.{Option, none, some}
 use Rattle.spec.specs.Bytes.{found, place}
 use Rattle.spec.specs.Disk.{Disk, blocks_of}
 use Rattle.spec.specs.declared.Phase.{Phase}
 use Rattle.spec.specs.declared.Session.{Session}
-use Rattle.transaction.specs.declared.Place.{Place}
-use Rattle.transaction.specs.declared.Place.TheVariants.{At, Nothing}
-
--- a place as the code tells it
-abbrev pub found_at : Option ℕ → Place
-found_at none = Nothing
-found_at (some i) = At i
+pub use Rattle.block.specs.Places.{found_at}
 
 -- the working copy where these blocks are staged
 unfoldable pub view_in : List ℕ → List ℕ → List ℕ → Disk

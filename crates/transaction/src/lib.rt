@@ -1,31 +1,30 @@
 // The transaction: staged blocks, the working copy of a block, staging.
 #![tactic(auto)]
 
-ghost use Rattle.std.specs.Prelude.{◌≡◌, List, ℕ, ◌≤◌, ◌<◌, min, length, take};
+ghost use Rattle.std.specs.Prelude.{◌≡◌, ◌==◌, List, ℕ, ◌≤◌, ◌<◌, min, length, take, position};
 ghost use Rattle.spec.specs.Bytes.{exactly, place};
+ghost use Rattle.spec.specs.Disk.{blocks_of};
 ghost use Rattle.spec.specs.declared.Phase.{Phase};
 ghost use Rattle.spec.specs.Session.{staged_in, with_staged};
-ghost use Rattle.spec.specs.Transaction.{view, state_of, put, stage, staged_of, with_staging};
-ghost use Rattle.transaction.specs.Places.{found_at, spot, blocks_with, session_of, view_in};
+ghost use Rattle.spec.specs.Transaction.{state_of, put, stage, staged_of, with_staging};
+ghost use Rattle.block.specs.Places.{found_at};
+ghost use Rattle.transaction.specs.Places.{spot, blocks_with, session_of};
+ghost use Rattle.transaction.specs.Volumes.{working, Shows};
 
 use block::{block_in, store_block};
-use spec::{DiskBlock, Limits, Session};
+use spec::{DiskBlock, Limits, Phase, Session};
 
-// Where a block stands among the staged ones.
-#[derive(Clone, Copy)]
-pub enum Place {
-    At(usize),
-    Nothing,
-}
+mod volume;
+mod working_copy;
+
+pub use volume::Volume;
+pub use working_copy::WorkingCopy;
 
 // How many of the 32 cells are in use: a count past them is read as all.
 pub fn staged_in(count: usize) -> usize
     ensures { (result ≡ min count 32) × (result ≤ 32) }
 {
-    if count < Limits::LOG_LENGTH {
-        return count;
-    }
-    Limits::LOG_LENGTH
+    count.min(Limits::LOG_LENGTH)
 }
 
 // How many blocks are staged.
@@ -35,22 +34,21 @@ pub fn staged_count(s: Session) -> usize
     staged_in(s.count)
 }
 
-// Where block b stands among these.
-pub fn place_in(staged: &[u32], b: DiskBlock) -> Place
-    ensures { result ≡ found_at (place b.0 staged.now) }
+// The first cell that holds this number.
+fn first_place(cells: &[u32], want: u32) -> Option<usize>
+    ensures { result ≡ position (λ x. x == want) cells.now }
 {
-    let want = b.0;
-    let mut i: usize = 0;
-    while i < staged.len() {
-        if staged[i] == want {
-            return Place::At(i);
-        }
-        i += 1;
-    }
-    Place::Nothing
+    cells.iter().position(|x| *x == want)
 }
 
-pub fn staged_at(s: Session, b: DiskBlock) -> Place
+// Where block b stands among these.
+pub fn place_in(staged: &[u32], b: DiskBlock) -> Option<usize>
+    ensures { result ≡ found_at (place b.0 staged.now) }
+{
+    first_place(staged, b.0)
+}
+
+pub fn staged_at(s: Session, b: DiskBlock) -> Option<usize>
     ensures { result ≡ found_at (place b.0 (staged_in s)) }
 {
     let l = s.staged;
@@ -58,35 +56,74 @@ pub fn staged_at(s: Session, b: DiskBlock) -> Place
     place_in(&l[0..n], b)
 }
 
-// The working copy of block b where these blocks are staged: its image, or the device's block; it may end early, zeros follow.
-// The staged blocks are lent rather than the session that holds them, so that no call copies it.
-pub fn view_in<'a>(device: &'a [u8], work: &'a [u8], staged: &[u32], b: DiskBlock) -> &'a [u8]
-    requires { length staged.now ≤ 32 }
-    ensures { (exactly 512 result.now ≡ view_in staged.now device.now work.now b.0) × (length result.now ≤ 512) }
-{
-    match place_in(staged, b) {
-        Place::At(i) => block_in(work, DiskBlock(i as u32)),
-        Place::Nothing => block_in(device, b),
+impl<'a> WorkingCopy<'a> {
+    // A device with nothing staged.
+    pub fn of_device(device: &'a [u8]) -> WorkingCopy<'a>
+        ensures { working result ≡ blocks_of device.now }
+    {
+        WorkingCopy {
+            device,
+            work: &[],
+            staged: &[],
+        }
+    }
+
+    // Block b: its image where it is staged, else the device's block; it may end early, zeros follow.
+    pub fn block(&self, b: DiskBlock) -> &'a [u8]
+        ensures { (exactly 512 result.now ≡ working self.now b.0) × (length result.now ≤ 512) }
+    {
+        match place_in(self.staged, b) {
+            Some(i) => block_in(self.work, DiskBlock(i as u32)),
+            None => block_in(self.device, b),
+        }
     }
 }
 
-// The working copy of block b: its image where it is staged, else the device's block; zeros where the bytes end.
-pub fn view_block<'a>(device: &'a [u8], work: &'a [u8], s: Session, b: DiskBlock) -> &'a [u8]
-    ensures { exactly 512 result.now ≡ view (state_of s device.now work.now) b.0 }
-{
-    let l = s.staged;
-    let n = staged_count(s);
-    view_in(device, work, &l[0..n], b)
+impl<'a> Volume<'a> {
+    // Of a session.
+    pub fn of(device: &'a [u8], work: &'a [u8], session: &'a Session) -> Volume<'a>
+        ensures { Shows result (state_of session.now device.now work.now) }
+    {
+        Volume::with_cells(
+            device,
+            work,
+            session.blocks,
+            session.phase,
+            &session.staged,
+            session.count,
+        )
+    }
+
+    // Of a session's parts: the C interface holds them, and a session made of them would copy its cells at each call.
+    pub fn with_cells(
+        device: &'a [u8],
+        work: &'a [u8],
+        blocks: usize,
+        phase: Phase,
+        cells: &'a [u32; Limits::LOG_LENGTH],
+        count: usize,
+    ) -> Volume<'a>
+        ensures { Shows result (state_of (session_of blocks phase cells.now count) device.now work.now) }
+    {
+        let n = staged_in(count);
+        let staged = &cells[0..n];
+        Volume {
+            blocks,
+            phase,
+            copy: WorkingCopy {
+                device,
+                work,
+                staged,
+            },
+        }
+    }
 }
 
 // The place among the images that block b has or gets, where these are staged.
 pub fn spot(staged: &[u32], b: DiskBlock) -> usize
     ensures { result ≡ spot staged.now b.0 }
 {
-    match place_in(staged, b) {
-        Place::At(i) => i,
-        Place::Nothing => staged.len(),
-    }
+    place_in(staged, b).unwrap_or(staged.len())
 }
 
 // Block b among the staged ones, at its place i: how many cells are in use then. Of every session with these cells.

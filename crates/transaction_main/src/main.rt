@@ -3,16 +3,14 @@
 
 use spec::{DiskBlock, Limits, Phase, Session};
 use std::io;
-use transaction::Place;
+use transaction::Volume;
 use trial::{number, stage};
 
 // Blocks 40 to 79 staged, as far as there is room.
 fn stage_many(work: &mut [u8], s: Session) -> Session {
     let mut t = s;
-    let mut b: u32 = 40;
-    while b < 80 {
+    for b in 40..80 {
         t = stage(work, t, b, 5);
-        b += 1;
     }
     t
 }
@@ -25,25 +23,25 @@ fn show<'a>(
     s: Session,
     b: u32,
 ) -> io::Result<()> {
-    number(rt, b as u64)?;
+    number(rt, b)?;
     match transaction::staged_at(s, DiskBlock(b)) {
-        Place::At(i) => {
+        Some(i) => {
             rt.write_all(b" at")?;
-            number(rt, i as u64)?;
+            number(rt, i)?;
         }
-        Place::Nothing => {
+        None => {
             rt.write_all(b" not staged")?;
         }
     }
     rt.write_all(b" holds")?;
-    let v = transaction::view_block(device, work, s, DiskBlock(b));
-    number(rt, block::load(v, 0) as u64)?;
+    let v = Volume::of(device, work, &s).copy.block(DiskBlock(b));
+    number(rt, block::load(v, 0))?;
     rt.write_all(b"\n")
 }
 
 fn count(rt: &impl Print, s: Session) -> io::Result<()> {
     rt.write_all(b"staged")?;
-    number(rt, transaction::staged_count(s) as u64)?;
+    number(rt, transaction::staged_count(s))?;
     rt.write_all(b"\n")
 }
 

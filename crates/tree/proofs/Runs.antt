@@ -46,10 +46,6 @@ module _ (N k : ℕ) where
   over-extents r [] = omega arith
   over-extents r (e ∷ es) = over-extents (with_extent N k r e) es ∙ omega arith
 
-  -- from none on
-  pub over-many : (z r : Run) (es : List Extent) → z ≡ no_run → r ≡ over_extents N k z es → r.extents ≡ length es
-  over-many z r es ez er = omega (arith, ap (λ (q : Run). q.extents) ez, ap (λ (q : Run). q.extents) er, over-extents z es)
-
   pub over-blocks : (r : Run) (es : List Extent) → (over_extents N k r es).blocks ≡ r.blocks + counts es
   unfolding over_extents with_extent
   over-blocks r [] = omega arith

@@ -1,20 +1,20 @@
 -- Slots one by one. Assumes nothing.
 use Prim.Native.Nat.{ℕ, zero, suc, ◌+◌, ◌*◌, ◌-◌, ◌<◌, ◌≤◌}
 use mathlib.Core.Path.{◌≡◌, refl, sym, ap, ap₂, ◌∙◌}
-use mathlib.Core.Bool.{Bool, true, false, cond, not, ◌&&◌, ◌||◌, true≢false}
-use mathlib.Core.List.{List, [], ◌∷◌, ◌++◌}
+use mathlib.Core.Bool.{Bool, true, false, cond, not, ◌&&◌}
+use mathlib.Core.List.{List, [], ◌∷◌}
 use native.Mathlib.Omega.{arith}
-use borrow.Author.Tests.{eqb-false, ne_eqb}
+use borrow.Author.Tests.{ne_eqb}
 use lib.Dec.{eqb}
 use lib.ListN.{length, drop}
 use lib.Seq.{drop-drop, get_or-drop}
 use Rattle.spec.specs.declared.Extent.{Extent}
 use Rattle.spec.specs.Bytes.{exactly, number2, all}
-use Rattle.spec.specs.Inode.{extent, slots_in, used, counts}
+use Rattle.spec.specs.Inode.{extent, slots_in, used}
 use Rattle.spec.specs.Sound.{slots_packed}
 use Rattle.block.proofs.Laws.{number2-exactly}
 use Rattle.inode.specs.Walk.{slot_in}
-use Rattle.tree.specs.Reached.{is_unused, used_from}
+use Rattle.tree.specs.Reached.{is_unused}
 use Rattle.tree.proofs.Runs.{and_right}
 
 -- a slot as the code reads it
@@ -33,10 +33,6 @@ slots-first m at xs =
 pub slots_next : (X : List ℕ) (p left : ℕ) (e : Extent) → 0 < left → e ≡ slot_in p X → slots_in left (drop p X) ≡ e ∷ slots_in (left - 1) (drop (p + 4) X)
 slots_next X p zero e h q = absurd (omega arith)
 slots_next X p (suc m) e h q = let z : suc m - 1 ≡ m = omega arith in rw (z, q) (slots-first m p X)
-
--- whether slots are packed, all used before them or not
-unfoldable pub packed_from : Bool → List Extent → Bool
-packed_from more slots = cond more (slots_packed slots) (all (λ e. eqb e.first 0 && eqb e.count 0) slots)
 
 -- a slot that is not used is the first of the others, and a used one stands before them
 module _ (e : Extent) (es : List Extent) where
@@ -93,58 +89,3 @@ pub unused-start : (X : List ℕ) (at n m : ℕ) → m ≡ length (used (slots_i
 unused-start X at n m e =
     let h : m ≤ n = omega (arith, e, used-few (slots_in n (drop at X)), length-slots n (drop at X)) in
     (h, ap (all is_unused) (sym (drop-slots m n at X h)) ∙ ap (λ (i : ℕ). all is_unused (drop i (slots_in n (drop at X)))) e)
-
-module _ (e : Extent) where
-  -- one slot that is not used, and one that is
-  pub not-used : (more : Bool) → (not more || eqb e.count 0) ≡ true → used_from more (e ∷ []) ≡ []
-  unfolding used_from
-  not-used true h = rw h
-  not-used false h = refl
-
-  pub is-used : (more : Bool) → (not more || eqb e.count 0) ≡ false → used_from more (e ∷ []) ≡ e ∷ []
-  unfolding used_from
-  is-used true h = rw h
-  is-used false h = absurd (true≢false h)
-
-  pub has-count : (more : Bool) → (not more || eqb e.count 0) ≡ false → 0 < e.count
-  has-count true h = omega (arith, eqb-false e.count 0 h)
-  has-count false h = absurd (true≢false h)
-
-  pub used-length : (more : Bool) → length (used_from more (e ∷ [])) ≤ 1
-  unfolding used_from
-  used-length false = omega arith
-  used-length true = go (eqb e.count 0)
-    where
-      go : (t : Bool) → length (cond (not t) (e ∷ []) []) ≤ 1
-      go true = omega arith
-      go false = omega arith
-
-  pub used-counts : (more : Bool) → counts (used_from more (e ∷ [])) ≤ e.count
-  unfolding used_from
-  used-counts false = omega arith
-  used-counts true = go (eqb e.count 0)
-    where
-      go : (t : Bool) → counts (cond (not t) (e ∷ []) []) ≤ e.count
-      go true = omega arith
-      go false = omega arith
-
-  -- the first of some slots taken off
-  pub used_step : (es : List Extent) (more : Bool) → used_from more (e ∷ es) ≡ used_from more (e ∷ []) ++ used_from (more && not (eqb e.count 0)) es
-  unfolding used_from
-  used_step es false = refl
-  used_step es true = go (eqb e.count 0)
-    where
-      go : (t : Bool) → cond (not t) (e ∷ used es) [] ≡ cond (not t) (e ∷ []) [] ++ cond (not t) (used es) []
-      go true = refl
-      go false = refl
-
-  pub packed_step : (es : List Extent) (more : Bool)
-      → packed_from more (e ∷ es) ≡ ((more && not (eqb e.count 0)) || (eqb e.first 0 && eqb e.count 0)) && packed_from (more && not (eqb e.count 0)) es
-  unfolding packed_from
-  packed_step es false = refl
-  packed_step es true = go (eqb e.count 0) refl
-    where
-      go : (t : Bool) → eqb e.count 0 ≡ t
-          → slots_packed (e ∷ es) ≡ (not (eqb e.count 0) || (eqb e.first 0 && eqb e.count 0)) && packed_from (not (eqb e.count 0)) es
-      go true q = rw q (rw q)
-      go false q = rw q

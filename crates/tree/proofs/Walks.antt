@@ -1,7 +1,7 @@
 -- The loops over slots, step by step: what they find and what they mark. Assumes nothing.
 use Prim.Native.Nat.{ℕ, zero, suc, ◌+◌, ◌*◌, ◌-◌, ◌<◌, ◌≤◌, min}
 use mathlib.Core.Path.{◌≡◌, refl, sym, ap, ◌∙◌}
-use mathlib.Core.Bool.{Bool, true, false, not, ◌&&◌, ◌||◌}
+use mathlib.Core.Bool.{Bool, ◌&&◌}
 use mathlib.Core.List.{List, [], ◌∷◌, ◌++◌, map, append-nil, append_assoc}
 use native.Mathlib.Omega.{arith}
 use lib.Dec.{eqb}
@@ -15,14 +15,15 @@ use Rattle.spec.specs.Sound.{slots_packed}
 use Rattle.lists.specs.Extents.{blocks-append, length-blocks}
 use Rattle.bitmap.proofs.Laws.{occurs-append}
 use Rattle.inode.specs.Walk.{slot_in}
+use Rattle.marks.specs.declared.Marks.{Marks}
 use Rattle.marks.specs.Marks.{Kept}
 use Rattle.marks.proofs.Laws.{Split, kept-start, kept_on, kept-end}
 use Rattle.tree.specs.declared.Run.{Run}
 use Rattle.tree.specs.declared.Nodes.{Nodes}
 use Rattle.tree.specs.Runs.{with_extent, over_extents, with_node, over_nodes, no_nodes}
-use Rattle.tree.specs.Reached.{used_from, blocks_from, tree_from}
-use Rattle.tree.proofs.Runs.{and_assoc, and_right, over-extents, over-blocks, nodes-run, nodes-append, nodes-tops, nodes-counts}
-use Rattle.tree.proofs.Slots.{slots_next, unused-none, used-first, packed_from, not-used, is-used, used-length, used-counts, used_step, packed_step}
+use Rattle.tree.specs.Reached.{blocks_from, tree_from}
+use Rattle.tree.proofs.Runs.{over-extents, over-blocks, nodes-run, nodes-tops, nodes-counts}
+use Rattle.tree.proofs.Slots.{slots_next, unused-none, used-first}
 
 -- ---- blocks of extents
 
@@ -83,92 +84,77 @@ unfolding tree_from
 tree-none v n = blocks-none n ∙ sym (append-nil (blocks_from n []))
 
 -- one node marked, then the blocks below it
-pub node-marked : (N : ℕ) (v : Disk) (n : ℕ) (e : Extent) (us : List Extent) (o₂ t₂ o₁ t₁ o t : List ℕ) → us ≡ used (slots_at v e.first)
-    → Kept N o₁ t₁ [] o t (e.first ∷ []) → Kept N o₂ t₂ [] o₁ t₁ (blocks_from n us) → Kept N o₂ t₂ [] o t (tree_from v n (e ∷ []))
+pub node-marked : (N : ℕ) (v : Disk) (n : ℕ) (e : Extent) (us : List Extent) (m₂ m₁ m : Marks) → us ≡ used (slots_at v e.first)
+    → Kept N m₁ [] m (e.first ∷ []) → Kept N m₂ [] m₁ (blocks_from n us) → Kept N m₂ [] m (tree_from v n (e ∷ []))
 unfolding tree_from
-node-marked N v n e us o₂ t₂ o₁ t₁ o t q a b =
+node-marked N v n e us m₂ m₁ m q a b =
     let B = blocks_from n us in
     let w : tree_from v n (e ∷ []) ≡ B ++ (e.first ∷ []) = rw (append-nil, q) in
-    kept_on N o₁ t₁ B o t (tree_from v n (e ∷ []))
-    (kept_on N o t (B ++ (e.first ∷ [])) o t (tree_from v n (e ∷ [])) (kept-start N o t (B ++ (e.first ∷ [])) (tree_from v n (e ∷ [])) (sym w)) o₁ t₁ (e.first ∷ []) B
+    kept_on N m₁ B m (tree_from v n (e ∷ []))
+    (kept_on N m (B ++ (e.first ∷ [])) m (tree_from v n (e ∷ [])) (kept-start N m (B ++ (e.first ∷ [])) (tree_from v n (e ∷ [])) (sym w)) m₁ (e.first ∷ []) B
     (λ x. omega (arith, occurs-append x B (e.first ∷ []))) a)
-    o₂ t₂ B [] (λ x. omega arith) b
+    m₂ B [] (λ x. omega arith) b
 
 -- ---- the loop over extents
 
 -- at place p of a block X with so many slots left, all before them used, q so far: with what is left it comes to what all the slots make of r, and so do the marks
-pub record Going (N k : ℕ) (X : List ℕ) (o t : List ℕ) (q : Run) (p left : ℕ) (o₀ t₀ : List ℕ) (r : Run) (slots : List Extent) (n : ℕ) : Type 0 where
+pub record Going (N k : ℕ) (X : List ℕ) (m : Marks) (q : Run) (p left : ℕ) (m₀ : Marks) (r : Run) (slots : List Extent) (n : ℕ) : Type 0 where
   pub whole : over_extents N k q (used (slots_in left (drop p X))) ≡ over_extents N k r (used slots)
-  pub marks : Kept N o t (blocks_from q.blocks (used (slots_in left (drop p X)))) o₀ t₀ (blocks_from r.blocks (used slots))
+  pub marks : Kept N m (blocks_from q.blocks (used (slots_in left (drop p X)))) m₀ (blocks_from r.blocks (used slots))
   pub few : q.extents + left ≤ r.extents + n
   pub small : q.blocks + 65536 * left ≤ r.blocks + 65536 * n
-  pub room : p + 4 * left ≤ 512
 
 -- what the loop leaves
-abbrev Gone : ℕ → ℕ → List ℕ → List ℕ → Run → List ℕ → List ℕ → Run → List Extent → ℕ → Type 0
-Gone N k o t q o₀ t₀ r slots n =
+abbrev Gone : ℕ → ℕ → Marks → Run → Marks → Run → List Extent → ℕ → Type 0
+Gone N k m q m₀ r slots n =
     (q ≡ over_extents N k r (used slots)) × (q.extents ≤ r.extents + n) × (q.blocks ≤ r.blocks + 65536 * n)
-    × Kept N o t [] o₀ t₀ (blocks_from r.blocks (used slots))
+    × Kept N m [] m₀ (blocks_from r.blocks (used slots))
 
 module _ (N k : ℕ) (X : List ℕ) where
-  pub going_start : (at n : ℕ) (o t : List ℕ) (r : Run) → at + 4 * n ≤ 512 → Going N k X o t r at n o t r (slots_in n (drop at X)) n
-  going_start at n o t r h = record {
+  pub going_start : (p at left n : ℕ) (m : Marks) (r : Run) → p ≡ at → left ≡ n → Going N k X m r p left m r (slots_in n (drop at X)) n
+  going_start p at left n m r e f = rw (e, f) (record {
     whole = refl;
-    marks = kept-start N o t (blocks_from r.blocks (used (slots_in n (drop at X)))) (blocks_from r.blocks (used (slots_in n (drop at X)))) refl;
+    marks = kept-start N m (blocks_from r.blocks (used (slots_in n (drop at X)))) (blocks_from r.blocks (used (slots_in n (drop at X)))) refl;
     few = omega arith;
     small = omega arith;
-    room = h;
-  }
+  })
 
-  module _ (o t : List ℕ) (q : Run) (p left : ℕ) (o₀ t₀ : List ℕ) (r : Run) (slots : List Extent) (n : ℕ) (g : Going N k X o t q p left o₀ t₀ r slots n) where
-    pub going_more : (e : Extent) (u : Run) (o₁ t₁ : List ℕ) → 0 < left → e ≡ slot_in p X → 0 < e.count → e.count < 65536 → u ≡ with_extent N k q e
-        → Kept N o₁ t₁ [] o t (blocks_from q.blocks (e ∷ [])) → Going N k X o₁ t₁ u (p + 4) (left - 1) o₀ t₀ r slots n
+  module _ (m : Marks) (q : Run) (p left : ℕ) (m₀ : Marks) (r : Run) (slots : List Extent) (n : ℕ) (g : Going N k X m q p left m₀ r slots n) where
+    pub going_more : (p' left' : ℕ) (e : Extent) (u : Run) (m₁ : Marks) → p' ≡ p + 4 → left' ≡ left - 1 → 0 < left → e ≡ slot_in p X → 0 < e.count → e.count < 65536 → u ≡ with_extent N k q e
+        → Kept N m₁ [] m (blocks_from q.blocks (e ∷ [])) → Going N k X m₁ u p' left' m₀ r slots n
     unfolding over_extents
-    going_more e u o₁ t₁ l ie some c iu m =
+    going_more p' left' e u m₁ ep el l ie some c iu h =
         let es = slots_in (left - 1) (drop (p + 4) X) in
         let i : slots_in left (drop p X) ≡ e ∷ es = slots_next X p left e l ie in
         let j : used (slots_in left (drop p X)) ≡ e ∷ used es = ap used i ∙ used-first e es some in
         let x : u.extents ≡ q.extents + 1 = ap (λ (z : Run). z.extents) iu ∙ over-extents N k q (e ∷ []) in
         let y : u.blocks ≡ q.blocks + counts (e ∷ []) = ap (λ (z : Run). z.blocks) iu ∙ over-blocks N k q (e ∷ []) in
-        let f = g.few in let s = g.small in let h = g.room in
-        record {
+        let f = g.few in let s = g.small in
+        rw (ep, el) (record {
           whole = ap (λ (z : Run). over_extents N k z (used es)) iu ∙ ap (over_extents N k q) (sym j) ∙ g.whole;
-          marks = kept_on N o t (blocks_from q.blocks (used (slots_in left (drop p X)))) o₀ t₀ (blocks_from r.blocks (used slots)) g.marks o₁ t₁
-              (blocks_from q.blocks (e ∷ [])) (blocks_from u.blocks (used es)) (rw j (blocks-split q.blocks u.blocks (e ∷ []) (used es) y)) m;
+          marks = kept_on N m (blocks_from q.blocks (used (slots_in left (drop p X)))) m₀ (blocks_from r.blocks (used slots)) g.marks m₁
+              (blocks_from q.blocks (e ∷ [])) (blocks_from u.blocks (used es)) (rw j (blocks-split q.blocks u.blocks (e ∷ []) (used es) y)) h;
           few = omega arith;
           small = omega arith;
-          room = omega arith;
-        }
+        })
 
-    gone : used (slots_in left (drop p X)) ≡ [] → Gone N k o t q o₀ t₀ r slots n
+    gone : used (slots_in left (drop p X)) ≡ [] → Gone N k m q m₀ r slots n
     unfolding over_extents
     gone e = (
       ap (over_extents N k q) (sym e) ∙ g.whole,
       omega (arith, g.few),
       omega (arith, g.small),
-      kept-end N o t _ o₀ t₀ _ g.marks _ (ap (blocks_from q.blocks) e ∙ sym (blocks-none q.blocks)) refl,
+      kept-end N m _ m₀ _ g.marks _ (ap (blocks_from q.blocks) e ∙ sym (blocks-none q.blocks)) refl,
     )
 
     -- at a slot that is not used
-    pub going-out : (e : Extent) → 0 < left → e ≡ slot_in p X → e.count ≡ 0 → Gone N k o t q o₀ t₀ r slots n
+    pub going-out : (e : Extent) → 0 < left → e ≡ slot_in p X → e.count ≡ 0 → Gone N k m q m₀ r slots n
     going-out e l ie c = gone (ap used (slots_next X p left e l ie) ∙ unused-none e (slots_in (left - 1) (drop (p + 4) X)) c)
 
     -- and with none left
-    pub going_end : left ≤ 0 → Gone N k o t q o₀ t₀ r slots n
+    pub going_end : left ≤ 0 → Gone N k m q m₀ r slots n
     unfolding slots_in
     going_end l = let z : left ≡ 0 = omega arith in gone (rw z refl)
-
--- ---- slots of nodes
-
--- at the end nothing is left
-nothing_left : (X : List ℕ) (more : Bool) (p left : ℕ) → left ≡ 0 → (used_from more (slots_in left (drop p X)) ≡ []) × (packed_from more (slots_in left (drop p X)) ≡ true)
-unfolding used_from packed_from slots_in
-nothing_left X true p left z = rw z (refl, refl)
-nothing_left X false p left z = rw z (refl, refl)
-
--- one slot less is packed
-packed-on : (a b c d e : Bool) → a && b ≡ e → b ≡ c && d → (a && c) && d ≡ e
-packed-on a b c d e h q = and_assoc a c d ∙ ap (λ (z : Bool). a && z) (sym q) ∙ h
 
 -- ---- one node
 
@@ -188,7 +174,7 @@ module _ (N k : ℕ) (v : Disk) (f : Nodes) (e : Extent) (r : Run) (X : List ℕ
   pub node-many : r.extents - f.run.extents ≡ length (used (slots_in 128 (drop 0 X)))
   node-many = let u = node-used in let z : r.extents - f.run.extents ≡ length (used (slots_at v e.first)) = omega arith in z ∙ ap (λ (es : List Extent). length (used es)) (sym node-slots)
 
-  node-is : (p d : Bool) → p ≡ slots_packed (slots_in 128 (drop 0 X)) → d ≡ in_data N e.first
+  pub node-is : (p d : Bool) → p ≡ slots_packed (slots_in 128 (drop 0 X)) → d ≡ in_data N e.first
       → record {
         run = r;
         sound = f.sound && (d && p);
@@ -207,106 +193,75 @@ module _ (N k : ℕ) (v : Disk) (f : Nodes) (e : Extent) (r : Run) (X : List ℕ
       let g : r ≡ over_extents N k f.run (used (slots_at v e.first)) = h ∙ ap (λ (es : List Extent). over_extents N k f.run (used es)) node-slots in
       rw (q, ed, u, w, g)
 
-  pub node-on : (more p d : Bool) → (not more || eqb e.count 0) ≡ false → p ≡ slots_packed (slots_in 128 (drop 0 X)) → d ≡ in_data N e.first
-      → record {
-        run = r;
-        sound = f.sound && (d && p);
-        agree = f.agree && eqb e.count (r.blocks - f.run.blocks);
-        filled = f.filled && f.full;
-        full = eqb (r.extents - f.run.extents) 128;
-        tops = f.tops + 1;
-        counts = f.counts + e.count;
-      }
-      ≡ over_nodes N k v f (used_from more (e ∷ []))
-  unfolding over_nodes
-  node-on more p d y ep ed = node-is p d ep ed ∙ ap (over_nodes N k v f) (sym (is-used e more y))
-
   -- marked: the node, then the blocks below it
-  pub node-marks : (more : Bool) (o₂ t₂ o₁ t₁ o t : List ℕ) → (not more || eqb e.count 0) ≡ false → Kept N o₁ t₁ [] o t (e.first ∷ [])
-      → Kept N o₂ t₂ [] o₁ t₁ (blocks_from f.run.blocks (used (slots_in 128 (drop 0 X)))) → Kept N o₂ t₂ [] o t (tree_from v f.run.blocks (used_from more (e ∷ [])))
-  node-marks more o₂ t₂ o₁ t₁ o t y a b =
-      kept-end N o₂ t₂ [] o t _ (node-marked N v f.run.blocks e _ o₂ t₂ o₁ t₁ o t (ap used node-slots) a b) _ refl (ap (tree_from v f.run.blocks) (sym (is-used e more y)))
-
--- no node
-pub node-off : (N k : ℕ) (v : Disk) (f : Nodes) (more : Bool) (e : Extent) (o t : List ℕ) → (not more || eqb e.count 0) ≡ true
-    → (f ≡ over_nodes N k v f (used_from more (e ∷ []))) × (f.run.extents ≤ f.run.extents + 128) × (f.run.blocks ≤ f.run.blocks + 8388608)
-    × Kept N o t [] o t (tree_from v f.run.blocks (used_from more (e ∷ [])))
-unfolding over_nodes
-node-off N k v f more e o t h =
-    let z = not-used e more h in (
-      ap (over_nodes N k v f) (sym z),
-      omega arith,
-      omega arith,
-      kept-start N o t [] _ (tree-none v f.run.blocks ∙ ap (tree_from v f.run.blocks) (sym z)),
-    )
+  pub node-marks : (m₂ m₁ m : Marks) → Kept N m₁ [] m (e.first ∷ [])
+      → Kept N m₂ [] m₁ (blocks_from f.run.blocks (used (slots_in 128 (drop 0 X)))) → Kept N m₂ [] m (tree_from v f.run.blocks (e ∷ []))
+  node-marks m₂ m₁ m a b = node-marked N v f.run.blocks e _ m₂ m₁ m (ap used node-slots) a b
 
 -- ---- the loop over nodes
 
-pub record Noding (N k : ℕ) (v : Disk) (X : List ℕ) (o t : List ℕ) (f : Nodes) (more packed : Bool) (p left : ℕ) (o₀ t₀ : List ℕ) (slots : List Extent) : Type 0 where
-  pub whole : over_nodes N k v f (used_from more (slots_in left (drop p X))) ≡ over_nodes N k v no_nodes (used slots)
-  pub zero : packed && packed_from more (slots_in left (drop p X)) ≡ slots_packed slots
-  pub marks : Kept N o t (tree_from v f.run.blocks (used_from more (slots_in left (drop p X)))) o₀ t₀ (tree_from v 0 (used slots))
+pub record Noding (N k : ℕ) (v : Disk) (X : List ℕ) (m : Marks) (f : Nodes) (p left : ℕ) (m₀ : Marks) (slots : List Extent) : Type 0 where
+  pub whole : over_nodes N k v f (used (slots_in left (drop p X))) ≡ over_nodes N k v no_nodes (used slots)
+  pub marks : Kept N m (tree_from v f.run.blocks (used (slots_in left (drop p X)))) m₀ (tree_from v 0 (used slots))
   pub few : f.run.extents + 128 * left ≤ 512
   pub small : f.run.blocks + 8388608 * left ≤ 33554432
   pub tops : f.tops + left ≤ 4
   pub counts : f.counts + 65536 * left ≤ 262144
-  pub room : p + 4 * left ≤ 512
+
+abbrev NodingEnd : ℕ → ℕ → Disk → Marks → Nodes → Marks → List Extent → Type 0
+NodingEnd N k v m f m₀ slots = (f ≡ over_nodes N k v no_nodes (used slots)) × Kept N m [] m₀ (tree_from v 0 (used slots))
 
 module _ (N k : ℕ) (v : Disk) (X : List ℕ) where
-  pub noding-start : (at : ℕ) (o t : List ℕ) (f : Nodes) → f ≡ no_nodes → at + 16 ≤ 512 → Noding N k v X o t f true true at 4 o t (slots_in 4 (drop at X))
-  unfolding used_from packed_from
-  noding-start at o t f e h =
+  pub noding-start : (p at : ℕ) (m : Marks) (f : Nodes) → p ≡ at → f ≡ no_nodes → Noding N k v X m f p 4 m (slots_in 4 (drop at X))
+  noding-start p at m f q e =
       let x : f.run.extents ≡ 0 = ap (λ (z : Nodes). z.run.extents) e in
       let y : f.run.blocks ≡ 0 = ap (λ (z : Nodes). z.run.blocks) e in
       let z : f.tops ≡ 0 = ap (λ (z : Nodes). z.tops) e in
       let w : f.counts ≡ 0 = ap (λ (z : Nodes). z.counts) e in
-      record {
+      rw q (record {
         whole = ap (λ (z : Nodes). over_nodes N k v z (used (slots_in 4 (drop at X)))) e;
-        zero = refl;
-        marks = kept-start N o t _ _ (ap (λ (n : ℕ). tree_from v n (used (slots_in 4 (drop at X)))) y);
+        marks = kept-start N m _ _ (ap (λ (n : ℕ). tree_from v n (used (slots_in 4 (drop at X)))) y);
         few = omega arith;
         small = omega arith;
         tops = omega arith;
         counts = omega arith;
-        room = omega arith;
-      }
+      })
 
-  module _ (o t : List ℕ) (f : Nodes) (more packed : Bool) (p left : ℕ) (o₀ t₀ : List ℕ) (slots : List Extent)
-      (g : Noding N k v X o t f more packed p left o₀ t₀ slots) where
-    pub noding-more : (e : Extent) (u : Nodes) (o₁ t₁ : List ℕ) → 0 < left → e ≡ slot_in p X → e.count < 65536 → u ≡ over_nodes N k v f (used_from more (e ∷ []))
-        → u.run.extents ≤ f.run.extents + 128 → u.run.blocks ≤ f.run.blocks + 8388608
-        → Kept N o₁ t₁ [] o t (tree_from v f.run.blocks (used_from more (e ∷ [])))
-        → Noding N k v X o₁ t₁ u (more && not (eqb e.count 0)) (packed && ((more && not (eqb e.count 0)) || (eqb e.first 0 && eqb e.count 0))) (p + 4) (left - 1)
-        o₀ t₀ slots
-    noding-more e u o₁ t₁ l ie c iu few small m =
+  module _ (m : Marks) (f : Nodes) (p left : ℕ) (m₀ : Marks) (slots : List Extent) (g : Noding N k v X m f p left m₀ slots) where
+    pub noding-more : (p' left' : ℕ) (e : Extent) (u : Nodes) (m₁ : Marks) → p' ≡ p + 4 → left' ≡ left - 1 → 0 < left → e ≡ slot_in p X → 0 < e.count → e.count < 65536
+        → u ≡ with_node N k v f e → u.run.extents ≤ f.run.extents + 128 → u.run.blocks ≤ f.run.blocks + 8388608
+        → Kept N m₁ [] m (tree_from v f.run.blocks (e ∷ [])) → Noding N k v X m₁ u p' left' m₀ slots
+    unfolding over_nodes
+    noding-more p' left' e u m₁ ep el l ie some c iu few small h =
         let es = slots_in (left - 1) (drop (p + 4) X) in
-        let A = used_from more (e ∷ []) in
-        let B = used_from (more && not (eqb e.count 0)) es in
+        let A = e ∷ [] in
         let i : slots_in left (drop p X) ≡ e ∷ es = slots_next X p left e l ie in
-        let j : used_from more (slots_in left (drop p X)) ≡ A ++ B = ap (used_from more) i ∙ used_step e es more in
+        let j : used (slots_in left (drop p X)) ≡ e ∷ used es = ap used i ∙ used-first e es some in
         let y : u.run.blocks ≡ f.run.blocks + counts (below v A) =
         ap (λ (z : Nodes). z.run.blocks) iu ∙ ap (λ (z : Run). z.blocks) (nodes-run N k v f A) ∙ over-blocks N k f.run (below v A) in
         let w : u.tops ≡ f.tops + length A = ap (λ (z : Nodes). z.tops) iu ∙ nodes-tops N k v f A in
         let x : u.counts ≡ f.counts + counts A = ap (λ (z : Nodes). z.counts) iu ∙ nodes-counts N k v f A in
-        let a = used-length e more in let b = used-counts e more in
-        let gf = g.few in let gs = g.small in let gt = g.tops in let gc = g.counts in let gr = g.room in
-        record {
-          whole = ap (λ (z : Nodes). over_nodes N k v z B) iu ∙ sym (nodes-append N k v f A B) ∙ ap (over_nodes N k v f) (sym j) ∙ g.whole;
-          zero = packed-on packed (packed_from more (slots_in left (drop p X))) _ _ (slots_packed slots) g.zero (ap (packed_from more) i ∙ packed_step e es more);
-          marks = kept_on N o t (tree_from v f.run.blocks (used_from more (slots_in left (drop p X)))) o₀ t₀ (tree_from v 0 (used slots)) g.marks o₁ t₁
-              (tree_from v f.run.blocks A) (tree_from v u.run.blocks B) (rw j (tree-split v f.run.blocks u.run.blocks A B y)) m;
+        let gf = g.few in let gs = g.small in let gt = g.tops in let gc = g.counts in
+        rw (ep, el) (record {
+          whole = ap (λ (z : Nodes). over_nodes N k v z (used es)) iu ∙ ap (over_nodes N k v f) (sym j) ∙ g.whole;
+          marks = kept_on N m (tree_from v f.run.blocks (used (slots_in left (drop p X)))) m₀ (tree_from v 0 (used slots)) g.marks m₁
+              (tree_from v f.run.blocks A) (tree_from v u.run.blocks (used es)) (rw j (tree-split v f.run.blocks u.run.blocks A (used es) y)) h;
           few = omega arith;
           small = omega arith;
           tops = omega arith;
           counts = omega arith;
-          room = omega arith;
-        }
+        })
 
-    pub noding-end : left ≤ 0 → (f ≡ over_nodes N k v no_nodes (used slots)) × (packed ≡ slots_packed slots) × Kept N o t [] o₀ t₀ (tree_from v 0 (used slots))
+    noding-gone : used (slots_in left (drop p X)) ≡ [] → NodingEnd N k v m f m₀ slots
     unfolding over_nodes
-    noding-end l =
-        let e = nothing_left X more p left (omega arith) in (
-          ap (over_nodes N k v f) (sym e.0) ∙ g.whole,
-          sym (and_right packed) ∙ ap (λ (z : Bool). packed && z) (sym e.1) ∙ g.zero,
-          kept-end N o t _ o₀ t₀ _ g.marks _ (ap (tree_from v f.run.blocks) e.0 ∙ sym (tree-none v f.run.blocks)) refl,
-        )
+    noding-gone e = (
+      ap (over_nodes N k v f) (sym e) ∙ g.whole,
+      kept-end N m _ m₀ _ g.marks _ (ap (tree_from v f.run.blocks) e ∙ sym (tree-none v f.run.blocks)) refl,
+    )
+
+    pub noding-out : (e : Extent) → 0 < left → e ≡ slot_in p X → e.count ≡ 0 → NodingEnd N k v m f m₀ slots
+    noding-out e l ie c = noding-gone (ap used (slots_next X p left e l ie) ∙ unused-none e (slots_in (left - 1) (drop (p + 4) X)) c)
+
+    pub noding-end : left ≤ 0 → NodingEnd N k v m f m₀ slots
+    unfolding slots_in
+    noding-end l = let z : left ≡ 0 = omega arith in noding-gone (rw z refl)

@@ -1,16 +1,12 @@
 -- The blocks that the walk over a file's tree marks.
-use Rattle.std.specs.Prelude.{ℕ, ◌-◌, Bool, cond, ◌&&◌, List, [], ◌++◌, map, eqb, take}
+use Rattle.std.specs.Prelude.{ℕ, ◌-◌, Bool, ◌&&◌, List, ◌++◌, map, eqb, take}
 use Rattle.spec.specs.declared.Extent.{Extent}
 use Rattle.spec.specs.Disk.{Disk}
-use Rattle.spec.specs.Inode.{used, below, blocks_in}
+use Rattle.spec.specs.Inode.{below, blocks_in}
 
 -- "the others are zero"
 abbrev pub is_unused : Extent → Bool
 is_unused e = eqb e.first 0 && eqb e.count 0
-
--- the used ones of some slots; none is used behind one that is not
-unfoldable pub used_from : Bool → List Extent → List Extent
-used_from more slots = cond more (used slots) []
 
 -- the blocks of extents that n blocks of their file come before: no file has more than 2,048
 unfoldable pub blocks_from : ℕ → List Extent → List ℕ

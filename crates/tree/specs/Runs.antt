@@ -47,5 +47,9 @@ unfoldable pub over_nodes : ℕ → ℕ → Disk → Nodes → List Extent → N
 over_nodes N k v f [] = f
 over_nodes N k v f (e ∷ es) = over_nodes N k v (with_node N k v f e) es
 
+-- no node, and these extents
+abbrev pub flat : Run → Nodes
+flat r = record { run = r; sound = true; agree = true; filled = true; full = true; tops = 0; counts = r.blocks }
+
 abbrev pub no_nodes : Nodes
 no_nodes = record { run = no_run; sound = true; agree = true; filled = true; full = true; tops = 0; counts = 0 }

@@ -2,10 +2,11 @@
 #![tactic(auto)]
 
 use spec::{DiskBlock, Limits, Session};
+use std::fmt::Display;
 use std::io;
 
 // A number behind a blank.
-pub fn number(rt: &impl Print, n: u64) -> io::Result<()> {
+pub fn number<D: Display + Drop>(rt: &impl Print, n: D) -> io::Result<()> {
     rt.write_all(b" ")?;
     rt.print(n)
 }

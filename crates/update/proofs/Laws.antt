@@ -1,6 +1,6 @@
 -- The cases of the calls that change files. Assumes nothing.
 use Prim.Native.Nat.{ℕ, ◌+◌, max}
-use mathlib.Core.Path.{◌≡◌, refl, sym, ap, ◌∙◌}
+use mathlib.Core.Path.{◌≡◌, refl, sym, ap, subst, ◌∙◌}
 use mathlib.Core.Bool.{not, ◌&&◌}
 use mathlib.Core.List.{List, []}
 use lib.ListN.{length}
@@ -15,10 +15,23 @@ use Rattle.spec.specs.Transaction.{BlockStore, state_of, view}
 use Rattle.spec.specs.Plan.{fits, creates, removes, renames, rewrites}
 use Rattle.spec.specs.Calls.{Outcome, outcome, settle, left, lent_ok, name_ok, file_ok, sized_ok, known, is_taken, empty_inode, is_ready, staging, rewrite, create, remove, rename, write, set_size}
 use Rattle.checks.specs.Checks.{names_ok}
-use Rattle.checks.specs.declared.Checked.{Checked}
-use Rattle.checks.specs.declared.Checked.TheVariants.{Fine, Bad}
+use Rattle.std.specs.Prelude.{Ok, Err}
+use Rattle.std.specs.Prelude.{Result as Returned}
+use Rattle.std.specs.Result.{IsErrAnd}
+use Rattle.alloc.specs.declared.Draft.{Draft}
 use Rattle.lookup.specs.Looks.{new_ok, unless_taken, rename_ok}
-use Rattle.alloc.specs.Draft.{resized_at, result_with}
+use Rattle.spec.specs.Disk.{Disk}
+use Rattle.runs.specs.declared.ExtentList.{ExtentList}
+use Rattle.alloc.specs.Draft.{resized_at, result_with, Drafted}
+
+-- an error passed on
+pub err-is : (t : Returned ℕ Refusal) (P : Refusal → Type 0) (e : Refusal) → IsErrAnd t P → ((r : Refusal) → P r → r ≡ e) → t ≡ Err e
+err-is (Ok n) P e h k = elim h [ ]
+err-is (Err r) P e h k = let z : r ≡ e = k r h in cc
+
+-- a plan of the working copy that a session sees, for the blocks of a size
+pub drafted-for : (u v : Disk) (i n size : ℕ) (table : List ℕ) (extents : ExtentList) (c : Returned Draft Refusal) → u ≡ v → n ≡ blocks_for size → Drafted u i n table extents c → Drafted v i (blocks_for size) table extents c
+drafted-for u v i n size table extents c e q d = subst (λ (w : Disk). Drafted w i (blocks_for size) table extents c) e (subst (λ (m : ℕ). Drafted u i m table extents c) q d)
 
 then-bind : {A B C : Type 0} (a : Result A) (b : Result B) (f : B → Result C) → (a >> b) >>= f ≡ a >> (b >>= f)
 then-bind (refuse r) b f = refl
@@ -115,15 +128,15 @@ module _ (s : Session) (d w : List ℕ) where
     unfolding set_size
     set-size-fine i size o e g = let h = e ∙ from_zero size in rw (← h) g
 
-  module _ (i size x : ℕ) (bytes : List ℕ) (c : Checked)
+  module _ (i size x : ℕ) (bytes : List ℕ) (c : Returned Draft Refusal)
       (e : fits (bits_of (view (state_of s d w) 33)) (data_of (view (state_of s d w)) (inode_at (view (state_of s d w)) i)) (levels_of (view (state_of s d w)) (inode_at (view (state_of s d w)) i)) (blocks_for size)
       ≡ result_with c (resized_at (view (state_of s d w)) i (blocks_for size))) where
-    pub rewrite-bad : (r : Refusal) → c ≡ Bad r → left s d w (refusal_of r) ≡ settle (outcome (state_of s d w)) (rewrite (state_of s d w) i size x bytes)
+    pub rewrite-bad : (r : Refusal) → c ≡ Err r → left s d w (refusal_of r) ≡ settle (outcome (state_of s d w)) (rewrite (state_of s d w) i size x bytes)
     unfolding rewrite
     rewrite-bad r h = rw (e, h)
 
-    pub rewrite-fine : (o : Outcome) (ws : List BlockStore) → c ≡ Fine
+    pub rewrite-fine : (o : Outcome) (ws : List BlockStore) (draft : Draft) → c ≡ Ok draft
         → rewrites (view (state_of s d w)) i (name_at (view (state_of s d w)) i) size x bytes (resized_at (view (state_of s d w)) i (blocks_for size)) ≡ ws
         → o ≡ settle (outcome (state_of s d w)) (staging (state_of s d w) ws) → o ≡ settle (outcome (state_of s d w)) (rewrite (state_of s d w) i size x bytes)
     unfolding rewrite
-    rewrite-fine o ws h f g = rw (e, h, f) g
+    rewrite-fine o ws draft h f g = rw (e, h, f) g

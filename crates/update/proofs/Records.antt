@@ -1,17 +1,21 @@
 -- Records as the changing calls make them. Assumes nothing.
-use Prim.Native.Nat.{ℕ, ◌+◌, ◌<◌, ◌≤◌, max}
-use mathlib.Core.Path.{◌≡◌, refl, sym, ap, ◌∙◌}
+use Prim.Native.Nat.{ℕ, ◌-◌, ◌<◌, ◌≤◌, max}
+use mathlib.Core.Path.{◌≡◌, refl, sym, ap, subst, ◌∙◌}
 use mathlib.Core.Bool.{Bool, true, false, true≢false}
 use mathlib.Core.List.{List, [], ◌++◌}
 use mathlib.Core.Option.{none}
 use native.Mathlib.Omega.{arith}
-use native.Mathlib.Numerals.{add-one}
-use lib.ListN.{length, take, drop, get_or, set, replicate, length-take, length-append}
-use lib.Seq.{paste, paste-suc, take_all, take_at, take-take}
+use lib.ListN.{length, take, drop, replicate, length-take, length-append}
+use lib.Seq.{take_at, take-take}
 use Rattle.spec.specs.Bytes.{exactly, part, same}
 use Rattle.spec.specs.Disk.{Disk}
 use Rattle.spec.specs.Inode.{Inode, inode_of, inode_at, name_at, inode_with, bytes_of_inode, inode_bytes, block_of_inode, place_of_inode, find}
 use Rattle.spec.specs.declared.Extent.{Extent}
+use Rattle.spec.specs.declared.Phase.{Phase}
+use Rattle.spec.specs.Transaction.{view, state_of}
+use Rattle.transaction.specs.Places.{session_of, view_in}
+use Rattle.transaction.proofs.Laws.{staged-parts, view_of}
+use Rattle.inode.proofs.Laws.{view-length}
 use Rattle.lists.specs.Lowest.{lowest-none}
 use Rattle.block.proofs.Laws.{same_self, same_true}
 use Rattle.inode.specs.Records.{record_in}
@@ -22,19 +26,9 @@ use Rattle.update.specs.Records.{new_record, Differs}
 
 -- ---- a new record, as the code fills it
 
--- the first k bytes of a name laid over zeros
-abbrev pub filled : List ℕ → ℕ → List ℕ
-filled name k = paste (replicate 32 0) 0 name k
-
-module _ (name : List ℕ) (l : length name ≡ 8) where
-  pub filled_more : (q : List ℕ) (k : ℕ) → q ≡ filled name k → k < 8 → set q k (get_or name k 0) ≡ filled name (k + 1)
-  filled_more q k e h =
-      let z : 0 + k ≡ k = omega arith in
-      rw (add-one k, e) (ap (λ (n : ℕ). set (filled name k) n (get_or name k 0)) (sym z) ∙ paste-suc (replicate 32 0) 0 name k 0 (omega arith) (omega arith))
-
-  pub filled-all : (q : List ℕ) (k : ℕ) → q ≡ filled name k → k ≡ 8 → q ≡ new_record name
-  unfolding new_record
-  filled-all q k e h = e ∙ ap (filled name) h ∙ ap (λ (xs : List ℕ). xs ++ replicate 24 0) (take_all 8 name (omega arith))
+pub name-laid : (name q : List ℕ) → length name ≡ 8 → q ≡ name → q ++ drop (8 - 0) (replicate 32 0) ≡ new_record name
+unfolding new_record
+name-laid name q l e = rw e refl
 
 -- that of the specification
 pub new-record : (name : List ℕ) → new_record name ≡ bytes_of_inode (inode_with name 0 [] [])
@@ -66,9 +60,9 @@ module _ (v : Disk) (i : ℕ) where
     long : 8 ≤ length bytes
     long = omega (arith, ap length t, length-take 8 bytes, l)
 
-    name-laid : part at 8 (with_record i bytes (v (block_of_inode i))) ≡ name
+    laid-name : part at 8 (with_record i bytes (v (block_of_inode i))) ≡ name
     unfolding with_record
-    name-laid =
+    laid-name =
         sym (take-take 8 (length bytes) (drop at (with_record i bytes (v (block_of_inode i)))) long)
         ∙ ap (take 8) (laid-back at bytes (v (block_of_inode i)) (omega (arith, few, k)))
         ∙ t
@@ -84,8 +78,17 @@ module _ (v : Disk) (i : ℕ) where
         go : (r : Bool) → same (with_record i bytes (v (block_of_inode i))) (v (block_of_inode i)) ≡ r → r ≡ false
         go false e = refl
         go true e =
-            let q : name ≡ name_at v i = sym name-laid ∙ ap (part at 8) (same_true (with_record i bytes (v (block_of_inode i))) (v (block_of_inode i)) e) ∙ name-was in
+            let q : name ≡ name_at v i = sym laid-name ∙ ap (part at 8) (same_true (with_record i bytes (v (block_of_inode i))) (v (block_of_inode i)) e) ∙ name-was in
             absurd (true≢false (sym (ap (same (name_at v i)) q ∙ same_self (name_at v i)) ∙ h))
+
+-- a record that gets a name which no file has differs from what it was, in any session with these cells
+pub named-anew : (cells : List ℕ) (many blocks : ℕ) (phase : Phase) (device work : List ℕ) (i : ℕ) (name bytes : List ℕ) → length bytes ≤ 32 → length name ≡ 8 → take 8 bytes ≡ name
+    → find (view (state_of (session_of blocks phase cells many) device work)) name ≡ none → i < 128 → Differs (view_in (take many cells) device work) i bytes
+named-anew cells many blocks phase device work i name bytes few l t free low =
+    let s = session_of blocks phase cells many in
+    let v = view (state_of s device work) in
+    subst (λ (v : Disk). Differs v i bytes) (sym (view_of s device work (take many cells) (staged-parts cells many blocks phase)))
+    (differs v i name bytes (view-length s device work _) few l t (free-name v i name free low))
 
 -- name and size as the record of the working copy tells them
 module _ (v : Disk) (i : ℕ) (block : List ℕ) where

@@ -19,10 +19,12 @@ use Rattle.lists.specs.Extents.{runs-blocks}
 use Rattle.runs.specs.Tree.{Tree}
 use Rattle.runs.specs.Runs.{listed, nodes_in, levels_in}
 use Rattle.spec.specs.Answers.{accept}
-use Rattle.checks.specs.declared.Checked.{Checked}
-use Rattle.checks.specs.declared.Checked.TheVariants.{Fine, Bad}
+use Rattle.std.specs.Prelude.{Ok, Err}
+use Rattle.std.specs.Prelude.{Result as Returned}
+use Rattle.spec.specs.declared.Refusal.{Refusal}
+use Rattle.runs.specs.declared.ExtentList.{ExtentList}
 use Rattle.alloc.specs.declared.Draft.{Draft}
-use Rattle.alloc.specs.Draft.{resized_at, table_of, Built, result_with, tree_in, Drafted}
+use Rattle.alloc.specs.Draft.{resized_at, table_of, Built, result_with, Drafted}
 use Rattle.change.specs.Change.{Change}
 use Rattle.content.specs.Content.{with_record}
 use Rattle.change.specs.Change.{change_stores}
@@ -75,13 +77,13 @@ emptied-accepts bits held levels =
     let z : 0 - length held ≡ 0 = omega arith in
     rw (z, le-leb 0 (free_bits bits) (omega arith))
 
-accept-fine : (c : Checked) (t u : plan.Tree) → accept u ≡ result_with c t → c ≡ Fine
-accept-fine Fine t u e = refl
-accept-fine (Bad r) t u e = cc
+never-refused : (c : Returned Draft Refusal) (t u : plan.Tree) (r : Refusal) → accept u ≡ result_with c t → c ≡ Err r → ⊥
+never-refused (Ok d) t u r e q = cc
+never-refused (Err z) t u r e q = cc
 
-pub emptied-fits : (v : Disk) (i : ℕ) (table first count : List ℕ) (d : Draft) → Drafted v i 0 table first count d → Built v i 0 (tree_in table first count d)
-emptied-fits v i table first count d h =
-    h.tree (accept-fine d.verdict _ _ (sym (emptied-accepts (bits_of (v 33)) (data_of v (inode_at v i)) (levels_of v (inode_at v i))) ∙ h.verdict))
+pub emptied-fits : (v : Disk) (i : ℕ) (table : List ℕ) (extents : ExtentList) (c : Returned Draft Refusal) (r : Refusal) → Drafted v i 0 table extents c → c ≡ Err r → ⊥
+emptied-fits v i table extents c r h e =
+    never-refused c _ _ r (sym (emptied-accepts (bits_of (v 33)) (data_of v (inode_at v i)) (levels_of v (inode_at v i))) ∙ h.verdict) e
 
 -- the levels of a tree as code holds it: none, or one
 one-level : (v : Disk) (held : List (List ℕ)) (t : Tree) (es : List Extent) → level_edits v held (levels_in t) es ≡ node_edits v (length (lowest_level held)) (nodes_in t) es

@@ -5,8 +5,6 @@ use Rattle.spec.specs.Bytes.{same}
 use Rattle.spec.specs.Inode.{block_of_inode}
 use Rattle.content.specs.Content.{with_record}
 use Rattle.spec.specs.Transaction.{BlockStore}
-use Rattle.alloc.specs.declared.Draft.{Draft}
-use Rattle.change.specs.declared.Outline.{Outline}
 use Rattle.spec.specs.Plan.{if_changed, stores_of, inode_edit}
 
 -- the record of a new file: its name, then zeros
@@ -20,7 +18,3 @@ Differs v i bytes = same (with_record i bytes (v (block_of_inode i))) (v (block_
 -- what a change of record i alone stages
 unfoldable pub record_stores : Disk → ℕ → List ℕ → List BlockStore
 record_stores v i bytes = stores_of v (if_changed v (inode_edit i bytes))
-
--- a draft as the change of a file: with the bytes of its record, and its size before and after
-abbrev pub outline_of : Draft → List ℕ → ℕ → ℕ → Outline
-outline_of d bytes old size = record { end = d.end; node = d.node; nodes = d.nodes; before = d.before; held = d.held; bytes = bytes; old = old; size = size }

@@ -1,24 +1,28 @@
 // The public calls that change files: tests in the order of the numbers, the plan, then one call below.
 #![tactic(auto)]
 
-ghost use Rattle.std.specs.Prelude.{◌≡◌, ℕ, ◌+◌, ◌<◌, ◌≤◌, max, length, take};
+ghost use Rattle.std.specs.Prelude.{◌≡◌, ℕ, ◌+◌, ◌<◌, ◌≤◌, length, take};
 ghost use Rattle.spec.specs.declared.Phase.{Phase};
-ghost use Rattle.spec.specs.Inode.{blocks_for};
 ghost use Rattle.spec.specs.Answers.{done_of};
 ghost use Rattle.spec.specs.Transaction.{state_of, view};
 ghost use Rattle.spec.specs.Calls.{left, outcome, settle, staging, rewrite, create, remove, rename, write, set_size};
 ghost use Rattle.transaction.specs.Places.{session_of, view_in};
-ghost use Rattle.update.specs.Records.{Differs, new_record, record_stores, outline_of};
+ghost use Rattle.checks.specs.Checks.{in_use, changed_of};
+ghost use Rattle.update.specs.Records.{Differs, new_record, record_stores};
 
-use alloc::{Draft, draft_of};
+use alloc::draft_of;
 use block::copy_of;
-use change::{Outline, apply, stage_record};
-use checks::{Changed, Checked, done_with, finished, refused_with};
-use content::record_bytes;
-use inode::{inode_block_in, name_of, size_of, table_block};
-use lookup::{Looked, look_up, look_up_new, look_up_pair, look_up_sized};
-use spec::{ByteOffset, DiskBlock, Finished, Limits, Phase, Refusal, Session};
-use transaction::{spot, staged_in, view_in};
+use change::{Plan, apply, stage_record};
+use checks::finished;
+use content::{Rewrite, record_bytes};
+use inode::{blocks_for, inode_block, name_of, size_of, table_block};
+use lookup::{look_up, look_up_new, look_up_pair, look_up_sized};
+use runs::ExtentList;
+use spec::{Answered, ByteOffset, DiskBlock, Limits, Phase, Refusal, Session};
+use transaction::{Volume, WorkingCopy, spot, staged_in};
+
+// Each public call stands in two forms: of a session in its parts, so that the C interface lends the caller's cells and copies none, and by value, which
+// calls the first.
 
 // The first bytes of record i changed to others than they were, and nothing else: 18. Of every session with these cells.
 fn change_record(
@@ -28,21 +32,19 @@ fn change_record(
     many: usize,
     i: usize,
     bytes: &[u8],
-) -> Changed
+) -> Result<usize, Refusal>
     requires { (i < 128) × (length work.old ≡ 16384) × (length cells.old ≡ 32) × (length bytes.now ≤ 32)
         × Differs (view_in (take many cells.old) device.now work.old) i bytes.now }
-    ensures { (N : ℕ) (p : Phase) → left (session_of N p cells.new result.count) device.now work.new (done_of result.answer)
+    ensures { (N : ℕ) (p : Phase) → left (session_of N p cells.new (in_use many result)) device.now work.new (changed_of result)
         ≡ settle (outcome (state_of (session_of N p cells.old many) device.now work.old))
         (staging (state_of (session_of N p cells.old many) device.now work.old)
         (record_stores (view (state_of (session_of N p cells.old many) device.now work.old)) i bytes.now)) }
 {
-    let l: &[u32] = cells;
-    let staged = &l[0..staged_in(many)];
-    let k = spot(staged, table_block(i));
+    let k = spot(&cells[0..staged_in(many)], table_block(i));
     if Limits::LOG_LENGTH <= k {
-        return refused_with(many, Refusal::TooManyStaged);
+        return Err(Refusal::TooManyStaged);
     }
-    done_with(stage_record(device, work, cells, many, i, k, bytes))
+    Ok(stage_record(device, work, cells, many, i, k, bytes))
 }
 
 // The record of a new file: its name, then zeros.
@@ -51,11 +53,7 @@ fn new_record(name: &[u8]) -> [u8; Limits::INODE_SIZE]
     ensures { result ≡ new_record name.now }
 {
     let mut q = [0u8; Limits::INODE_SIZE];
-    let mut k: usize = 0;
-    while k < 8 {
-        q[k] = name[k];
-        k += 1;
-    }
+    q[..Limits::NAME_SIZE].copy_from_slice(name);
     q
 }
 
@@ -68,30 +66,29 @@ pub fn create_in(
     cells: &mut [u32; Limits::LOG_LENGTH],
     many: usize,
     name: &[u8],
-) -> Changed
-    ensures { left (session_of blocks phase cells.new result.count) device.now work.new (done_of result.answer)
+) -> Result<usize, Refusal>
+    ensures { left (session_of blocks phase cells.new (in_use many result)) device.now work.new (changed_of result)
         ≡ create (state_of (session_of blocks phase cells.old many) device.now work.old) name.now }
 {
-    let l: &[u32] = cells;
-    let staged = &l[0..staged_in(many)];
-    match look_up_new(device, work, blocks, phase, staged, name) {
-        Looked::Bad(why) => refused_with(many, why),
-        Looked::At(i) => {
-            let record = new_record(name);
-            change_record(device, work, cells, many, i, &record)
-        }
-    }
+    let volume = Volume::with_cells(device, work, blocks, phase, cells, many);
+    let i = look_up_new(&volume, name)?;
+    let record = new_record(name);
+    change_record(device, work, cells, many, i, &record)
 }
 
-pub fn create(device: &[u8], work: &mut [u8], session: Session, name: &[u8]) -> Finished
+// The same of a session by value.
+pub fn create(device: &[u8], work: &mut [u8], session: Session, name: &[u8]) -> Answered<()>
     ensures { left result.session device.now work.new (done_of result.answer)
         ≡ create (state_of session device.now work.old) name.now }
 {
-    let blocks = session.blocks;
-    let phase = session.phase;
-    let mut cells = session.staged;
-    let c = create_in(device, work, blocks, phase, &mut cells, session.count, name);
-    finished(blocks, phase, cells, c)
+    let Session {
+        blocks,
+        phase,
+        staged: mut cells,
+        count,
+    } = session;
+    let c = create_in(device, work, blocks, phase, &mut cells, count, name);
+    finished(blocks, phase, cells, count, c)
 }
 
 // "Rename keeps the record in its place."
@@ -104,54 +101,34 @@ pub fn rename_in(
     many: usize,
     name: &[u8],
     new: &[u8],
-) -> Changed
-    ensures { left (session_of blocks phase cells.new result.count) device.now work.new (done_of result.answer)
+) -> Result<usize, Refusal>
+    ensures { left (session_of blocks phase cells.new (in_use many result)) device.now work.new (changed_of result)
         ≡ rename (state_of (session_of blocks phase cells.old many) device.now work.old) name.now new.now }
 {
-    let l: &[u32] = cells;
-    let staged = &l[0..staged_in(many)];
-    match look_up_pair(device, work, blocks, phase, staged, name, new) {
-        Looked::Bad(why) => refused_with(many, why),
-        Looked::At(i) => change_record(device, work, cells, many, i, new),
-    }
+    let volume = Volume::with_cells(device, work, blocks, phase, cells, many);
+    let i = look_up_pair(&volume, name, new)?;
+    change_record(device, work, cells, many, i, new)
 }
 
-pub fn rename(device: &[u8], work: &mut [u8], session: Session, name: &[u8], new: &[u8]) -> Finished
+// The same of a session by value.
+pub fn rename(
+    device: &[u8],
+    work: &mut [u8],
+    session: Session,
+    name: &[u8],
+    new: &[u8],
+) -> Answered<()>
     ensures { left result.session device.now work.new (done_of result.answer)
         ≡ rename (state_of session device.now work.old) name.now new.now }
 {
-    let blocks = session.blocks;
-    let phase = session.phase;
-    let mut cells = session.staged;
-    let c = rename_in(
-        device,
-        work,
+    let Session {
         blocks,
         phase,
-        &mut cells,
-        session.count,
-        name,
-        new,
-    );
-    finished(blocks, phase, cells, c)
-}
-
-// A draft as the change of a file: with the bytes of its record, and its size before and after.
-fn outline_of(d: Draft, bytes: [u8; Limits::INODE_SIZE], old: usize, size: usize) -> Outline
-    ensures { result ≡ outline_of d bytes old size }
-{
-    let end = d.end;
-    let node = d.node;
-    Outline {
-        end: end,
-        node: node,
-        nodes: d.nodes,
-        before: d.before,
-        held: d.held,
-        bytes: bytes,
-        old: old,
-        size: size,
-    }
+        staged: mut cells,
+        count,
+    } = session;
+    let c = rename_in(device, work, blocks, phase, &mut cells, count, name, new);
+    finished(blocks, phase, cells, count, c)
 }
 
 // "Remove .. give back every data and extent block": the record is emptied.
@@ -163,53 +140,46 @@ pub fn remove_in(
     cells: &mut [u32; Limits::LOG_LENGTH],
     many: usize,
     name: &[u8],
-) -> Changed
-    ensures { left (session_of blocks phase cells.new result.count) device.now work.new (done_of result.answer)
+) -> Result<usize, Refusal>
+    ensures { left (session_of blocks phase cells.new (in_use many result)) device.now work.new (changed_of result)
         ≡ remove (state_of (session_of blocks phase cells.old many) device.now work.old) name.now }
 {
-    let l: &[u32] = cells;
-    let staged = &l[0..staged_in(many)];
-    match look_up(device, work, blocks, phase, staged, name) {
-        Looked::Bad(why) => refused_with(many, why),
-        Looked::At(i) => {
-            let mut t = copy_of(view_in(device, work, staged, DiskBlock(Limits::BITMAP_BLOCK)));
-            let mut first = [0u32; Limits::MAX_EXTENTS];
-            let mut count = [0u32; Limits::MAX_EXTENTS];
-            let wanted: usize = 0;
-            let d = draft_of(
-                &mut t, &mut first, &mut count, device, work, staged, i, wanted,
-            );
-            let o = outline_of(d, [0u8; Limits::INODE_SIZE], 0, 0);
-            let none = &name[0..0];
-            let x = ByteOffset(0);
-            apply(device, work, cells, many, i, &t, &first, &count, o, x, none)
-        }
-    }
+    let volume = Volume::with_cells(device, work, blocks, phase, cells, many);
+    let i = look_up(&volume, name)?;
+    let mut table = copy_of(volume.copy.block(DiskBlock(Limits::BITMAP_BLOCK)));
+    let mut extents = ExtentList::empty();
+    let d = draft_of(&mut table, &mut extents, &volume.copy, i, 0)?;
+    let data = Rewrite {
+        held: d.held,
+        old: 0,
+        size: 0,
+        x: ByteOffset(0),
+        bytes: &name[0..0],
+    };
+    let plan = Plan {
+        table: &table,
+        extents: &extents,
+        nodes: d.nodes,
+        before: d.before,
+        inode: [0u8; Limits::INODE_SIZE],
+        data,
+    };
+    apply(device, work, cells, many, i, &plan)
 }
 
-pub fn remove(device: &[u8], work: &mut [u8], session: Session, name: &[u8]) -> Finished
+// The same of a session by value.
+pub fn remove(device: &[u8], work: &mut [u8], session: Session, name: &[u8]) -> Answered<()>
     ensures { left result.session device.now work.new (done_of result.answer)
         ≡ remove (state_of session device.now work.old) name.now }
 {
-    let blocks = session.blocks;
-    let phase = session.phase;
-    let mut cells = session.staged;
-    let c = remove_in(device, work, blocks, phase, &mut cells, session.count, name);
-    finished(blocks, phase, cells, c)
-}
-
-// "A file of size s has s/512 blocks, rounded up."
-fn blocks_for(size: usize) -> usize
-    requires { size < 4294967296 }
-    ensures { (result ≡ blocks_for size) × (result ≤ 8388608) }
-{
-    (size + (Limits::BLOCK_SIZE - 1)) / Limits::BLOCK_SIZE
-}
-
-fn wide(n: u32) -> usize
-    ensures { (result ≡ n) × (result < 4294967296) }
-{
-    n as usize
+    let Session {
+        blocks,
+        phase,
+        staged: mut cells,
+        count,
+    } = session;
+    let c = remove_in(device, work, blocks, phase, &mut cells, count, name);
+    finished(blocks, phase, cells, count, c)
 }
 
 // 16, 17 and 18: record i becomes a file of this size, with bytes laid over it at x. Of every session with these cells.
@@ -222,47 +192,40 @@ fn resize(
     size: usize,
     x: ByteOffset,
     bytes: &[u8],
-) -> Changed
+) -> Result<usize, Refusal>
     requires { (i < 128) × (length work.old ≡ 16384) × (length cells.old ≡ 32) × (x.0 + length bytes.now ≤ 1048576) × (size < 4294967296) }
-    ensures { (N : ℕ) (p : Phase) → left (session_of N p cells.new result.count) device.now work.new (done_of result.answer)
+    ensures { (N : ℕ) (p : Phase) → left (session_of N p cells.new (in_use many result)) device.now work.new (changed_of result)
         ≡ settle (outcome (state_of (session_of N p cells.old many) device.now work.old)) (rewrite (state_of (session_of N p cells.old many) device.now work.old) i size x.0 bytes.now) }
 {
-    let l: &[u32] = cells;
-    let staged = &l[0..staged_in(many)];
-    let mut t = copy_of(view_in(device, work, staged, DiskBlock(Limits::BITMAP_BLOCK)));
-    let mut first = [0u32; Limits::MAX_EXTENTS];
-    let mut count = [0u32; Limits::MAX_EXTENTS];
+    let n = staged_in(many);
+    let copy = WorkingCopy {
+        device,
+        work: &*work,
+        staged: &cells[0..n],
+    };
+    let mut table = copy_of(copy.block(DiskBlock(Limits::BITMAP_BLOCK)));
+    let mut extents = ExtentList::empty();
     let wanted = blocks_for(size);
-    let d = draft_of(
-        &mut t, &mut first, &mut count, device, work, staged, i, wanted,
-    );
-    let verdict = d.verdict;
-    match verdict {
-        Checked::Bad(why) => refused_with(many, why),
-        Checked::Fine => {
-            let records = inode_block_in(device, work, staged, i);
-            let old = wide(size_of(records, i));
-            let name = name_of(records, i);
-            let node = d.node;
-            let record = record_bytes(name, size, &first, &count, d.end, node, d.nodes);
-            let o = outline_of(d, record, old, size);
-            apply(
-                device, work, cells, many, i, &t, &first, &count, o, x, bytes,
-            )
-        }
-    }
-}
-
-// The larger of a file's size and an end.
-fn larger(size: u32, end: ByteOffset) -> usize
-    requires { end.0 ≤ 1048576 }
-    ensures { (result ≡ max size end.0) × (result < 4294967296) }
-{
-    let n = wide(size);
-    if n < end.0 {
-        return end.0;
-    }
-    n
+    let d = draft_of(&mut table, &mut extents, &copy, i, wanted)?;
+    let records = inode_block(&copy, i);
+    let old = size_of(records, i) as usize;
+    let inode = record_bytes(name_of(records, i), size, &extents, d.nodes);
+    let data = Rewrite {
+        held: d.held,
+        old,
+        size,
+        x,
+        bytes,
+    };
+    let plan = Plan {
+        table: &table,
+        extents: &extents,
+        nodes: d.nodes,
+        before: d.before,
+        inode,
+        data,
+    };
+    apply(device, work, cells, many, i, &plan)
 }
 
 // "the size becomes the larger of the old size and x plus the data length, a gap is zeros"
@@ -276,23 +239,19 @@ pub fn write_in(
     name: &[u8],
     x: ByteOffset,
     bytes: &[u8],
-) -> Changed
-    ensures { left (session_of blocks phase cells.new result.count) device.now work.new (done_of result.answer)
+) -> Result<usize, Refusal>
+    ensures { left (session_of blocks phase cells.new (in_use many result)) device.now work.new (changed_of result)
         ≡ write (state_of (session_of blocks phase cells.old many) device.now work.old) name.now x.0 bytes.now }
 {
-    let l: &[u32] = cells;
-    let staged = &l[0..staged_in(many)];
+    let volume = Volume::with_cells(device, work, blocks, phase, cells, many);
     let n = bytes.len();
-    match look_up_sized(device, work, blocks, phase, staged, name, x, n) {
-        Looked::Bad(why) => refused_with(many, why),
-        Looked::At(i) => {
-            let old = size_of(inode_block_in(device, work, staged, i), i);
-            let size = larger(old, ByteOffset(x.0 + n));
-            resize(device, work, cells, many, i, size, x, bytes)
-        }
-    }
+    let i = look_up_sized(&volume, name, x, n)?;
+    let old = size_of(inode_block(&volume.copy, i), i) as usize;
+    let size = old.max(x.0 + n);
+    resize(device, work, cells, many, i, size, x, bytes)
 }
 
+// The same of a session by value.
 pub fn write(
     device: &[u8],
     work: &mut [u8],
@@ -300,25 +259,20 @@ pub fn write(
     name: &[u8],
     x: ByteOffset,
     bytes: &[u8],
-) -> Finished
+) -> Answered<()>
     ensures { left result.session device.now work.new (done_of result.answer)
         ≡ write (state_of session device.now work.old) name.now x.0 bytes.now }
 {
-    let blocks = session.blocks;
-    let phase = session.phase;
-    let mut cells = session.staged;
-    let c = write_in(
-        device,
-        work,
+    let Session {
         blocks,
         phase,
-        &mut cells,
-        session.count,
-        name,
-        x,
-        bytes,
+        staged: mut cells,
+        count,
+    } = session;
+    let c = write_in(
+        device, work, blocks, phase, &mut cells, count, name, x, bytes,
     );
-    finished(blocks, phase, cells, c)
+    finished(blocks, phase, cells, count, c)
 }
 
 // Cut, or lengthened by zeros.
@@ -331,41 +285,33 @@ pub fn set_size_in(
     many: usize,
     name: &[u8],
     size: usize,
-) -> Changed
-    ensures { left (session_of blocks phase cells.new result.count) device.now work.new (done_of result.answer)
+) -> Result<usize, Refusal>
+    ensures { left (session_of blocks phase cells.new (in_use many result)) device.now work.new (changed_of result)
         ≡ set_size (state_of (session_of blocks phase cells.old many) device.now work.old) name.now size }
 {
-    let l: &[u32] = cells;
-    let staged = &l[0..staged_in(many)];
+    let volume = Volume::with_cells(device, work, blocks, phase, cells, many);
     let x = ByteOffset(0);
-    match look_up_sized(device, work, blocks, phase, staged, name, x, size) {
-        Looked::Bad(why) => refused_with(many, why),
-        Looked::At(i) => resize(device, work, cells, many, i, size, x, &name[0..0]),
-    }
+    let i = look_up_sized(&volume, name, x, size)?;
+    resize(device, work, cells, many, i, size, x, &name[0..0])
 }
 
+// The same of a session by value.
 pub fn set_size(
     device: &[u8],
     work: &mut [u8],
     session: Session,
     name: &[u8],
     size: usize,
-) -> Finished
+) -> Answered<()>
     ensures { left result.session device.now work.new (done_of result.answer)
         ≡ set_size (state_of session device.now work.old) name.now size }
 {
-    let blocks = session.blocks;
-    let phase = session.phase;
-    let mut cells = session.staged;
-    let c = set_size_in(
-        device,
-        work,
+    let Session {
         blocks,
         phase,
-        &mut cells,
-        session.count,
-        name,
-        size,
-    );
-    finished(blocks, phase, cells, c)
+        staged: mut cells,
+        count,
+    } = session;
+    let c = set_size_in(device, work, blocks, phase, &mut cells, count, name, size);
+    finished(blocks, phase, cells, count, c)
 }

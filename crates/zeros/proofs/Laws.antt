@@ -1,30 +1,20 @@
 -- Bytes tested one at a time. Assumes nothing.
-use Prim.Native.Nat.{ℕ, zero, suc, ◌+◌, ◌<◌, ◌≤◌}
-use mathlib.Core.Path.{◌≡◌, refl, sym, ◌∙◌}
-use mathlib.Core.Bool.{Bool, true, false, ◌&&◌}
+use Prim.Native.Nat.{ℕ, zero, suc, ◌+◌, ◌<◌}
+use mathlib.Core.Path.{◌≡◌, refl, sym, ap}
+use mathlib.Core.Bool.{Bool, true, ◌&&◌, and-true}
 use mathlib.Core.List.{List, [], ◌∷◌}
 use native.Mathlib.Numerals.{add-one}
 use borrow.Author.Tests.{eqb-true}
 use lib.Dec.{eqb}
-use lib.ListN.{length, take, drop, get_or, drop_of_length-le}
-use lib.Seq.{drop-cons}
+use lib.ListN.{length, take, drop, get_or}
+use lib.Seq.{take-suc}
+use Rattle.lists.specs.Places.{all_append}
 use Rattle.spec.specs.Bytes.{all, all_zero}
 use Rattle.lists.specs.Tests.{both_true, and_both}
 
-module _ (xs : List ℕ) (k : ℕ) (z : Bool) (e : all_zero xs ≡ z && all_zero (drop k xs)) where
-  pub zero_more : k < length xs → all_zero xs ≡ (z && eqb (get_or xs k 0) 0) && all_zero (drop (k + 1) xs)
-  zero_more h = e ∙ rw (drop-cons xs k 0 h, add-one k) (sym (and_assoc z (eqb (get_or xs k 0) 0) _))
-    where
-      and_assoc : (a b c : Bool) → (a && b) && c ≡ a && (b && c)
-      and_assoc true b c = refl
-      and_assoc false b c = refl
-
-  pub zero-all : length xs ≤ k → z ≡ all_zero xs
-  zero-all h = sym (e ∙ rw (drop_of_length-le xs h) (and_right z))
-    where
-      and_right : (a : Bool) → a && true ≡ a
-      and_right true = refl
-      and_right false = refl
+-- one byte more
+pub zero_more : (xs : List ℕ) (k : ℕ) → k < length xs → all_zero (take k xs) && eqb (get_or xs k 0) 0 ≡ all_zero (take (k + 1) xs)
+zero_more xs k h = sym (rw (add-one k, take-suc xs k 0 h, all_append (λ x. eqb x 0) (take k xs) (get_or xs k 0 ∷ [])) (ap (λ t. all_zero (take k xs) && t) (and-true (eqb (get_or xs k 0) 0))))
 
 -- ---- bytes that are all zero
 

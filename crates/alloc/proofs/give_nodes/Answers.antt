@@ -1,22 +1,17 @@
-use borrow.Author.Rules.{rules}
 use mathlib.Core.Path.{◌≡◌, refl}
 use native.Mathlib.Omega.{arith}
+use borrow.Author.Rules.{rules}
 use lib.ListN.{length}
 use Rattle.alloc.proofs.Laws.{leave-more, leave-end}
-use mathlib.Core.Path.{refl}
 use Rattle.alloc.proofs.give_nodes.Goals as goal
 
 pub loop-k-init : goal.loop-k-init
 loop-k-init c = record { low = omega arith; bits = refl }
 
-pub bounds-node-k : goal.bounds-node-k
-bounds-node-k c = omega (arith, c.loop-k-test.true, c.requires)
-
 pub loop-k-preserved : goal.loop-k-preserved
 loop-k-preserved c =
-    let a = c in
-    let l : length a.args.held.node ≡ 4 = search rules in
-    leave-more _ _ _ _ _ _ c.loop-k.invariant a.requires l c.loop-k-test.true _ c.release.ensures
+    let l : length c.args.held.node ≡ 4 = search rules in
+    leave-more _ _ _ _ _ _ c.loop-k.invariant c.requires l c.loop-k-test.true _ c.release.ensures
 
 pub returns : goal.returns
 returns c = leave-end _ _ _ _ _ _ c.loop-k.invariant c.loop-k-test.false

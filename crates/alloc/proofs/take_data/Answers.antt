@@ -8,25 +8,20 @@ pub loop-k-init : goal.loop-k-init
 loop-k-init c = take-start _ _ _
 
 pub pick-b-requires : goal.pick-b-requires
-pick-b-requires c =
-    let z = c in
-    (c.loop-k.invariant.below, omega (arith, c.loop-k.invariant.free, c.loop-k-test.true, z.requires.2))
+pick-b-requires c = (c.loop-k.invariant.below, omega (arith, c.loop-k.invariant.free, c.loop-k-test.true, c.requires.2))
 
-pub push-more-requires : goal.push-more-requires
-push-more-requires c =
-    let z = c in
+pub push-requires : goal.push-requires
+push-requires c =
     let l = c.loop-k in
-    let s = l.invariant.small z.args.kept.count z.requires.0 in
+    let s = l.invariant.small c.args.kept c.requires.0 in
     let w = l.invariant.within in
-    (omega (arith, s.count (l.end.len - 1), w, z.requires), omega (arith, s.len, w, z.requires), omega (arith, s.next, w, z.requires), s.firsts, s.counts)
+    (omega (arith, s.count (l.extents.len - 1), w, c.requires), omega (arith, s.len, w, c.requires), omega (arith, s.next, w, c.requires))
 
 pub loop-k-preserved : goal.loop-k-preserved
-loop-k-preserved c =
-    take_more _ _ _ _ _ _ _ c.loop-k.invariant c.loop-k-test.true _ _ _ c.pick-b.ensures c.push-more.ensures
+loop-k-preserved c = take_more _ _ _ _ _ _ _ c.loop-k.invariant c.loop-k-test.true _ _ _ c.pick-b.ensures c.push.ensures
 
 pub returns : goal.returns
 returns c =
-    let lp = c.loop-k in
-    let a = c in
-    let e : lp.k ≡ a.args.n = omega (arith, c.loop-k-test.false, lp.invariant.within) in
-    rw (← e) (record { bits = lp.invariant.bits; free = lp.invariant.free; holds = lp.invariant.holds; small = lp.invariant.small a.args.kept.count a.requires.0 })
+    let i = c.loop-k.invariant in
+    let e : c.loop-k._k ≡ c.args.n = omega (arith, c.loop-k-test.false, i.within) in
+    rw (← e) (record { bits = i.bits; free = i.free; holds = i.holds; small = i.small c.args.kept c.requires.0 })

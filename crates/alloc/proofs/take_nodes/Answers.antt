@@ -7,14 +7,14 @@ use Rattle.alloc.proofs.take_nodes.Goals as goal
 pub loop-k-init : goal.loop-k-init
 loop-k-init c = fill_start _ _ _ _ (search rules)
 
-pub pick-b-requires : goal.pick-b-requires
-pick-b-requires c = (refl, fill-room _ _ _ _ _ _ _ c.loop-k.invariant c.loop-k-test.true c.requires.2)
+pub pick-requires : goal.pick-requires
+pick-requires c = (refl, fill-room _ _ _ _ _ _ _ c.loop-k.invariant c.loop-k-test.true c.requires.2)
 
 pub bounds-node-k : goal.bounds-node-k
 bounds-node-k c = omega (arith, c.loop-k-test.true, c.requires.0, c.loop-k.invariant.full)
 
 pub loop-k-preserved : goal.loop-k-preserved
-loop-k-preserved c = fill_more _ _ _ _ _ _ _ c.loop-k.invariant c.loop-k-test.true c.requires.0 _ _ c.pick-b.ensures
+loop-k-preserved c = fill_more _ _ _ _ _ _ _ c.loop-k.invariant c.loop-k-test.true c.requires.0 _ _ c.pick.ensures
 
 pub returns : goal.returns
 returns c = fill_end _ _ _ _ _ _ _ c.loop-k.invariant c.loop-k-test.false _ refl refl

@@ -1,4 +1,4 @@
-use Prim.Native.Nat.{◌*◌, ◌-◌}
+use Prim.Native.Nat.{◌*◌}
 use mathlib.Core.Path.{◌≡◌}
 use lib.ListN.{take}
 use Rattle.spec.specs.Bitmap.{bits_of, free_bits}
@@ -6,6 +6,3 @@ use Rattle.bitmap.proofs.lowest_free_from.Given as goal
 
 abbrev pub invariant-loop-at : goal.invariant-loop-at
 invariant-loop-at l = free_bits (take (64 * l.at) (bits_of l.t)) ≡ 0
-
-abbrev pub decreases-loop-at : goal.decreases-loop-at
-decreases-loop-at l = 64 - l.at

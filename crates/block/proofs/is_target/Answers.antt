@@ -1,17 +1,10 @@
-use Rattle.block.proofs.Steps.{target-by}
+use mathlib.Core.Path.{ap}
+use mathlib.Core.Bool.{◌&&◌}
+use lib.Dec.{ltb}
+use Rattle.spec.specs.Disk.{is_target}
+use Rattle.block.proofs.Steps.{target-area}
 use Rattle.block.proofs.is_target.Goals as goal
 
-pub returns-in-Header : goal.returns-in-Header
-returns-in-Header c = target-by _ _ _ _ c.area_of.ensures c.in-Header.is
-
-pub returns-in-Log : goal.returns-in-Log
-returns-in-Log c = target-by _ _ _ _ c.area_of.ensures c.in-Log.is
-
-pub returns-in-Bitmap : goal.returns-in-Bitmap
-returns-in-Bitmap c = target-by _ _ _ _ c.area_of.ensures c.in-Bitmap.is
-
-pub returns-in-Inodes : goal.returns-in-Inodes
-returns-in-Inodes c = target-by _ _ _ _ c.area_of.ensures c.in-Inodes.is
-
-pub returns-in-Data : goal.returns-in-Data
-returns-in-Data c = target-by _ _ _ _ c.area_of.ensures c.in-Data.is
+pub returns : goal.returns
+unfolding is_target
+returns c = ap (λ t. t && ltb c.args.b.0 c.args.blocks) (target-area c.args.b.0)

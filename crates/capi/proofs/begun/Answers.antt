@@ -1,17 +1,16 @@
-use mathlib.Core.Path.{ap, ◌∙◌}
-use Rattle.spec.specs.declared.Phase.{Phase}
-use Rattle.spec.specs.declared.Started.{Started}
-use Rattle.spec.specs.Answers.{is_refused, started_of}
+use Rattle.std.proofs.Common.{sym, ap, ◌∙◌}
 use Rattle.mirror.specs.Mirror.{numbers_of, head_of}
-use Rattle.capi.proofs.Ends.{started-refused, stays, becomes}
+use Rattle.capi.proofs.Ends.{started-ok, started-err, stays, becomes}
 use Rattle.capi.proofs.begun.Goals as goal
+use Rattle.capi.proofs.begun.Goals.{then-is_ok, else-is_ok}
 
-pub returns-in-Refused : goal.returns-in-Refused
-returns-in-Refused c = (c.committed.ensures, stays _ _ _ (started-refused _ _ c.in-Refused.is))
-
-pub returns-in-Stores : goal.returns-in-Stores
-returns-in-Stores c =
-    let h = c.args.h in
-    let t = ap (λ (x : Started). is_refused (started_of x)) c.in-Stores.is in
-    let p = ap (λ (x : Phase). head_of h.blocks x h.count) c.begun_phase-next.ensures in
-    (c.committed-in-Stores.ensures, becomes _ _ _ _ t (c.keep.ensures ∙ ap numbers_of (c.head_of.ensures ∙ p)))
+pub returns : goal.returns
+returns c =
+    elim c.if-is_ok.branch [
+      | then-is_ok w ↦ (
+        c.committed.ensures,
+        becomes _ _ _ _ (started-ok c.args.answer (sym c.is_ok.ensures.value ∙ w.if-is_ok.true))
+            (w.numbers-is ∙ w.keep.ensures ∙ ap (λ p. numbers_of (head_of c.args.s.blocks p c.args.s.count)) w.begun_phase.ensures),
+      )
+      | else-is_ok w ↦ (c.committed.ensures, w.numbers-is ∙ stays _ _ _ (started-err c.args.answer (sym c.is_ok.ensures.value ∙ w.if-is_ok.false)))
+    ]

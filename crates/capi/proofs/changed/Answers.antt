@@ -1,14 +1,9 @@
-use mathlib.Core.Path.{ap, ◌∙◌}
-use Rattle.spec.specs.declared.Done.{Done}
-use Rattle.spec.specs.Answers.{is_refused, done_of}
-use Rattle.mirror.specs.Mirror.{numbers_of}
-use Rattle.capi.proofs.Ends.{done_refused, stays, becomes}
+use Rattle.std.proofs.Common.{refl}
+use Rattle.capi.proofs.Ends.{refused-told, stays, becomes}
 use Rattle.capi.proofs.changed.Goals as goal
 
-pub returns-in-Refused : goal.returns-in-Refused
-returns-in-Refused c = (c.finished.ensures, stays _ _ _ (done_refused _ _ c.in-Refused.is))
+pub returns-in-Ok : goal.returns-in-Ok
+returns-in-Ok c = rw (c.in-Ok.is) (c.finished.ensures, becomes _ _ _ _ refl c.keep.ensures)
 
-pub returns-in-Done : goal.returns-in-Done
-returns-in-Done c =
-    let t = ap (λ (x : Done). is_refused (done_of x)) c.in-Done.is in
-    (c.finished-in-Done.ensures, becomes _ _ _ _ t (c.keep.ensures ∙ ap numbers_of c.head_of.ensures))
+pub returns-in-Err : goal.returns-in-Err
+returns-in-Err c = rw (c.in-Err.is) (c.finished-in-Err.ensures, stays _ _ _ (refused-told c.in-Err.why))

@@ -3,12 +3,11 @@ use Rattle.spec.specs.Transaction.{state_of}
 use Rattle.spec.specs.Calls.{free_count}
 use Rattle.mirror.specs.Mirror.{head_in, decode, counted_of}
 use Rattle.mirror.proofs.Laws.{answers}
-use Rattle.capi.proofs.Laws.{lent-session}
+use Rattle.capi.proofs.Ends.{lent-session}
 use Rattle.capi.proofs.purse_free_count_v.Goals as goal
 
 pub returns : goal.returns
 returns c =
     let a = c.args in
-    let h = c.head_in-head in
-    let q = lent-session h.result a.numbers.now a.staged.now _ c.phase_in-phase.ensures h.ensures in
-    answers (λ (x : Session). free_count (state_of x a.device.now a.work.now)) _ (decode (head_in a.numbers.now) a.staged.now) q _ _ _ _ c.free_count_in-answer.ensures counted_of _ c.counted.ensures
+    let q = lent-session _ a.numbers.now a.staged.now c.of-s.ensures in
+    answers (λ (x : Session). free_count (state_of x a.device.now a.work.now)) _ (decode (head_in a.numbers.now) a.staged.now) q _ _ _ _ (c.free_count_in.ensures _ c.volume.ensures) counted_of _ c.counted.ensures

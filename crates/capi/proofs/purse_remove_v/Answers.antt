@@ -7,5 +7,4 @@ use Rattle.capi.proofs.purse_remove_v.Goals as goal
 pub returns : goal.returns
 returns c =
     let a = c.args in
-    let h = c.head_in-head in
-    ends-in (λ (s : State). remove s a.name.now) (λ (s : State). remove-still s a.name.now) a.numbers.now a.staged.now a.device.now a.work.now h.result h.ensures _ _ _ _ _ _ c.phase_in-phase.ensures c.remove_in-c.ensures _ _ c.changed.ensures
+    ends-in (λ (s : State). remove s a.name.now) (λ (s : State). remove-still s a.name.now) a.numbers.now a.staged.now a.device.now a.work.now _ c.of-s.ensures _ _ _ _ c.remove_in-c.ensures _ _ c.changed.ensures

@@ -7,5 +7,4 @@ use Rattle.capi.proofs.purse_set_size_v.Goals as goal
 pub returns : goal.returns
 returns c =
     let a = c.args in
-    let h = c.head_in-head in
-    ends-in (λ (s : State). set_size s a.name.now a.size) (λ (s : State). size-still s a.name.now a.size) a.numbers.now a.staged.now a.device.now a.work.now h.result h.ensures _ _ _ _ _ _ c.phase_in-phase.ensures c.set_size_in-c.ensures _ _ c.changed.ensures
+    ends-in (λ (s : State). set_size s a.name.now a.size) (λ (s : State). size-still s a.name.now a.size) a.numbers.now a.staged.now a.device.now a.work.now _ c.of-s.ensures _ _ _ _ c.set_size_in-c.ensures _ _ c.changed.ensures

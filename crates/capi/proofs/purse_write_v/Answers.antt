@@ -7,5 +7,4 @@ use Rattle.capi.proofs.purse_write_v.Goals as goal
 pub returns : goal.returns
 returns c =
     let a = c.args in
-    let h = c.head_in-head in
-    ends-in (λ (s : State). write s a.name.now a.x a.bytes.now) (λ (s : State). write-still s a.name.now a.x a.bytes.now) a.numbers.now a.staged.now a.device.now a.work.now h.result h.ensures _ _ _ _ _ _ c.phase_in-phase.ensures c.write_in-c.ensures _ _ c.changed.ensures
+    ends-in (λ (s : State). write s a.name.now a.x a.bytes.now) (λ (s : State). write-still s a.name.now a.x a.bytes.now) a.numbers.now a.staged.now a.device.now a.work.now _ c.of-s.ensures _ _ _ _ c.write_in-c.ensures _ _ c.changed.ensures

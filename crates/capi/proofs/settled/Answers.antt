@@ -1,16 +1,17 @@
-use mathlib.Core.Path.{refl, ap, ◌∙◌}
-use Rattle.spec.specs.declared.Done.{Done}
+use Rattle.std.proofs.Common.{◌≡◌, ap, ◌∙◌}
 use Rattle.spec.specs.Answers.{is_refused, done_of}
 use Rattle.mirror.specs.Mirror.{numbers_of}
-use Rattle.capi.proofs.Ends.{done_refused, stays, becomes}
+use Rattle.capi.proofs.Ends.{refused-told, stays, becomes}
 use Rattle.capi.proofs.settled.Goals as goal
+use Rattle.capi.proofs.settled.Goals.{in-Ok, in_default}
 
-pub returns-in-Refused : goal.returns-in-Refused
-returns-in-Refused c =
-    let t = done_refused _ _ c.in-Refused.is in
-    (c.finished.ensures, stays _ _ _ t, stays _ _ _ t)
-
-pub returns-in-Done : goal.returns-in-Done
-returns-in-Done c =
-    let t = ap (λ (x : Done). is_refused (done_of x)) c.in-Done.is in
-    (c.finished-in-Done.ensures, becomes _ _ _ _ t (c.keep.ensures ∙ ap numbers_of c.encode.ensures), becomes _ _ _ _ t refl)
+pub returns : goal.returns
+returns c =
+    elim c.match-f.branch [
+      | in-Ok w ↦
+          (let t = ap (λ x. is_refused (done_of x)) w.in-Ok.is in
+          (c.finished.ensures, becomes _ _ _ _ t (w.numbers-is ∙ w.keep.ensures ∙ ap numbers_of w.encode.ensures), becomes _ _ _ _ t w.staged-is))
+      | in_default w ↦
+          (let t = ap (λ x. is_refused (done_of x)) w.in_default.is ∙ refused-told _ in
+          (c.finished.ensures, w.numbers-is ∙ stays _ _ _ t, w.staged-is ∙ stays _ _ _ t))
+    ]

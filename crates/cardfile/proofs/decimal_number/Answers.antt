@@ -1,25 +1,12 @@
-use native.Mathlib.Omega.{arith}
-use borrow.Author.Count.{falls}
-use Rattle.cardfile.proofs.Laws.{decimals-none, decimals-bad, decimals-more, decimals-end, decimals-room}
+use Rattle.std.proofs.Common.{arith}
+use Rattle.cardfile.proofs.Laws.{told_below, decimals-more, decimals-room}
 use Rattle.cardfile.proofs.decimal_number.Goals as goal
 
-pub loop-k-init : goal.loop-k-init
-loop-k-init c = decimals-none _
-
-pub returns-then-d-gt9 : goal.returns-then-d-gt9
-returns-then-d-gt9 c = decimals-bad _ _ _ c.loop-k.invariant _ c.loop-k-test.true c.digit_value-d.ensures.0 c.if-d-gt9.true
-
 pub overflow_mul-n : goal.overflow_mul-n
-overflow_mul-n c = omega (arith, decimals-room _ _ _ c.loop-k.invariant (omega arith))
+overflow_mul-n c = omega (arith, decimals-room _ _ _ c.loop-c.invariant (omega arith))
 
 pub overflow_add-n : goal.overflow_add-n
-overflow_add-n c = omega (arith, decimals-room _ _ _ c.loop-k.invariant (omega arith))
+overflow_add-n c = let d = told_below 10 _ _ c.in_ok-n.ensures in omega (arith, decimals-room _ _ _ c.loop-c.invariant (omega arith), d.1)
 
-pub loop-k-smaller : goal.loop-k-smaller
-loop-k-smaller c = falls _ _ c.loop-k-test.true
-
-pub loop-k-preserved : goal.loop-k-preserved
-loop-k-preserved c = decimals-more _ _ _ c.loop-k.invariant _ c.loop-k-test.true c.digit_value-d.ensures.0 c.if-d-gt9.false
-
-pub returns : goal.returns
-returns c = decimals-end _ _ _ c.loop-k.invariant c.loop-k-test.false
+pub loop-c-preserved : goal.loop-c-preserved
+loop-c-preserved c = decimals-more _ _ _ c.loop-c.invariant _ c.loop-c-test.true c.in_ok-n.ensures

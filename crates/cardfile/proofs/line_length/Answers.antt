@@ -1,8 +1,7 @@
-use Rattle.cardfile.proofs.Laws.{few, many}
+use Rattle.std.proofs.Common.{◌≡◌, ◌-◌, length, take, min, arith}
+use Rattle.cardfile.specs.Cards.{before}
+use Rattle.cardfile.proofs.Laws.{line-seen}
 use Rattle.cardfile.proofs.line_length.Goals as goal
 
-pub returns-then-rest-le-LINE_SEEN : goal.returns-then-rest-le-LINE_SEEN
-returns-then-rest-le-LINE_SEEN c = few _ _ _ c.if-rest-le-LINE_SEEN.true c.until.ensures
-
 pub returns : goal.returns
-returns c = many _ _ _ c.until-2.ensures
+returns c = line-seen 10 c.args.rest.now _ (rw (← c.min-seen.ensures) c.until.ensures)

@@ -1,27 +1,17 @@
-use lib.ListN.{length}
-use mathlib.Core.Path.{◌≡◌}
-use Rattle.change.proofs.Contents.{tag-bitmap, tag-record, tag-node, tag-data}
-use Rattle.change.specs.Contents.{change_of}
 use mathlib.Core.Path.{◌∙◌}
-use native.Mathlib.Omega.{arith}
-use borrow.Author.Rules.{rules}
+use Rattle.change.specs.Contents.{change_of}
+use Rattle.change.proofs.Contents.{made-bitmap, made-record, made-node, made-data}
 use Rattle.change.proofs.edit_block.Goals as goal
 
-pub returns-then-tag-eq-BITMAP : goal.returns-then-tag-eq-BITMAP
-returns-then-tag-eq-BITMAP c = let a = c.args in
-    c.copy.ensures ∙ tag-bitmap _ (change_of a.table.now a.first.now a.count.now a.o) _ _ a.tag _ a.block.now c.if-tag-eq-BITMAP.true
+pub returns-in-Bitmap : goal.returns-in-Bitmap
+returns-in-Bitmap c = rw c.in-Bitmap.is (made-bitmap c.args.i (change_of c.args.plan.now) _ _ _ _ c.copy_from_slice.ensures.after)
 
-pub lay_record-requires : goal.lay_record-requires
-lay_record-requires c = let z : length c.args.o.bytes ≡ 32 = search rules in (search rules, omega (arith, z))
+pub returns-in-Record : goal.returns-in-Record
+returns-in-Record c = rw c.in-Record.is (made-record c.args.i (change_of c.args.plan.now) _ _ _ _ c.lay_record.ensures)
 
-pub returns-then-tag-eq-RECORD : goal.returns-then-tag-eq-RECORD
-returns-then-tag-eq-RECORD c = let a = c.args in
-    tag-record _ (change_of a.table.now a.first.now a.count.now a.o) _ _ a.tag _ _ c.if-tag-eq-BITMAP.false c.if-tag-eq-RECORD.true c.lay_record.ensures
+pub returns-in-Node : goal.returns-in-Node
+returns-in-Node c =
+    rw c.in-Node.is (made-node c.args.i (change_of c.args.plan.now) _ _ _ _ c.in-Node.j (c.copy_from_slice-in-Node.ensures.after ∙ c.node_content.ensures))
 
-pub returns-then-tag-lt-FIRST_DATA : goal.returns-then-tag-lt-FIRST_DATA
-returns-then-tag-lt-FIRST_DATA c = let a = c.args in
-    tag-node _ (change_of a.table.now a.first.now a.count.now a.o) _ _ a.tag _ _ c.if-tag-eq-BITMAP.false c.if-tag-eq-RECORD.false c.if-tag-lt-FIRST_DATA.true (c.copy-then-tag-lt-FIRST_DATA.ensures ∙ c.node_content-node.ensures)
-
-pub returns : goal.returns
-returns c = let a = c.args in
-    tag-data _ (change_of a.table.now a.first.now a.count.now a.o) _ _ a.tag _ _ c.if-tag-eq-BITMAP.false c.if-tag-eq-RECORD.false c.if-tag-lt-FIRST_DATA.false c.lay_data.ensures
+pub returns-in-Data : goal.returns-in-Data
+returns-in-Data c = rw c.in-Data.is (made-data c.args.i (change_of c.args.plan.now) _ _ _ _ c.in-Data.p c.lay.ensures)

@@ -1,11 +1,13 @@
-use Prim.Native.Nat.{◌-◌}
+use borrow.Author.Tests.{leb-true}
 use native.Mathlib.Omega.{arith}
-use borrow.Author.Tests.{eqb-false, not-true, leb-true}
-use Rattle.change.proofs.Contents.{anew-low, anew-data}
+use Rattle.change.proofs.Contents.{anew-bitmap, anew-node, anew-data}
 use Rattle.change.proofs.is_made_anew.Goals as goal
 
-pub returns-then-tag-lt-FIRST_DATA : goal.returns-then-tag-lt-FIRST_DATA
-returns-then-tag-lt-FIRST_DATA c = λ t i d x bytes y z e. anew-low i d x bytes _ y z c.if-tag-lt-FIRST_DATA.true (eqb-false _ _ (not-true _ t))
+pub returns-in-Bitmap : goal.returns-in-Bitmap
+returns-in-Bitmap c = λ t i d x bytes y z e. rw c.in-Bitmap.is (anew-bitmap i d x bytes y z)
 
-pub returns : goal.returns
-returns c = λ t i d x bytes y z e. let h = leb-true c.args.held (c.args.tag - 6) t in anew-data i d x bytes _ y z c.if-tag-lt-FIRST_DATA.false (omega (arith, e, h))
+pub returns-in-Node : goal.returns-in-Node
+returns-in-Node c = λ t i d x bytes y z e. rw c.in-Node.is (anew-node i d x bytes y z _)
+
+pub returns-in-Data : goal.returns-in-Data
+returns-in-Data c = λ t i d x bytes y z e. let h = leb-true c.args.held c.in-Data.p.0 t in rw c.in-Data.is (anew-data i d x bytes y z c.in-Data.p (omega arith))

@@ -1,29 +1,50 @@
 use mathlib.Core.Path.{◌∙◌}
+use lib.ListN.{take}
 use Rattle.spec.specs.declared.Phase.TheVariants.{Closed}
 use Rattle.spec.specs.Session.{staged_in}
 use Rattle.transaction.specs.Places.{session_of}
 use Rattle.transaction.proofs.Laws.{cells-many}
+use Rattle.agenda.proofs.Laws.{within-at, none_yet}
 use Rattle.change.specs.Contents.{change_of}
 use Rattle.change.proofs.Staging.{going_start, stage-room, stage-step, stage-end, settled_is}
-use native.Mathlib.Omega.{arith}
 use Rattle.change.proofs.stage_all.Goals as goal
 
-pub loop-k-init : goal.loop-k-init
-loop-k-init c = (omega arith, c.requires.0, c.requires.5, c.requires.6, c.requires.1, c.requires.2, λ N p. going_start _ _ _ _ _ _ _ (c.requires.7 N p).rising (c.requires.7 N p).room)
-
-pub bounds-blocks-k : goal.bounds-blocks-k
-bounds-blocks-k c = omega (arith, c.loop-k.invariant.2)
-
-pub bounds-tags-k : goal.bounds-tags-k
-bounds-tags-k c = omega (arith, c.loop-k.invariant.3)
+pub loop-e-init : goal.loop-e-init
+loop-e-init c = record { work = c.requires.0; cells = c.requires.1; within = c.requires.3; going = λ N p. going_start _ _ _ _ _ _ (c.requires.4 N p).rising (c.requires.4 N p).room }
 
 pub stage_block-m-requires : goal.stage_block-m-requires
 unfolding staged_in
-stage_block-m-requires c = let a = c.args in let lp = c.loop-k in (lp.invariant.4, lp.invariant.5, stage-room a.i (change_of a.table.now a.first.now a.count.now a.o) a.x.0 a.bytes.now _ (session_of 0 Closed lp.cells lp.m) a.device.now lp.work a.blocks.now a.tags.now _ _ (lp.invariant.6 0 Closed) c.loop-k-test.true (omega arith) (omega arith), c.requires.3, c.requires.4)
+stage_block-m-requires c =
+    let p = c.args.plan.now in
+    let l = c.loop-e in
+    let i = l.invariant in
+    let es = take c.args.agenda.now.len c.args.agenda.now.entries in (
+      i.work,
+      i.cells,
+      stage-room c.args.i (change_of p) p.data.x.0 p.data.bytes.now _ (session_of 0 Closed l.cells l.m) c.args.device.now l.work es _ (i.going 0 Closed) c.loop-e-test.true,
+      c.requires.2,
+      within-at es l.e-index none_yet c.loop-e-test.true i.within,
+    )
 
-pub loop-k-preserved : goal.loop-k-preserved
-loop-k-preserved c = let a = c.args in let lp = c.loop-k in (omega arith, lp.invariant.1, lp.invariant.2, lp.invariant.3, c.stage_block-m.auto.work ∙ lp.invariant.4, c.stage_block-m.ensures.1, λ N p. stage-step a.i (change_of a.table.now a.first.now a.count.now a.o) a.x.0 a.bytes.now _ (session_of N p lp.cells lp.m) a.device.now lp.work a.blocks.now a.tags.now _ _ (lp.invariant.6 N p) c.loop-k-test.true (omega arith) (omega arith) _ (c.stage_block-m.ensures.0 N p))
+pub loop-e-preserved : goal.loop-e-preserved
+loop-e-preserved c =
+    let p = c.args.plan.now in
+    let l = c.loop-e in
+    let i = l.invariant in
+    let es = take c.args.agenda.now.len c.args.agenda.now.entries in
+    record {
+      work = c.stage_block-m.auto.work ∙ i.work;
+      cells = c.stage_block-m.ensures.1;
+      within = i.within;
+      going = λ N q. stage-step c.args.i (change_of p) p.data.x.0 p.data.bytes.now _ (session_of N q l.cells l.m) c.args.device.now l.work es _ (i.going N q) c.loop-e-test.true _ (c.stage_block-m.ensures.0 N q);
+    }
 
 pub returns : goal.returns
 unfolding staged_in
-returns c = λ N p. let a = c.args in let lp = c.loop-k in stage-end a.i (change_of a.table.now a.first.now a.count.now a.o) a.x.0 a.bytes.now _ (session_of N p lp.cells lp.m) a.device.now lp.work a.blocks.now a.tags.now _ _ (lp.invariant.6 N p) c.loop-k-test.false _ (settled_is (session_of N p lp.cells lp.m) _ lp.invariant.5 (cells-many lp.cells lp.m _ lp.invariant.5 c.staged_in.ensures.0))
+returns c = λ N q.
+    let p = c.args.plan.now in
+    let l = c.loop-e in
+    let i = l.invariant in
+    let es = take c.args.agenda.now.len c.args.agenda.now.entries in
+    stage-end c.args.i (change_of p) p.data.x.0 p.data.bytes.now _ (session_of N q l.cells l.m) c.args.device.now l.work es _ (i.going N q) c.loop-e-test.false _
+    (settled_is (session_of N q l.cells l.m) _ i.cells (cells-many l.cells l.m _ i.cells c.staged_in.ensures.0))

@@ -1,9 +1,8 @@
 use Rattle.content.proofs.Record.{extent-is, extent-none}
-use Rattle.runs.specs.Push.{columns}
 use Rattle.content.proofs.extent_at.Goals as goal
 
-pub returns-then-k-end : goal.returns-then-k-end
-returns-then-k-end c = let a = c.args in extent-is (columns a.first.now a.count.now a.end) _ c.if-k-end.true
+pub returns-then-k-extents : goal.returns-then-k-extents
+returns-then-k-extents c = extent-is _ _ c.if-k-extents.true
 
 pub returns : goal.returns
-returns c = let a = c.args in extent-none (columns a.first.now a.count.now a.end) _ c.if-k-end.false
+returns c = extent-none _ _ c.if-k-extents.false

@@ -1,50 +1,37 @@
-use mathlib.Core.Path.{sym, ◌∙◌}
-use native.Mathlib.Omega.{arith}
-use Rattle.converter.proofs.Passes.{line-found, line-none, bytes_fit, number-fit}
-use Rattle.converter.proofs.Writes.{put-none, put-long, put-bad, put-end, put-length, put-more, digits-room}
+use Rattle.std.proofs.Common.{rules, sym, ◌∙◌, arith}
+use Rattle.cardfile.specs.Lines.{letter_of}
+use Rattle.text.proofs.Laws.{lent-written}
+use Rattle.converter.proofs.Passes.{line-found, bytes_fit, number-fit}
+use Rattle.converter.proofs.Writes.{put-none, put-end, put-fault, put-more, digits-room}
 use Rattle.converter.proofs.put_lines.Goals as goal
+use Rattle.converter.proofs.put_lines.Goals.{in_default, in_default-2}
 
-pub loop-at-init : goal.loop-at-init
-loop-at-init c = put-none _ _ _ c.requires
+pub loop-found-init : goal.loop-found-init
+loop-found-init c = put-none _ _ _ c.requires
 
 pub overflow_sub-end : goal.overflow_sub-end
-overflow_sub-end c = omega (arith, (line-found c.args.wanted _ _ _ _ (sym c.line_at.ensures ∙ c.in-Found.is)).later)
+overflow_sub-end c = omega (arith, (line-found (letter_of c.args.wanted) c.args.text.now c.loop-found.at c.in-Ok-Some.found (cc)).later)
 
 pub overflow_sub-from : goal.overflow_sub-from
-overflow_sub-from c = omega (arith, digits-room _ _ _ _ _ (line-found c.args.wanted _ _ _ _ (sym c.line_at.ensures ∙ c.in-Found.is)))
+overflow_sub-from c = omega (arith, digits-room _ _ _ _ _ (line-found (letter_of c.args.wanted) c.args.text.now c.loop-found.at c.in-Ok-Some.found (cc)))
 
 pub slice_bounds-put_line-end : goal.slice_bounds-put_line-end
-slice_bounds-put_line-end c = omega (arith, (line-found c.args.wanted _ _ _ _ (sym c.line_at.ensures ∙ c.in-Found.is)).stood.inside)
+slice_bounds-put_line-end c = omega (arith, (line-found (letter_of c.args.wanted) c.args.text.now c.loop-found.at c.in-Ok-Some.found (cc)).stood.inside)
 
-pub put_line-q-requires : goal.put_line-q-requires
-put_line-q-requires c = (bytes_fit _ _ _ _ _ (line-found c.args.wanted _ _ _ _ (sym c.line_at.ensures ∙ c.in-Found.is)), number-fit _ _ _ _ _ (line-found c.args.wanted _ _ _ _ (sym c.line_at.ensures ∙ c.in-Found.is)))
+pub put_line-requires : goal.put_line-requires
+put_line-requires c = let s = line-found (letter_of c.args.wanted) c.args.text.now c.loop-found.at c.in-Ok-Some.found (cc) in (bytes_fit _ _ _ _ _ s, number-fit _ _ _ _ _ s)
 
-pub loop-at-smaller : goal.loop-at-smaller
-loop-at-smaller c = omega (arith, (line-found c.args.wanted _ _ _ _ (sym c.line_at.ensures ∙ c.in-Found.is)).later, (line-found c.args.wanted _ _ _ _ (sym c.line_at.ensures ∙ c.in-Found.is)).stood.inside)
+pub loop-found-smaller : goal.loop-found-smaller
+loop-found-smaller c = let s = line-found (letter_of c.args.wanted) c.args.text.now c.loop-found.at c.in-Ok-Some.found (cc) in omega (arith, s.later, s.stood.inside)
 
-pub loop-at-preserved : goal.loop-at-preserved
-loop-at-preserved c = put-more _ _ _ _ _ (line-found c.args.wanted _ _ _ _ (sym c.line_at.ensures ∙ c.in-Found.is)) _ _ _ c.loop-at.invariant _ _ c.put_line-q.ensures
-
-pub shape_of-out-in-TooLong : goal.shape_of-out-in-TooLong
-shape_of-out-in-TooLong c = put-length _ _ _ _ _ _ c.loop-at.invariant
-
-pub returns-in-TooLong : goal.returns-in-TooLong
-returns-in-TooLong c = put-long _ _ _ _ _ _ c.loop-at.invariant (sym c.line_at.ensures ∙ c.in-TooLong.is)
-
-pub shape_of-out-in-BadForm : goal.shape_of-out-in-BadForm
-shape_of-out-in-BadForm c = put-length _ _ _ _ _ _ c.loop-at.invariant
-
-pub returns-in-BadForm : goal.returns-in-BadForm
-returns-in-BadForm c = put-bad _ _ _ _ _ _ c.loop-at.invariant (sym c.line_at.ensures ∙ c.in-BadForm.is)
-
-pub shape_of-out-in-NoLine : goal.shape_of-out-in-NoLine
-shape_of-out-in-NoLine c = put-length _ _ _ _ _ _ c.loop-at.invariant
-
-pub returns-in-NoLine : goal.returns-in-NoLine
-returns-in-NoLine c = absurd (line-none c.args.wanted _ _ c.loop-at-test.true (sym c.line_at.ensures ∙ c.in-NoLine.is))
-
-pub shape_of-out : goal.shape_of-out
-shape_of-out c = put-length _ _ _ _ _ _ c.loop-at.invariant
+pub loop-found-preserved : goal.loop-found-preserved
+loop-found-preserved c = put-more _ _ _ _ _ (line-found (letter_of c.args.wanted) c.args.text.now c.loop-found.at c.in-Ok-Some.found (cc)) _ _ c.loop-found.invariant _ c.put_line.ensures
 
 pub returns : goal.returns
-returns c = put-end _ _ _ _ _ _ c.loop-at.invariant c.loop-at-test.false
+returns c =
+    lent-written _ _ _ _ _ c.new-w.ensures.bytes c.new-w.ensures.place
+    (elim c.match-line_at.branch [
+      | in_default w ↦ put-end _ _ _ _ _ c.loop-found.invariant (cc)
+      | in_default-2 w ↦ put-fault _ _ _ _ _ c.loop-found.invariant _ (sym c.line_at.ensures ∙ w.in_default.is)
+    ])
+    (search rules)

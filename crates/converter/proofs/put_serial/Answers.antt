@@ -1,12 +1,13 @@
-use native.Mathlib.Omega.{arith}
-use Rattle.converter.proofs.Writes.{spell-h, spell-four, spell-seven, written-text}
+use Rattle.std.proofs.Common.{arith}
+use Rattle.text.proofs.Laws.{put_as}
+use Rattle.converter.proofs.Writes.{spell-h, spell-four, spell-seven}
 use Rattle.converter.proofs.put_serial.Goals as goal
 
-pub returns-then-wanted-eq72 : goal.returns-then-wanted-eq72
-returns-then-wanted-eq72 c = written-text _ _ _ _ _ _ (spell-h c.args.wanted c.args.card.bytes c.args.card.number (omega arith) (omega arith) _ c.if-wanted-eq72.true c.name_of-name.ensures) c.put_hex.ensures
+pub returns-in-Hexadecimal : goal.returns-in-Hexadecimal
+returns-in-Hexadecimal c = rw c.in-Hexadecimal.is (put_as _ _ _ _ c.put_hex.ensures (spell-h _ _ (omega arith) (omega arith) _ c.name_of-name.ensures))
 
-pub returns-then-bytes-eq-SHORT_SERIAL : goal.returns-then-bytes-eq-SHORT_SERIAL
-returns-then-bytes-eq-SHORT_SERIAL c = written-text _ _ _ _ _ _ (spell-four c.args.wanted c.args.card.bytes c.args.card.number (omega arith) (omega arith) c.if-wanted-eq72.false c.if-bytes-eq-SHORT_SERIAL.true) c.put_padded.ensures
+pub returns-in-Decimal : goal.returns-in-Decimal
+returns-in-Decimal c = rw c.in-Decimal.is (put_as _ _ _ _ c.put_padded.ensures (spell-four _ _ (omega arith) (omega arith) c.if-bytes-eq-SHORT.true))
 
-pub returns : goal.returns
-returns c = written-text _ _ _ _ _ _ (spell-seven c.args.wanted c.args.card.bytes c.args.card.number (omega arith) (omega arith) c.if-wanted-eq72.false c.if-bytes-eq-SHORT_SERIAL.false) c.put_padded-2.ensures
+pub returns-in-Decimal-2 : goal.returns-in-Decimal-2
+returns-in-Decimal-2 c = rw c.in-Decimal.is (put_as _ _ _ _ c.put_padded-in-Decimal-2.ensures (spell-seven _ _ (omega arith) (omega arith) c.if-bytes-eq-SHORT.false))

@@ -1,10 +1,11 @@
 use Prim.Native.Nat.{◌-◌}
 use lib.ListN.{length}
+use Rattle.cardfile.specs.Lines.{letter_of}
 use Rattle.converter.proofs.Passes.{Tested}
 use Rattle.converter.proofs.test_lines.Given as goal
 
-abbrev pub invariant-loop-at : goal.invariant-loop-at
-invariant-loop-at l = Tested l.wanted l.text l.most l.at l.line l.room
+abbrev pub invariant-loop-found : goal.invariant-loop-found
+invariant-loop-found l = Tested (letter_of l.wanted) l.text l.most l.at l.line l.room
 
-abbrev pub decreases-loop-at : goal.decreases-loop-at
-decreases-loop-at l = length l.text - l.at
+abbrev pub decreases-loop-found : goal.decreases-loop-found
+decreases-loop-found l = length l.text - l.at

@@ -5,8 +5,8 @@ use Rattle.extents.proofs.extent_at.Goals as goal
 pub returns-then-place-ge-MAX_FILE_BLOCKS : goal.returns-then-place-ge-MAX_FILE_BLOCKS
 returns-then-place-ge-MAX_FILE_BLOCKS c = held-past _ _ _ c.if-place-ge-MAX_FILE_BLOCKS.true
 
-pub returns-in-In : goal.returns-in-In
-returns-in-In c = held_in _ _ _ _ _ _ c.table_block.ensures c.start-cur.ensures c.seek.ensures _ _ _ (omega arith) c.in-In.is
+pub returns-in_err-found : goal.returns-in_err-found
+returns-in_err-found c = rw c.from_residual.ensures (held_none _ _ _ _ _ c.table_block.ensures c.start-cur.ensures c.in_err-found.ensures)
 
-pub returns-in-Nothing : goal.returns-in-Nothing
-returns-in-Nothing c = held_none _ _ _ _ _ _ c.table_block.ensures c.start-cur.ensures c.seek.ensures c.in-Nothing.is
+pub returns : goal.returns
+returns c = held_in _ _ _ _ _ c.table_block.ensures c.start-cur.ensures _ _ _ (omega arith) c.in_ok-found.ensures

@@ -20,4 +20,4 @@ pub overflow_add-result : goal.overflow_add-result
 overflow_add-result c = omega (arith, c.slot_in-e.ensures.first, c.slot_in-e.ensures.count)
 
 pub returns : goal.returns
-returns c = λ v tb x. slot-piece v tb c.args.scan _ x _ _ c.slot_in-e.ensures c.is_live.ensures (c.if-not-is_live.false) (omega arith) c.requires.1 _ c.at_most-n.ensures
+returns c = λ v tb x. slot-piece v tb c.args.scan _ x _ _ c.slot_in-e.ensures c.is_live.ensures (c.if-not-is_live.false) (omega arith) c.requires.1 _ c.min-here.ensures

@@ -1,7 +1,7 @@
 use Prim.Native.Nat.{ℕ, ◌+◌, ◌*◌, ◌-◌, ◌<◌, ◌≤◌}
 use mathlib.Core.Path.{◌≡◌}
 use lib.ListN.{length, take, drop}
-use Rattle.transaction.specs.Places.{view_in}
+use Rattle.transaction.specs.Volumes.{working}
 use Rattle.file.specs.Bytes.{run_bytes}
 use Rattle.file.proofs.Laws.{landed}
 use Rattle.file.proofs.copy_blocks.Given as goal
@@ -9,7 +9,7 @@ use Rattle.file.proofs.copy_blocks.Given as goal
 abbrev pub invariant-loop-done : goal.invariant-loop-done
 invariant-loop-done l =
     (l.done ≤ length l.initial.to) × (length l.to ≡ length l.initial.to) × (l.first < 131072) × (l.skip + length l.initial.to ≤ 1048576)
-    × ((count : ℕ) → l.skip + length l.initial.to ≤ 512 * count → l.to ≡ landed (take (length l.initial.to) (drop l.skip (run_bytes (view_in l.staged l.device l.work) l.first count))) l.done l.initial.to)
+    × ((count : ℕ) → l.skip + length l.initial.to ≤ 512 * count → l.to ≡ landed (take (length l.initial.to) (drop l.skip (run_bytes (working l.copy) l.first count))) l.done l.initial.to)
 
 abbrev pub decreases-loop-done : goal.decreases-loop-done
 decreases-loop-done l = length l.initial.to - l.done

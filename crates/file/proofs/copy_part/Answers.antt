@@ -6,4 +6,4 @@ use Rattle.file.proofs.copy_part.Goals as goal
 
 pub returns-then-end-block : goal.returns-then-end-block
 returns-then-end-block c =
-    c.copy.ensures ∙ part-whole c.args.block.now c.args.off (length c.args.to.now) (omega arith) (omega arith)
+    c.copy_from_slice.ensures.after ∙ part-whole c.args.block.now c.args.off (length c.args.to.now) (omega arith) (omega arith)

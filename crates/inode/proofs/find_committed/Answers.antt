@@ -1,20 +1,25 @@
-use mathlib.Core.Path.{refl, sym, ◌∙◌}
+use mathlib.Core.Path.{◌≡◌, refl, sym, ap, ◌∙◌}
+use Prim.Native.Nat.{◌+◌, ◌*◌}
 use native.Mathlib.Omega.{arith}
 use Rattle.spec.specs.Disk.{blocks_of}
-use Rattle.inode.proofs.Laws.{find-all, find-hit, find-miss, lowest-none, table-part}
+use Rattle.spec.specs.Inode.{block_of_inode}
+use Rattle.inode.specs.Records.{lowest_to}
+use Rattle.inode.proofs.Laws.{named_at, find-all, find-hit, find-miss, lowest-none, block-lent}
 use Rattle.inode.proofs.find_committed.Goals as goal
 
-pub loop-first-init : goal.loop-first-init
-loop-first-init c = (omega arith, omega arith, λ name n e. refl)
+pub returns-in-Some : goal.returns-in-Some
+returns-in-Some c = let d = c.args.device.now in let k = c.loop-block.block in
+    λ name n e.
+    sym (find-all (blocks_of d) name ∙ c.loop-block.invariant name n e
+    ∙ find-hit (blocks_of d) _ name _ (omega arith) (omega arith) (block-lent d (block_of_inode (16 * k)) _ _ (omega arith) refl) _ (c.in-Some.ensures name n e))
 
-pub slice_bounds-find_whole-end : goal.slice_bounds-find_whole-end
-slice_bounds-find_whole-end c = omega (arith, c.requires)
-
-pub returns-in-At : goal.returns-in-At
-returns-in-At c = let a = c.args in let l = c.loop-first in λ name n e. sym (find-all (blocks_of a.device.now) name ∙ l.invariant.2 name n e ∙ find-hit _ _ name _ _ (omega arith) l.invariant.1 (table-part a.device.now l.first _ _ l.invariant.1 refl refl) (c.find_whole.ensures name n e) _ c.in-At.is)
-
-pub loop-first-preserved : goal.loop-first-preserved
-loop-first-preserved c = let a = c.args in let l = c.loop-first in (omega arith, omega arith, λ name n e. l.invariant.2 name n e ∙ find-miss _ _ name _ _ (omega arith) l.invariant.1 (table-part a.device.now l.first _ _ l.invariant.1 refl refl) (c.find_whole.ensures name n e) c.in-Nothing.is)
+pub loop-block-preserved : goal.loop-block-preserved
+loop-block-preserved c = let d = c.args.device.now in let k = c.loop-block.block in
+    λ name n e.
+    let z : 16 * k + 16 ≡ 16 * (k + 1) = omega arith in
+    c.loop-block.invariant name n e
+    ∙ find-miss (blocks_of d) _ name _ (omega arith) (omega arith) (block-lent d (block_of_inode (16 * k)) _ _ (omega arith) refl) (c.in_default.ensures name n e)
+    ∙ ap (lowest_to 128 (named_at (blocks_of d) name)) z
 
 pub returns : goal.returns
-returns c = let a = c.args in λ name n e. sym (find-all (blocks_of a.device.now) name ∙ c.loop-first.invariant.2 name n e ∙ lowest-none _ _ _ (omega arith))
+returns c = λ name n e. sym (find-all (blocks_of c.args.device.now) name ∙ c.loop-block.invariant name n e ∙ lowest-none _ _ _ (omega arith))

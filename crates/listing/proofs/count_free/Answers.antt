@@ -1,8 +1,8 @@
-use Rattle.spec.specs.Bitmap.{bits_of, free_bits}
+use Prim.Native.Nat.{ℕ}
 use mathlib.Core.List.{List}
 use mathlib.Core.Path.{ap, ◌∙◌}
-use Prim.Native.Nat.{ℕ}
+use Rattle.spec.specs.Bitmap.{bits_of, free_bits}
 use Rattle.listing.proofs.count_free.Goals as goal
 
 pub returns : goal.returns
-returns c = c.free_count.ensures.0 ∙ ap (λ (t : List ℕ). free_bits (bits_of t)) (c.copy_of-table.ensures ∙ c.view_block.ensures)
+returns c = c.free_in.ensures.0 ∙ ap (λ (t : List ℕ). free_bits (bits_of t)) (c.copy_of-table.ensures ∙ c.block.ensures.0)

@@ -1,11 +1,18 @@
+use Rattle.std.proofs.Common.{rules}
+use Rattle.text.specs.Written.{Put}
+use Rattle.text.proofs.Laws.{put_as, lent-written}
+use Rattle.listing.specs.Steps.{device_text}
 use Rattle.listing.proofs.Laws.{text-refused, text-done}
-use Rattle.text.proofs.Laws.{written_as}
 use Rattle.listing.proofs.list_device.Goals as goal
+use Rattle.listing.proofs.list_device.Goals.{in-Err, in-Ok}
 
--- src/lib.rt:230:1
-pub returns-in-Refused : goal.returns-in-Refused
-returns-in-Refused c = written_as _ _ _ _ _ c.put_refused.ensures _ (text-refused c.args.image.now _ _ _ c.open_store-opened.ensures c.never_opened.ensures _ _ c.in-Refused.is c.number_of.ensures)
-
--- src/lib.rt:230:1
-pub returns-in-Done : goal.returns-in-Done
-returns-in-Done c = written_as _ _ _ _ _ c.put_opened.ensures _ (text-done c.args.image.now _ _ _ c.open_store-opened.ensures c.never_opened.ensures c.in-Done.is)
+pub returns : goal.returns
+returns c =
+    let d = c.args.image.now in
+    let o = c.open_store-opened in
+    let n = c.never_opened.ensures in
+    let h : Put c.new-w.result c.match-opened.w (device_text d) = elim c.match-opened.branch [
+      | in-Err v ↦ rw v.w-is (put_as _ _ _ _ v.put_refused.ensures (text-refused d _ _ _ o.ensures n _ v.in-Err.is))
+      | in-Ok v ↦ rw v.w-is (put_as _ _ _ _ v.put_opened.ensures (text-done d _ _ _ o.ensures n v.in-Ok.is))
+    ] in
+    lent-written _ _ _ _ _ c.new-w.ensures.bytes c.new-w.ensures.place h (search rules)

@@ -1,6 +1,6 @@
+use Rattle.text.proofs.Laws.{put_then, put_as}
 use Rattle.listing.proofs.Laws.{span-is}
-use Rattle.text.proofs.Laws.{written_then, written_as}
 use Rattle.listing.proofs.put_extent.Goals as goal
 
 pub returns : goal.returns
-returns c = written_as _ _ _ _ _ (written_then _ _ _ _ _ c.put_number-first.ensures _ _ _ (written_then _ _ _ _ _ c.put-plus.ensures _ _ _ c.put_number.ensures)) _ (span-is c.args.e)
+returns c = put_as _ _ _ _ (put_then _ _ _ c.put_number.ensures _ _ (put_then _ _ _ c.put.ensures _ _ c.put_number-2.ensures)) (span-is c.args.e)

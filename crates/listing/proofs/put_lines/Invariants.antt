@@ -1,11 +1,7 @@
-use Rattle.listing.specs.Steps.{lines_text}
-use Rattle.spec.specs.Transaction.{view, state_of}
 use Rattle.text.proofs.Laws.{Left}
-use Prim.Native.Nat.{◌-◌}
+use Rattle.transaction.specs.Volumes.{working}
+use Rattle.listing.specs.Steps.{lines_text}
 use Rattle.listing.proofs.put_lines.Given as goal
 
 abbrev pub invariant-loop-i : goal.invariant-loop-i
-invariant-loop-i l = Left l.initial.out l.at (lines_text (view (state_of l.s l.image l.image)) 0) l.out l.p (lines_text (view (state_of l.s l.image l.image)) l.i)
-
-abbrev pub decreases-loop-i : goal.decreases-loop-i
-decreases-loop-i l = 128 - l.i
+invariant-loop-i l = Left l.initial.w (lines_text (working l.copy) 0) l.w (lines_text (working l.copy) l.i)

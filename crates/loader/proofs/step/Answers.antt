@@ -1,17 +1,18 @@
-use Rattle.loader.proofs.Laws.{told-load, step-closed, step-ready, step-recovering, step-committing}
-use Rattle.loader.specs.Load.{advancing}
+use Rattle.std.proofs.Common.{ap}
 use Rattle.spec.specs.Transaction.{state_of}
-use mathlib.Core.Path.{ap}
+use Rattle.loader.specs.Load.{advancing}
+use Rattle.loader.proofs.Laws.{step-other, step-committing}
 use Rattle.loader.proofs.step.Goals as goal
 
-pub returns-in-Committing : goal.returns-in-Committing
-returns-in-Committing c = let s = state_of c.args.session c.args.device.now c.args.work.now in told-load _ _ _ _ _ _ _ _ _ c.load_step.ensures.0 c.load_step.ensures.1 c.load_step.ensures.2 (step-committing s c.args.text.now c.args.at _ _ c.in-Committing.is (ap (advancing c.args.at) c.advance-a.ensures))
+pub returns-in-Ok : goal.returns-in-Ok
+returns-in-Ok c =
+    let a = c.args in
+    step-committing (state_of a.session a.device.now a.work.now) a.text.now a.at _ _ c.in-Committing.is (ap (advancing a.at) (rw (c.in-Ok.is) at c.advance-a.ensures))
 
-pub returns-in-Closed : goal.returns-in-Closed
-returns-in-Closed c = let s = state_of c.args.session c.args.device.now c.args.work.now in step-closed s c.args.text.now c.args.at _ c.in-Closed.is c.next_line.ensures
+pub returns-in-Err : goal.returns-in-Err
+returns-in-Err c =
+    let a = c.args in
+    step-committing (state_of a.session a.device.now a.work.now) a.text.now a.at _ _ c.in-Committing.is (ap (advancing a.at) (rw (c.in-Err.is) at c.advance-a.ensures))
 
-pub returns-in-Ready : goal.returns-in-Ready
-returns-in-Ready c = let s = state_of c.args.session c.args.device.now c.args.work.now in step-ready s c.args.text.now c.args.at _ c.in-Ready.is c.next_line-in-Ready.ensures
-
-pub returns-in-Recovering : goal.returns-in-Recovering
-returns-in-Recovering c = let s = state_of c.args.session c.args.device.now c.args.work.now in step-recovering s c.args.text.now c.args.at _ _ c.in-Recovering.is c.next_line-in-Recovering.ensures
+pub returns : goal.returns
+returns c = let a = c.args in step-other (state_of a.session a.device.now a.work.now) a.text.now a.at _ c.in_default.not-Committing c.next_line.ensures

@@ -1,16 +1,26 @@
-use mathlib.Core.Path.{sym, ap, ◌∙◌}
-use mathlib.Core.Bool.{true}
-use Rattle.checks.specs.Checks.{result_of}
-use Rattle.lookup.proofs.Laws.{found_of_lem, new-bad, new-taken, new-fine}
+use mathlib.Core.Path.{◌∙◌}
+use Rattle.std.proofs.lemmas.Result.{err_from_is_err_and}
+use Rattle.lookup.specs.Looks.{new_ok}
+use Rattle.lookup.proofs.Laws.{taken_is, empty_is, empty-low}
 use Rattle.lookup.proofs.look_up_new.Goals as goal
 
-pub returns-in-Bad : goal.returns-in-Bad
-returns-in-Bad c = (λ s q. new-bad s c.args.device.now c.args.work.now c.args.name.now _ (sym (ap result_of c.in-Bad.is) ∙ c.named.ensures s q.head), tt)
+pub returns-in_err-named : goal.returns-in_err-named
+unfolding new_ok
+returns-in_err-named c =
+    let p = err_from_is_err_and c.from_residual.result c.from_residual.ensures.1 in
+    rw (p.1, p.2) (λ s q. rw (← c.in_err-named.ensures s q), tt)
 
-pub returns-in-At : goal.returns-in-At
-returns-in-At c = let a = c.args in
-    (λ s q. new-taken s a.device.now a.work.now a.name.now true _ (sym (ap result_of c.in-Fine.is) ∙ c.named.ensures s q.head) (sym (found_of_lem s a.device.now a.work.now _ a.name.now _ q.numbers c.find.ensures) ∙ c.in-At.is), tt)
+pub returns-then-taken : goal.returns-then-taken
+unfolding new_ok
+returns-then-taken c =
+    (λ s q. rw (← c.in_ok-named.ensures s q, taken_is _ _ _ c.find.ensures s _ q c.is_some-taken.ensures, c.if-taken.true), tt)
 
-pub returns-in-Nothing : goal.returns-in-Nothing
-returns-in-Nothing c = let a = c.args in
-    (λ s q. c.empty_inode.ensures.0 s q.numbers ∙ new-fine s a.device.now a.work.now a.name.now true (sym (ap result_of c.in-Fine.is) ∙ c.named.ensures s q.head) (sym (found_of_lem s a.device.now a.work.now _ a.name.now _ q.numbers c.find.ensures) ∙ c.in-Nothing.is), c.empty_inode.ensures.1)
+pub returns : goal.returns
+unfolding new_ok
+returns c =
+    rw c.ok_or.ensures.value (
+      λ s q.
+          empty_is c.args.volume.now _ c.find_empty.ensures s q
+          ∙ rw (← c.in_ok-named.ensures s q, taken_is _ _ _ c.find.ensures s _ q c.is_some-taken.ensures, c.if-taken.false),
+      empty-low c.args.volume.now _ c.find_empty.ensures,
+    )

@@ -1,11 +1,26 @@
-use mathlib.Core.Path.{sym, ap, ◌∙◌}
-use mathlib.Core.Bool.{true}
-use Rattle.checks.specs.Checks.{result_of}
-use Rattle.lookup.proofs.Laws.{rename-bad, rename-fine}
+use Rattle.std.proofs.lemmas.Result.{err_from_is_err_and}
+use Rattle.lookup.specs.Looks.{rename_ok, unless_taken}
+use Rattle.lookup.proofs.Laws.{taken_is}
 use Rattle.lookup.proofs.look_up_pair.Goals as goal
 
-pub returns-in-Bad : goal.returns-in-Bad
-returns-in-Bad c = (λ s q. rename-bad s c.args.device.now c.args.work.now c.args.name.now c.args.new.now _ (sym (ap result_of c.in-Bad.is) ∙ c.both_named.ensures s q.head), tt)
+pub returns-in_err-both_named : goal.returns-in_err-both_named
+unfolding rename_ok
+returns-in_err-both_named c =
+    let p = err_from_is_err_and c.from_residual.result c.from_residual.ensures.1 in
+    rw (p.1, p.2) (λ s q. rw (← c.in_err-both_named.ensures s q), tt)
 
-pub returns-in-Fine : goal.returns-in-Fine
-returns-in-Fine c = (λ s q. c.renamed.ensures.0 s q.numbers ∙ rename-fine s c.args.device.now c.args.work.now c.args.name.now c.args.new.now true (sym (ap result_of c.in-Fine.is) ∙ c.both_named.ensures s q.head), c.renamed.ensures.1)
+pub returns-in_err-i : goal.returns-in_err-i
+unfolding rename_ok unless_taken
+returns-in_err-i c =
+    let p = err_from_is_err_and c.from_residual-in_err-i.result c.from_residual-in_err-i.ensures.1 in
+    rw (p.1, p.2) (λ s q. rw (← c.in_ok-both_named.ensures s q, ← c.in_err-i.ensures.0 s q), tt)
+
+pub returns-then-taken : goal.returns-then-taken
+unfolding rename_ok unless_taken
+returns-then-taken c =
+    (λ s q. rw (← c.in_ok-both_named.ensures s q, ← c.in_ok-i.ensures.0 s q, taken_is _ _ _ c.find.ensures s _ q c.is_some-taken.ensures, c.if-taken.true), tt)
+
+pub returns : goal.returns
+unfolding rename_ok unless_taken
+returns c =
+    (λ s q. rw (← c.in_ok-both_named.ensures s q, ← c.in_ok-i.ensures.0 s q, taken_is _ _ _ c.find.ensures s _ q c.is_some-taken.ensures, c.if-taken.false), c.in_ok-i.ensures.1)

@@ -1,16 +1,15 @@
-use Rattle.lookup.proofs.Laws.{sized-device}
-use mathlib.Core.Path.{sym, ap, ◌∙◌}
-use mathlib.Core.Bool.{true}
-use Rattle.checks.specs.Checks.{result_of}
+use mathlib.Core.Path.{◌∙◌}
 use Prim.Native.Nat.{◌+◌}
+use Rattle.std.proofs.lemmas.Result.{err_from_is_err_and}
 use Rattle.lookup.proofs.Laws.{sized-bad, sized-fine}
 use Rattle.lookup.proofs.look_up_sized.Goals as goal
 
-pub known-requires : goal.known-requires
-known-requires c = (sized-device c.args.blocks c.args.phase c.args.device.now c.args.work.now c.args.name.now true _ (λ s q. sym (ap result_of c.in-Fine.is) ∙ c.sized.ensures s q), c.requires)
+pub returns-in_err-sized : goal.returns-in_err-sized
+returns-in_err-sized c =
+    let a = c.args in
+    let p = err_from_is_err_and c.from_residual.result c.from_residual.ensures.1 in
+    rw (p.1, p.2) (λ s q. sized-bad s a.name.now (a.x.0 + a.n) _ (c.in_err-sized.ensures s q), tt)
 
-pub returns-in-Bad : goal.returns-in-Bad
-returns-in-Bad c = (λ s q. sized-bad s c.args.device.now c.args.work.now c.args.name.now (c.args.x.0 + c.args.n) _ (sym (ap result_of c.in-Bad.is) ∙ c.sized.ensures s q.head), tt)
-
-pub returns-in-Fine : goal.returns-in-Fine
-returns-in-Fine c = (λ s q. c.known.ensures.0 s q.numbers ∙ sized-fine s c.args.device.now c.args.work.now c.args.name.now (c.args.x.0 + c.args.n) true (sym (ap result_of c.in-Fine.is) ∙ c.sized.ensures s q.head), c.known.ensures.1)
+pub returns : goal.returns
+returns c = let a = c.args in
+    (λ s q. c.known.ensures.0 s q ∙ sized-fine s a.name.now (a.x.0 + a.n) _ (c.in_ok-sized.ensures s q), c.known.ensures.1)

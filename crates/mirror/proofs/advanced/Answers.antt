@@ -1,15 +1,17 @@
-use mathlib.Core.Path.{sym, ap, ◌∙◌}
-use Rattle.spec.specs.declared.Stored.{Stored}
-use Rattle.spec.specs.Answers.{stored_of}
-use Rattle.mirror.specs.Mirror.{advanced_of}
+use Rattle.std.proofs.Common.{◌≡◌, ◌∙◌, Ok, Some, None, rules}
 use Rattle.mirror.proofs.Laws.{advanced-refused, advanced-stored, advanced-idle}
 use Rattle.mirror.proofs.advanced.Goals as goal
 
-pub returns-in-Refused : goal.returns-in-Refused
-returns-in-Refused c = advanced-refused c.in-Refused.why _ c.refusal_number.ensures ∙ ap (λ (x : Stored). advanced_of (stored_of x)) (sym c.in-Refused.is)
+pub returns-in-Ok-None : goal.returns-in-Ok-None
+returns-in-Ok-None c =
+    let a : c.args.answer ≡ Ok None = search rules in
+    let e : c.default.result ≡ record { refusal = 0; block = 0; last = 0; number = 0 } = search rules in
+    rw a (e ∙ advanced-idle)
 
-pub returns-in-Stored : goal.returns-in-Stored
-returns-in-Stored c = advanced-stored _ _ _ _ c.flag.ensures ∙ ap (λ (x : Stored). advanced_of (stored_of x)) (sym c.in-Stored.is)
+pub returns-in-Ok-Some : goal.returns-in-Ok-Some
+returns-in-Ok-Some c =
+    let a : c.args.answer ≡ Ok (Some c.in-Ok-Some.stored) = search rules in
+    rw a (advanced-stored c.in-Ok-Some.stored _ _ c.from.ensures c.from-in-Ok-Some.ensures)
 
-pub returns-in-Idle : goal.returns-in-Idle
-returns-in-Idle c = advanced-idle ∙ ap (λ (x : Stored). advanced_of (stored_of x)) (sym c.in-Idle.is)
+pub returns-in-Err : goal.returns-in-Err
+returns-in-Err c = rw (c.in-Err.is) (advanced-refused c.in-Err.why _ c.number.ensures c.default-in-Err.result c.default-in-Err.ensures)

@@ -1,12 +1,12 @@
-use mathlib.Core.Path.{sym, ap, ◌∙◌}
-use Rattle.spec.specs.declared.Done.{Done}
-use Rattle.spec.specs.Answers.{done_of}
-use Rattle.mirror.specs.Mirror.{finished_of}
-use Rattle.mirror.proofs.Laws.{finished-refused, finished-done}
+use Rattle.std.proofs.Common.{◌≡◌, ap, ◌∙◌, rules}
+use Rattle.std.specs.Prelude.{unwrap_or}
+use Rattle.mirror.proofs.Laws.{fault-is, finished-done, finished-refused}
 use Rattle.mirror.proofs.finished.Goals as goal
 
-pub returns-in-Refused : goal.returns-in-Refused
-returns-in-Refused c = finished-refused c.in-Refused.why _ c.refusal_number.ensures _ c.fault_in.ensures ∙ ap (λ (x : Done). finished_of (done_of x)) (sym c.in-Refused.is)
+pub returns-in-Ok : goal.returns-in-Ok
+returns-in-Ok c =
+    let e : c.default.result ≡ record { refusal = 0; fault = 0 } = search rules in
+    rw (c.in-Ok.is) (e ∙ finished-done)
 
-pub returns-in-Done : goal.returns-in-Done
-returns-in-Done c = finished-done ∙ ap (λ (x : Done). finished_of (done_of x)) (sym c.in-Done.is)
+pub returns-in-Err : goal.returns-in-Err
+returns-in-Err c = rw (c.in-Err.is) (finished-refused c.in-Err.why _ c.number.ensures _ (c.unwrap_or.ensures ∙ ap (λ o. unwrap_or o 0) c.fault.ensures ∙ fault-is c.in-Err.why))

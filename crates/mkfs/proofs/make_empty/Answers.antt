@@ -1,5 +1,4 @@
 use Prim.Native.Nat.{ℕ}
-use mathlib.Core.Path.{ap}
 use native.Mathlib.Omega.{arith}
 use lib.ListN.{length, length-replicate}
 use Rattle.block.proofs.Laws.{allowed-says}
@@ -15,9 +14,9 @@ empty_table-table-requires c = let a = allowed-says _ c.requires in (omega arith
 pub store_block-requires : goal.store_block-requires
 store_block-requires c =
     let a = allowed-says _ c.requires in
-    let l = ap length c.clear.ensures in
+    let l = c.fill.ensures.len in
     omega (arith, length-replicate {A = ℕ} (length c.args.device.now) 0)
 
 pub returns : goal.returns
 returns c =
-    made _ _ _ _ _ c.clear.ensures c.empty_table-table.ensures.0 c.store_block.ensures
+    made _ _ _ _ _ (c.fill.ensures.after (λ y h. h)) c.empty_table-table.ensures.0 c.store_block.ensures

@@ -1,9 +1,8 @@
-use mathlib.Core.Path.{sym, ◌∙◌}
-use Rattle.transaction.proofs.Laws.{spot-at, spot-new}
+use mathlib.Core.Path.{ap, ◌∙◌}
+use lib.ListN.{length}
+use Rattle.std.specs.Option.{unwrap_or}
+use Rattle.transaction.proofs.Laws.{spot-is}
 use Rattle.transaction.proofs.spot.Goals as goal
 
-pub returns-in-At : goal.returns-in-At
-returns-in-At c = spot-at c.args.staged.now _ _ (sym c.place_in.ensures ∙ c.in-At.is)
-
-pub returns-in-Nothing : goal.returns-in-Nothing
-returns-in-Nothing c = spot-new c.args.staged.now _ (sym c.place_in.ensures ∙ c.in-Nothing.is)
+pub returns : goal.returns
+returns c = c.unwrap_or.ensures ∙ ap (λ o. unwrap_or o (length c.args.staged.now)) c.place_in.ensures ∙ spot-is c.args.staged.now c.args.b.0

@@ -1,16 +1,12 @@
 use Prim.Native.Nat.{ℕ}
 use mathlib.Core.Path.{◌≡◌, ap, ◌∙◌}
 use mathlib.Core.List.{List}
-use native.Mathlib.Omega.{arith}
 use lib.ListN.{length}
 use Rattle.spec.specs.Bytes.{place}
 use Rattle.transaction.specs.Places.{found_at}
 use Rattle.transaction.proofs.Laws.{staged-lent}
 use borrow.Author.Rules.{rules}
 use Rattle.transaction.proofs.staged_at.Goals as goal
-
-pub slice_bounds-place_in-end : goal.slice_bounds-place_in-end
-slice_bounds-place_in-end c = let l : length c.args.s.staged ≡ 32 = search rules in omega (arith, l, c.staged_count-n.ensures.1)
 
 pub returns : goal.returns
 returns c = let s = c.args.s in

@@ -8,17 +8,8 @@ use Rattle.tree.proofs.are_packed.Goals as goal
 pub loop-j-init : goal.loop-j-init
 loop-j-init c = unused-start _ _ _ _ c.requires.1
 
-pub overflow_mul-j : goal.overflow_mul-j
-overflow_mul-j c = omega (arith, c.requires.0, c.loop-j-test.true)
-
-pub overflow_add-at : goal.overflow_add-at
-overflow_add-at c = omega (arith, c.requires.0, c.loop-j-test.true)
-
-pub slot_in-e-requires : goal.slot_in-e-requires
-slot_in-e-requires c = omega (arith, c.requires.0, c.loop-j-test.true)
-
 pub loop-j-preserved : goal.loop-j-preserved
-loop-j-preserved c = let a = c.args in let X = exactly 512 a.block.now in let l = c.loop-j in (omega (arith, c.loop-j-test.true), unused-more X a.at a.n l.j (slots_in a.n (drop a.at X)) l.unused l.invariant.1 c.slot_in-e.result c.loop-j-test.true c.slot_in-e.ensures.0)
+loop-j-preserved c = let a = c.args in let X = exactly 512 a.block.now in let l = c.loop-j in (omega arith, unused-more X a.at a.n l.j (slots_in a.n (drop a.at X)) l.unused l.invariant.1 c.slot_in-e.result (omega arith) c.slot_in-e.ensures.0)
 
 pub returns : goal.returns
-returns c = let a = c.args in let X = exactly 512 a.block.now in let l = c.loop-j in unused-end X a.at a.n l.j (slots_in a.n (drop a.at X)) l.unused l.invariant.1 (omega (arith, c.loop-j-test.false))
+returns c = let a = c.args in let X = exactly 512 a.block.now in let l = c.loop-j in unused-end X a.at a.n l.j (slots_in a.n (drop a.at X)) l.unused l.invariant.1 (omega arith)

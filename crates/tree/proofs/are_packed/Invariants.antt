@@ -10,6 +10,3 @@ use Rattle.tree.proofs.are_packed.Given as goal
 
 abbrev pub invariant-loop-j : goal.invariant-loop-j
 invariant-loop-j l = (l.j ≤ l.n) × (l.unused && all is_unused (slots_in (l.n - l.j) (drop (l.at + 4 * l.j) (exactly 512 l.block))) ≡ slots_packed (slots_in l.n (drop l.at (exactly 512 l.block))))
-
-abbrev pub decreases-loop-j : goal.decreases-loop-j
-decreases-loop-j l = l.n - l.j

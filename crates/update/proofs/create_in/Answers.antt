@@ -1,56 +1,48 @@
-use mathlib.Core.Path.{◌≡◌, sym, ap, subst, ◌∙◌}
-use lib.ListN.{length, take}
-use Rattle.spec.specs.declared.Session.{Session}
-use Rattle.spec.specs.Disk.{Disk}
-use Rattle.spec.specs.Transaction.{view, state_of}
-use Rattle.transaction.specs.Places.{session_of}
-use Rattle.transaction.proofs.Laws.{cells-few, staged-parts, view_of}
-use Rattle.lookup.specs.Looks.{looked_of, InTable}
-use Rattle.checks.proofs.Laws.{told}
-use Rattle.update.specs.Records.{Differs}
-use Rattle.lookup.specs.Looks.{new_ok}
-use Rattle.lookup.proofs.Laws.{seen-cells, new-says, new-free}
-use Rattle.inode.proofs.Laws.{view-length}
-use Rattle.update.proofs.Records.{new-record, new-name, new-length, free-name, differs}
-use Rattle.update.proofs.Stores.{create-stores}
-use Rattle.update.proofs.Laws.{create-bad, create-fine}
+use mathlib.Core.Path.{◌≡◌, ◌∙◌}
 use borrow.Author.Rules.{rules}
+use lib.ListN.{length}
+use Rattle.transaction.specs.Places.{session_of}
+use Rattle.spec.specs.Transaction.{view, state_of}
+use Rattle.lookup.proofs.Laws.{new-says, new-free}
+use Rattle.update.proofs.Records.{new-record, new-length, new-name, named-anew}
+use Rattle.update.proofs.Stores.{create-stores}
+use Rattle.update.proofs.Laws.{err-is, create-bad, create-fine}
 use Rattle.update.proofs.create_in.Goals as goal
-use Rattle.update.proofs.create_in.Lts as lts
-use Rattle.update.proofs.create_in.Reads as reads
-use Rattle.update.proofs.create_in.Tie as tie
 
-abbrev session : lts.Start tie.the-claims reads.Pre reads.Post → Session
-session c = session_of c.args.blocks c.args.phase c.args.cells.now c.args.many
-
-long : (c : lts.After-staged_in tie.the-claims reads.Pre reads.Post) → length c.args.cells.now ≡ 32
-long c = search rules
-
--- what the look-up tells of that session
-found : (c : lts.After-look_up_new tie.the-claims reads.Pre reads.Post) → looked_of c.look_up_new.result ≡ new_ok (state_of (session c.before.before.before.before.before.before.before.before) c.args.device.now c.args.work.now) c.args.name.now
-found c = c.look_up_new.ensures.0 (session c.before.before.before.before.before.before.before.before) (seen-cells _ _ _ _ _ (long c.before.before) c.staged_in.ensures.0)
-
-pub look_up_new-requires : goal.look_up_new-requires
-look_up_new-requires c = cells-few _ _ _ (long c.before.before) c.staged_in.ensures.0
+pub returns-in_err-i : goal.returns-in_err-i
+returns-in_err-i c =
+    let a = c.args in
+    let s = session_of a.blocks a.phase a.cells.now a.many in
+    let seen = c.with_cells-volume.ensures in
+    rw (err-is c.from_residual.result _ _ c.from_residual.ensures.1 (λ r z. z)) (create-bad s a.device.now a.work.now a.name.now _ (c.in_err-i.ensures.0 _ seen))
 
 pub new_record-record-requires : goal.new_record-record-requires
-new_record-record-requires c = (new-says (session c.before.before.before.before.before.before.before.before.before.before) c.args.device.now c.args.work.now c.args.name.now _ (sym (ap looked_of c.in-At.is) ∙ found c.before.before)).1
+new_record-record-requires c =
+    let a = c.args in
+    let s = session_of a.blocks a.phase a.cells.now a.many in
+    let seen = c.with_cells-volume.ensures in
+    (new-says s a.device.now a.work.now a.name.now _ (c.in_ok-i.ensures.0 _ seen)).1
 
 pub change_record-requires : goal.change_record-requires
-change_record-requires c = let i = c.in-At.i in let low = subst InTable c.in-At.is c.look_up_new.ensures.1 in let e = sym (ap looked_of c.in-At.is) ∙ found c.before.before.before.before.before.before in let n = new-says (session c.before.before.before.before.before.before.before.before.before.before.before.before.before.before) c.args.device.now c.args.work.now c.args.name.now _ e in (
-  low,
-  n.0,
-  long c.before.before.before.before.before.before.before.before,
-  new-length c.args.name.now _ n.1 c.new_record-record.ensures,
-  subst (λ (v : Disk). Differs v i c.new_record-record.result) (sym (view_of (session c.before.before.before.before.before.before.before.before.before.before.before.before.before.before) c.args.device.now c.args.work.now (take c.args.many c.args.cells.now) (staged-parts c.args.cells.now c.args.many c.args.blocks c.args.phase)))
-      (differs (view (state_of (session c.before.before.before.before.before.before.before.before.before.before.before.before.before.before) c.args.device.now c.args.work.now)) i c.args.name.now _ (view-length (session c.before.before.before.before.before.before.before.before.before.before.before.before.before.before) c.args.device.now c.args.work.now _) (new-length c.args.name.now _ n.1 c.new_record-record.ensures) n.1 (new-name c.args.name.now _ n.1 c.new_record-record.ensures)
-      (free-name (view (state_of (session c.before.before.before.before.before.before.before.before.before.before.before.before.before.before) c.args.device.now c.args.work.now)) i c.args.name.now (new-free (session c.before.before.before.before.before.before.before.before.before.before.before.before.before.before) c.args.device.now c.args.work.now c.args.name.now _ e) low)),
-)
+change_record-requires c =
+    let a = c.args in
+    let s = session_of a.blocks a.phase a.cells.now a.many in
+    let long : length a.cells.now ≡ 32 = search rules in
+    let seen = c.with_cells-volume.ensures in
+    let e = c.in_ok-i.ensures.0 _ seen in
+    let n = new-says s a.device.now a.work.now a.name.now _ e in
+    let few = new-length a.name.now _ n.1 c.new_record-record.ensures in (
+      c.in_ok-i.ensures.1,
+      n.0,
+      long,
+      few,
+      named-anew a.cells.now a.many a.blocks a.phase a.device.now a.work.now _ a.name.now _ few n.1 (new-name a.name.now _ n.1 c.new_record-record.ensures) (new-free s a.device.now a.work.now a.name.now _ e) c.in_ok-i.ensures.1,
+    )
 
-pub returns-in-Bad : goal.returns-in-Bad
-returns-in-Bad c = told _ _ _ _ c.args.device.now c.args.work.now _ (ap (session_of c.args.blocks c.args.phase c.args.cells.now) c.refused_with.ensures.0) c.refused_with.ensures.1
-    (create-bad (session c.before.before.before.before.before.before.before.before.before.before.before) c.args.device.now c.args.work.now c.args.name.now _ (sym (ap looked_of c.in-Bad.is) ∙ found c.before.before.before))
-
-pub returns-in-At : goal.returns-in-At
-returns-in-At c = create-fine (session c.before.before.before.before.before.before.before.before.before.before.before.before.before.before.before.before.before) c.args.device.now c.args.work.now c.args.name.now _ _ _ (sym (ap looked_of c.in-At.is) ∙ found c.before.before.before.before.before.before.before.before.before)
-    (create-stores (view (state_of (session c.before.before.before.before.before.before.before.before.before.before.before.before.before.before.before.before.before) c.args.device.now c.args.work.now)) _ c.args.name.now _ (c.new_record-record.ensures ∙ new-record c.args.name.now)) (c.change_record.ensures c.args.blocks c.args.phase)
+pub returns : goal.returns
+returns c =
+    let a = c.args in
+    let s = session_of a.blocks a.phase a.cells.now a.many in
+    let seen = c.with_cells-volume.ensures in
+    create-fine s a.device.now a.work.now a.name.now _ _ _ (c.in_ok-i.ensures.0 _ seen)
+    (create-stores (view (state_of s a.device.now a.work.now)) _ a.name.now _ (c.new_record-record.ensures ∙ new-record a.name.now)) (c.change_record.ensures a.blocks a.phase)

@@ -1,8 +1,0 @@
-use Rattle.filecheck.proofs.Shape.{nodes-few, nodes-many}
-use Rattle.filecheck.proofs.nodes_for.Goals as goal
-
-pub returns-then-extents-le-SLOTS_PER_INODE : goal.returns-then-extents-le-SLOTS_PER_INODE
-returns-then-extents-le-SLOTS_PER_INODE c = nodes-few _ c.if-extents-le-SLOTS_PER_INODE.true
-
-pub returns : goal.returns
-returns c = nodes-many _ c.if-extents-le-SLOTS_PER_INODE.false

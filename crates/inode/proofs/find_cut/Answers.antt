@@ -1,0 +1,7 @@
+use Prim.Native.Nat.{◌+◌}
+use mathlib.Core.Path.{◌∙◌}
+use Rattle.inode.proofs.Laws.{named-whole}
+use Rattle.inode.proofs.find_cut.Goals as goal
+
+pub returns : goal.returns
+returns c = λ name n e. c.find_whole.ensures name n e ∙ named-whole c.args.table.now _ name c.args.first (c.args.first + 16) c.copy_of.ensures

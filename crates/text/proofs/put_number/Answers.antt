@@ -1,6 +1,0 @@
-use Rattle.text.specs.Written.{number}
-use Rattle.text.proofs.put_number.Goals as goal
-
-pub returns : goal.returns
-unfolding number
-returns c = c.put_digits.ensures

@@ -1,5 +1,0 @@
-use Rattle.checks.proofs.Laws.{told}
-use Rattle.update.proofs.create.Goals as goal
-
-pub returns : goal.returns
-returns c = told _ _ _ _ c.args.device.now _ _ c.finished.ensures.0 c.finished.ensures.1 c.create_in-c.ensures

@@ -7,15 +7,16 @@ use mathlib.Core.Logic.{◌⊎◌, inl, inr}
 use native.Mathlib.Nat.{add-zero}
 use native.Mathlib.Numerals.{add-one}
 use native.Mathlib.Omega.{arith}
-use lib.ListN.{length, take, drop, get_or, set, length-append, length-take, length-drop, length-set, drop_of_length-le}
+use lib.ListN.{length, take, drop, get_or, set, replicate, length-take, length-drop, length-set, drop_of_length-le}
 use lib.Seq.{set_out, take_all, take-take, take-suc-set, get_or-take, drop-cons, take-append_seam, drop-append_seam}
 use Rattle.spec.specs.Bytes.{up_from, place}
 use Rattle.spec.specs.Disk.{Disk}
 use Rattle.spec.specs.Bitmap.{bits_of_byte, bits_of, free_bits, mark, pick, picks}
 use Rattle.spec.specs.declared.DiskBlock.{DiskBlock}
 use Rattle.spec.specs.declared.Extent.{Extent}
-use Rattle.spec.specs.Inode.{data_of, block_of_inode, runs, slots_in}
+use Rattle.spec.specs.Inode.{inode_at, data_of, block_of_inode, blocks_in, runs, slots_in}
 use Rattle.block.proofs.Laws.{lt-or-le}
+use lib.Dec.{eqb}
 use Rattle.std.specs.Prelude.{Some, Option as Returned}
 use Rattle.std.specs.Option.{is_some}
 use Rattle.bitmap.specs.Words.{Table, found_of}
@@ -24,16 +25,13 @@ use mathlib.Core.Option.{Option, none, some}
 use Rattle.inode.specs.declared.Cursor.{Cursor}
 use Rattle.inode.specs.Walk.{Slot, live, leaf, rest_nodes, start_of}
 use Rattle.inode.proofs.Walk.{live-left, nodes-start, weight-start, step-node, step_end}
-use Rattle.extents.specs.declared.Scan.{Scan}
-use Rattle.extents.specs.Stretches.{pending, Starts, NextPiece}
-use Rattle.extents.proofs.Laws.{length_up}
+use Rattle.extents.specs.Stretches.{blocks_at}
+use Rattle.extents.proofs.Laws.{length_up, piece-counts}
 use Rattle.runs.specs.declared.ExtentList.{ExtentList}
 use Rattle.runs.specs.Push.{Holds, Small, Pushed}
 use Rattle.runs.proofs.Laws.{pushed-blocks}
 use Rattle.lists.specs.Bits.{mark-append}
 use Rattle.runs.specs.declared.Nodes.{Nodes}
-use Rattle.alloc.specs.declared.walk.Walk.{Walk}
-use Rattle.alloc.specs.Walk.{Goes}
 use Rattle.alloc.specs.Parts.{data_at, nodes_at, Picked, KeptOf, GaveBack, HeldNodes, TookNodes}
 
 -- ---- picks and marks
@@ -92,7 +90,10 @@ up-append b (suc k) n = let e : suc b + k ≡ b + suc k = omega arith in let f :
 pub run-part : (bits x y : List ℕ) (b k c m : ℕ) → x ≡ mark 0 (up_from b k) bits → c ≡ b + k → y ≡ mark 0 (up_from c m) x → y ≡ mark 0 (up_from b (k + m)) bits
 run-part bits x y b k c m e q h = h ∙ rw (q, e, up-append b k m) (sym (mark-append 0 (up_from b k) (up_from (b + k) m) bits))
 
--- a byte of the table cleared
+up-mark-append : (bits : List ℕ) (b k m : ℕ) → mark 0 (up_from b (k + m)) bits ≡ mark 0 (up_from (b + k) m) (mark 0 (up_from b k) bits)
+up-mark-append bits b k m = ap (λ (bs : List ℕ). mark 0 bs bits) (up-append b k m) ∙ mark-append 0 (up_from b k) (up_from (b + k) m) bits
+
+-- whole bytes of the table cleared
 set-behind : (xs ys : List ℕ) (n k v : ℕ) → n ≡ length xs + k → set (xs ++ ys) n v ≡ xs ++ set ys k v
 set-behind [] ys n k v e = let z : n ≡ k = omega arith in rw z
 set-behind (x ∷ xs) ys zero k v e = absurd (omega arith)
@@ -104,24 +105,46 @@ mark-behind v xs ys a b zero e = refl
 mark-behind v xs ys a b (suc n) e =
     ap (mark v (up_from (suc a) n)) (set-behind xs ys a b v e) ∙ mark-behind v xs (set ys b v) (suc a) (suc b) n (omega arith)
 
-pub byte-cleared : (t : List ℕ) (i : ℕ) → i < length t → bits_of (set t i 0) ≡ mark 0 (up_from (8 * i) 8) (bits_of t)
+-- n bytes of it from i on
+abbrev cleared : List ℕ → ℕ → ℕ → List ℕ
+cleared t i n = take i t ++ (replicate n 0 ++ drop n (drop i t))
+
+zeros-first : (t : List ℕ) (n : ℕ) → n ≤ length t → bits_of (replicate n 0 ++ drop n t) ≡ mark 0 (up_from 0 (8 * n)) (bits_of t)
 unfolding bits_of mark
-byte-cleared [] i h = absurd (omega arith)
-byte-cleared (x ∷ t) zero h = refl
-byte-cleared (x ∷ t) (suc i) h =
+zeros-first t zero h = refl
+zeros-first [] (suc n) h = absurd (omega arith)
+zeros-first (x ∷ t) (suc n) h =
+    let e : 8 * suc n ≡ 8 + 8 * n = omega arith in
+    rw (e, zeros-first t n (omega arith))
+    (sym (up-mark-append (bits_of_byte x ++ bits_of t) 0 8 (8 * n) ∙ mark-behind 0 (bits_of_byte 0) (bits_of t) 8 0 (8 * n) refl))
+
+pub bytes-cleared : (t : List ℕ) (i n : ℕ) → i + n ≤ length t → bits_of (cleared t i n) ≡ mark 0 (up_from (8 * i) (8 * n)) (bits_of t)
+unfolding bits_of mark
+bytes-cleared t zero n h = zeros-first t n (omega arith)
+bytes-cleared [] (suc i) n h = absurd (omega arith)
+bytes-cleared (x ∷ t) (suc i) n h =
     let e : 8 * suc i ≡ 8 + 8 * i = omega arith in
-    rw e (ap (λ (l : List ℕ). bits_of_byte x ++ l) (byte-cleared t i (omega arith)) ∙ sym (mark-behind 0 (bits_of_byte x) (bits_of t) (8 + 8 * i) (8 * i) 8 refl))
+    rw e (ap (λ (l : List ℕ). bits_of_byte x ++ l) (bytes-cleared t i n (omega arith)) ∙ sym (mark-behind 0 (bits_of_byte x) (bits_of t) (8 + 8 * i) (8 * i) (8 * n) refl))
+
+-- as a fill leaves them
+pub bytes_filled : (t zs : List ℕ) (i n : ℕ) → length t ≡ 512 → i + n ≤ 512 → zs ≡ replicate (length (take (i + n - i) (drop i t))) 0
+    → bits_of (take i t ++ (zs ++ drop (i + n - i) (drop i t))) ≡ mark 0 (up_from (8 * i) (8 * n)) (bits_of t)
+bytes_filled t zs i n l h z =
+    let m : i + n - i ≡ n = omega arith in
+    let w : length (take n (drop i t)) ≡ n = omega (arith, length-take n (drop i t), length-drop i t) in
+    rw (z, m, w) (bytes-cleared t i n (omega arith))
 
 -- ---- the blocks of a stretch, piece by piece
 
--- n of the blocks `all` have passed
-pub record Passed (v : Disk) (tb : ℕ) (all : List ℕ) (scan : Scan) (n : ℕ) : Type 0 where
+-- n of the blocks `all` have passed, and the blocks of these pieces are left
+pub record Passed (all : List ℕ) (ps : List Extent) (n : ℕ) : Type 0 where
   pub within : n ≤ length all
-  pub rest : pending v tb scan ≡ drop n all
-  pub room : n + scan.room ≤ 2048
+  pub rest : blocks_in ps ≡ drop n all
+  pub few : length all ≤ 2048
 
-pub pass-start : (v : Disk) (tb i from n : ℕ) (c : Scan) → tb ≡ block_of_inode i → Starts v i from n c → Passed v tb (take n (drop from (data_at v i))) c 0
-pass-start v tb i from n c t s = record { within = omega arith; rest = rw t s.blocks; room = omega (arith, s.room) }
+pub pass-start : (v : Disk) (i from n : ℕ) (ps : List Extent) → blocks_in ps ≡ blocks_at v i from n → Passed (blocks_at v i from n) ps 0
+unfolding data_of
+pass-start v i from n ps s = record { within = omega arith; rest = s; few = simp (length-take, length-drop) (omega arith) }
 
 -- a front that goes on
 record Split (all xs ys : List ℕ) (n m : ℕ) : Type 0 where
@@ -136,78 +159,77 @@ split (suc n) (suc m) (a ∷ rest) xs ys q h e =
     let r = split n m rest xs ys (omega arith) (omega arith) e in
     record { front = ap (λ (l : List ℕ). a ∷ l) r.front; back = r.back }
 
-module _ (v : Disk) (tb : ℕ) (all : List ℕ) (c : Scan) (n : ℕ) (p : Passed v tb all c n) where
-  module _ (e : Extent) (d : Scan) (s : NextPiece v tb c e d) where
-    more : Split all (up_from e.first e.count) (pending v tb d) n (n + e.count)
+module _ (all : List ℕ) (ps : List Extent) (n : ℕ) (p : Passed all ps n) where
+  module _ (e : Extent) (qs : List Extent) (h : ps ≡ e ∷ qs) where
+    blocks : blocks_in ps ≡ up_from e.first e.count ++ blocks_in qs
+    unfolding blocks_in
+    blocks = rw h
+
+    more : Split all (up_from e.first e.count) (blocks_in qs) n (n + e.count)
     more =
-        split n (n + e.count) all (up_from e.first e.count) (pending v tb d) (omega (arith, length_up e.first e.count)) p.within
-        (sym p.rest ∙ s.blocks)
+        split n (n + e.count) all (up_from e.first e.count) (blocks_in qs) (omega (arith, length_up e.first e.count)) p.within
+        (sym p.rest ∙ blocks)
+
+    left : length (drop n all) ≡ e.count + length (blocks_in qs)
+    left = ap length (sym p.rest) ∙ piece-counts ps e qs h
 
     pub pass-taken : take (n + e.count) all ≡ take n all ++ up_from e.first e.count
     pass-taken = more.front
 
-    pub pass-more : Passed v tb all d (n + e.count)
-    pass-more =
-        let l : length (drop n all) ≡ e.count + length (pending v tb d) =
-        ap length (sym p.rest ∙ s.blocks) ∙ length-append (up_from e.first e.count) (pending v tb d)
-        ∙ ap (λ (k : ℕ). k + length (pending v tb d)) (length_up e.first e.count) in
-        record {
-          within = omega (arith, p.within, l, length-drop n all, s.some);
-          rest = sym more.back;
-          room = omega (arith, p.room, s.room);
-        }
+    -- no number grows past its type
+    pub pass-few : n + e.count ≤ 2048
+    pass-few = omega (arith, p.within, p.few, left, length-drop n all)
 
-  module _ (s : pending v tb c ≡ []) where
+    pub pass-more : Passed all qs (n + e.count)
+    pass-more = record { within = omega (arith, p.within, left, length-drop n all); rest = sym more.back; few = p.few }
+
+  module _ (s : ps ≡ []) where
+    nothing : drop n all ≡ []
+    unfolding blocks_in
+    nothing = sym p.rest ∙ rw s
+
     pub pass-count : n ≡ length all
-    pass-count = omega (arith, ap length (sym p.rest ∙ s), length-drop n all, p.within)
+    pass-count = omega (arith, ap length nothing, length-drop n all, p.within)
 
     pub pass_all : take n all ≡ all
     pass_all = take_all n all (omega (arith, pass-count))
 
--- what a step of a walk tells of its stretch
-module _ (v : Disk) (tb : ℕ) (w : Walk) (file : w.record.0 ≡ tb) where
-  pub walk-piece : (e : Extent) (u : Walk) → Goes v w e u → NextPiece v tb w.scan e u.scan
-  walk-piece e u g = rw (← file) g.piece
-
-  pub walk-done : pending v w.record.0 w.scan ≡ [] → pending v tb w.scan ≡ []
-  walk-done h = rw (← file) h
-
 -- ---- blocks kept
 
-pub record Keeping (v : Disk) (tb : ℕ) (all : List ℕ) (scan : Scan) (q : ExtentList) (n : ℕ) : Type 0 where
-  pub passed : Passed v tb all scan n
+pub record Keeping (all : List ℕ) (ps : List Extent) (q : ExtentList) (n : ℕ) : Type 0 where
+  pub passed : Passed all ps n
   pub holds : Holds q (runs (take n all))
   pub small : Small q n
 
-pub keep-start : (v : Disk) (tb i wanted : ℕ) (c : Scan) (q : ExtentList) → tb ≡ block_of_inode i → Starts v i 0 wanted c → Holds q [] → Small q 0
-    → Keeping v tb (take wanted (data_at v i)) c q 0
+pub keep-start : (v : Disk) (i wanted : ℕ) (ps : List Extent) (q : ExtentList) → blocks_in ps ≡ blocks_at v i 0 wanted → Holds q [] → Small q 0
+    → Keeping (take wanted (data_at v i)) ps q 0
 unfolding runs
-keep-start v tb i wanted c q t s h k = record { passed = pass-start v tb i 0 wanted c t s; holds = h; small = k }
+keep-start v i wanted ps q s h k = record { passed = pass-start v i 0 wanted ps s; holds = h; small = k }
 
-pub keep-more : (v : Disk) (tb : ℕ) (all : List ℕ) (c : Scan) (q : ExtentList) (n : ℕ) → Keeping v tb all c q n
-    → (e : Extent) (d : Scan) → NextPiece v tb c e d → (u : ExtentList) → Pushed q e.first e.count u → Keeping v tb all d u (n + e.count)
-keep-more v tb all c q n k e d s u p =
+pub keep-more : (all : List ℕ) (ps : List Extent) (q : ExtentList) (n : ℕ) → Keeping all ps q n
+    → (e : Extent) (qs : List Extent) → ps ≡ e ∷ qs → 0 < e.count → e.first < 131072 → (u : ExtentList) → Pushed q e.first e.count u → Keeping all qs u (n + e.count)
+keep-more all ps q n k e qs h z first u p =
     record {
-      passed = pass-more v tb all c n k.passed e d s;
-      holds = rw (pass-taken v tb all c n k.passed e d s) (pushed-blocks q u e.first e.count p s.some (take n all) k.holds);
-      small = p.small n k.small s.first s.some;
+      passed = pass-more all ps n k.passed e qs h;
+      holds = rw (pass-taken all ps n k.passed e qs h) (pushed-blocks q u e.first e.count p z (take n all) k.holds);
+      small = p.small n k.small first z;
     }
 
-pub keep-end : (v : Disk) (tb wanted : ℕ) (blocks : List ℕ) (c : Scan) (q : ExtentList) (n : ℕ) → Keeping v tb (take wanted blocks) c q n → pending v tb c ≡ [] → KeptOf blocks wanted q n
-keep-end v tb wanted blocks c q n k e =
+pub keep-end : (wanted : ℕ) (blocks : List ℕ) (ps : List Extent) (q : ExtentList) (n : ℕ) → Keeping (take wanted blocks) ps q n → ps ≡ [] → KeptOf blocks wanted q n
+keep-end wanted blocks ps q n k e =
     record {
-      holds = rw (← pass_all v tb (take wanted blocks) c n k.passed e) k.holds;
-      count = pass-count v tb (take wanted blocks) c n k.passed e;
-      few = omega (arith, k.passed.room);
+      holds = rw (← pass_all (take wanted blocks) ps n k.passed e) k.holds;
+      count = pass-count (take wanted blocks) ps n k.passed e;
+      few = omega (arith, k.passed.within, k.passed.few);
       small = k.small;
     }
 
 -- ---- data blocks given back
 
-pub back_more : (v : Disk) (tb : ℕ) (all : List ℕ) (c : Scan) (n : ℕ) → Passed v tb all c n → (e : Extent) (d : Scan) → NextPiece v tb c e d
+pub back_more : (all : List ℕ) (ps : List Extent) (n : ℕ) → Passed all ps n → (e : Extent) (qs : List Extent) → ps ≡ e ∷ qs
     → (bits x y : List ℕ) → x ≡ mark 0 (take n all) bits → y ≡ mark 0 (up_from e.first e.count) x → y ≡ mark 0 (take (n + e.count) all) bits
-back_more v tb all c n p e d s bits x y h k =
-    k ∙ rw (h, pass-taken v tb all c n p e d s) (sym (mark-append 0 (take n all) (up_from e.first e.count) bits))
+back_more all ps n p e qs s bits x y h k =
+    k ∙ rw (h, pass-taken all ps n p e qs s) (sym (mark-append 0 (take n all) (up_from e.first e.count) bits))
 
 data-rest : (v : Disk) (i from : ℕ) → take 2048 (drop from (data_at v i)) ≡ drop from (data_at v i)
 unfolding data_of
@@ -221,14 +243,14 @@ back_none blocks from kept e h t =
     let z : drop from blocks ≡ [] = drop_of_length-le blocks {i = from} (omega (arith, length-take from blocks)) in
     rw z (record { many = refl; bits = refl })
 
-pub back_end : (v : Disk) (tb i from n : ℕ) (c : Scan) → Passed v tb (take 2048 (drop from (data_at v i))) c n → pending v tb c ≡ []
+pub back_end : (v : Disk) (i from n : ℕ) (ps : List Extent) → Passed (take 2048 (drop from (data_at v i))) ps n → ps ≡ []
     → (before after : List ℕ) → bits_of after ≡ mark 0 (take n (take 2048 (drop from (data_at v i)))) (bits_of before)
     → GaveBack (drop from (data_at v i)) before after n
-back_end v tb i from n c p e before after h =
+back_end v i from n ps p e before after h =
     let all = take 2048 (drop from (data_at v i)) in
     record {
-      many = pass-count v tb all c n p e ∙ ap length (data-rest v i from);
-      bits = h ∙ ap (λ (bs : List ℕ). mark 0 bs (bits_of before)) (pass_all v tb all c n p e ∙ data-rest v i from);
+      many = pass-count all ps n p e ∙ ap length (data-rest v i from);
+      bits = h ∙ ap (λ (bs : List ℕ). mark 0 bs (bits_of before)) (pass_all all ps n p e ∙ data-rest v i from);
     }
 
 -- ---- blocks taken
@@ -290,9 +312,11 @@ nodes-only : (v : Disk) (tb : ℕ) (c : Cursor) → rest_nodes v tb (nodes_from 
 unfolding rest_nodes
 nodes-only v tb c = refl
 
-pub gather-start : (v : Disk) (i : ℕ) (c : Cursor) (node : List ℕ) → c ≡ start_of v i → length node ≡ 4 → Gathering v (block_of_inode i) (nodes_at v i) c.top c.tops node 0
+pub gather-start : (v : Disk) (i : ℕ) (c : Cursor) (node : List ℕ) → c ≡ start_of v i → length node ≡ 4 → Gathering v (block_of_inode i) (nodes_at v i) (c.top + 0) (c.tops - 0) node 0
 gather-start v i c node e l =
-    record { few = let w = weight-start v i in rw e (omega arith); full = l; is = rw (nodes-only v (block_of_inode i) c, e) (nodes-start v i) }
+    let y : c.top + 0 ≡ c.top = omega arith in
+    let z : c.tops - 0 ≡ c.tops = omega arith in
+    rw (y, z) (record { few = let w = weight-start v i in rw e (omega arith); full = l; is = rw (nodes-only v (block_of_inode i) c, e) (nodes-start v i) })
 
 module _ (v : Disk) (tb : ℕ) (nodes : List ℕ) (top tops : ℕ) (node : List ℕ) (len : ℕ) (g : Gathering v tb nodes top tops node len)
     (xs : List ℕ) (q : xs ≡ v tb) (e : Extent) (r : Bool) (o : Slot xs top e) (l : r ≡ live tops e) where
@@ -322,6 +346,24 @@ module _ (v : Disk) (tb : ℕ) (nodes : List ℕ) (top tops : ℕ) (node : List 
       let end = step_end v tb (nodes_from top tops) e r none_left s l h in
       let all : take len node ≡ nodes = sym (append-nil (take len node)) ∙ ap (λ (xs : List ℕ). take len node ++ xs) (sym end.nodes) ∙ g.is in
       record { few = omega (arith, g.few); is = all; many = omega (arith, ap length all, length-take len node, g.full, g.few) }
+
+-- no slot is left
+pub gather_end : (v : Disk) (tb : ℕ) (nodes : List ℕ) (top tops : ℕ) (node : List ℕ) (len : ℕ) → Gathering v tb nodes top tops node len → tops ≡ 0
+    → HeldNodes nodes (record { node = node; len = len })
+unfolding rest_nodes leaf slots_in
+gather_end v tb nodes top tops node len g h =
+    let end : rest_nodes v tb (nodes_from top tops) ≡ [] = rw h refl in
+    let all : take len node ≡ nodes = sym (append-nil (take len node)) ∙ ap (λ (xs : List ℕ). take len node ++ xs) (sym end) ∙ g.is in
+    record { few = omega (arith, g.few); is = all; many = omega (arith, ap length all, length-take len node, g.full, g.few) }
+
+-- the slots for nodes stand in the record's block
+pub top-start : (v : Disk) (i : ℕ) → (start_of v i).top ≤ 512
+unfolding start_of
+top-start v i = go (eqb (inode_at v i).depth 0) refl
+  where
+    go : (t : Bool) → eqb (inode_at v i).depth 0 ≡ t → (start_of v i).top ≤ 512
+    go true z = rw z (omega arith)
+    go false z = rw z (omega arith)
 
 -- ---- nodes taken
 
@@ -362,9 +404,6 @@ module _ (t₀ t node₀ node : List ℕ) (k₀ k wanted : ℕ) (f : Filling t�
             (append_assoc (take k₀ node₀) (picks (bits_of t₀) (k - k₀)) (b ∷ []));
         full = length-set node k b ∙ f.full;
       }
-
-  pub fill-room : k < wanted → wanted - k₀ ≤ free_bits (bits_of t₀) → 0 < free_bits (bits_of t)
-  fill-room h r = omega (arith, f.free, f.low)
 
   pub fill_end : wanted ≤ k → (held : Nodes) → held.node ≡ node₀ → held.len ≡ k₀ → TookNodes t₀ t held wanted node
   unfolding picks

@@ -12,13 +12,11 @@ ghost use Rattle.alloc.specs.Parts.{data_at, nodes_at, Picked, KeptOf, GaveBack,
 ghost use Rattle.alloc.specs.Draft.{Drafted};
 
 use bitmap::{clear_bit, free_in, known, lowest_free_from, set_bit};
-use inode::{inode_block, is_live, nodes_for, slot_in, start_at};
+use extents::{Piece, Pieces, Stretch};
+use inode::{InodeNumber, SlotBlock, inode_block, is_live, nodes_for, start_at};
 use runs::{ExtentList, Nodes};
 use spec::{DiskBlock, FileBlock, Limits, Refusal};
 use transaction::WorkingCopy;
-use walk::Walk;
-
-mod walk;
 
 // The tree after a change: its nodes, and how many nodes and data blocks the file held before. Its extents and the bitmap stand in what was lent.
 #[derive(Clone, Copy)]
@@ -54,9 +52,7 @@ fn release_bytes(t: &mut [u8; Limits::BLOCK_SIZE], i: usize, n: usize)
     ensures { bits_of t.new ≡ mark 0 (up_from (8 * i) (8 * n)) (bits_of t.old) }
 {
     known(*t);
-    for k in 0..n {
-        t[i + k] = 0;
-    }
+    t[i..i + n].fill(0);
 }
 
 // Whether m blocks that the table holds together begin at block b, and at least as many are left.
@@ -73,15 +69,15 @@ fn is_span(b: DiskBlock, left: u32, m: u32) -> bool
     b.0 < Limits::BITMAP_BITS
 }
 
-// n blocks from b on given back.
-fn release_run(t: &mut [u8; Limits::BLOCK_SIZE], b: DiskBlock, n: u32)
-    requires { (b.0 < 131072) × (n ≤ 2048) }
-    ensures { bits_of t.new ≡ mark 0 (up_from b.0 n) (bits_of t.old) }
+// The blocks of a piece given back.
+fn release_run(t: &mut [u8; Limits::BLOCK_SIZE], run: Piece)
+    ensures { bits_of t.new ≡ mark 0 (up_from run.extent.first run.extent.count) (bits_of t.old) }
 {
+    let n = run.extent.count;
     let mut k: u32 = 0;
     // A step is of 64, of 8 or of one block, so that no range names them.
     while k < n {
-        let at = DiskBlock(b.0 + k);
+        let at = DiskBlock(run.extent.first + k);
         let left = n - k;
         if is_span(at, left, 64) {
             release_bytes(t, (at.0 / 8) as usize, 8);
@@ -97,15 +93,19 @@ fn release_run(t: &mut [u8; Limits::BLOCK_SIZE], b: DiskBlock, n: u32)
 }
 
 // The extents of the first `wanted` data blocks of record i put in a list; how many blocks they are.
-fn keep(extents: &mut ExtentList, copy: &WorkingCopy, i: usize, wanted: usize) -> usize
-    requires { (i < 128) × Small extents.old 0 }
-    ensures { KeptOf (data_at (working copy.now) i) wanted extents.new result }
+fn keep(extents: &mut ExtentList, copy: &WorkingCopy, i: InodeNumber, wanted: usize) -> usize
+    requires { Small extents.old 0 }
+    ensures { KeptOf (data_at (working copy.now) i.n) wanted extents.new result }
 {
-    let mut walk = Walk::begin(copy, i, FileBlock(0), wanted);
+    let front = Stretch {
+        i,
+        from: FileBlock(0),
+        n: wanted,
+    };
     let mut n: usize = 0;
-    while let Some(e) = walk.next(copy) {
-        extents.push(DiskBlock(e.first), e.count);
-        n += e.count as usize;
+    for e in Pieces::of(copy, front) {
+        extents.push(DiskBlock(e.extent.first), e.extent.count);
+        n += e.extent.count as usize;
     }
     n
 }
@@ -114,21 +114,25 @@ fn keep(extents: &mut ExtentList, copy: &WorkingCopy, i: usize, wanted: usize) -
 fn give_back(
     t: &mut [u8; Limits::BLOCK_SIZE],
     copy: &WorkingCopy,
-    i: usize,
+    i: InodeNumber,
     from: FileBlock,
     kept: usize,
 ) -> usize
-    requires { (i < 128) × (kept ≡ length (take from.0 (data_at (working copy.now) i))) }
-    ensures { GaveBack (drop from.0 (data_at (working copy.now) i)) t.old t.new result }
+    requires { kept ≡ length (take from.0 (data_at (working copy.now) i.n)) }
+    ensures { GaveBack (drop from.0 (data_at (working copy.now) i.n)) t.old t.new result }
 {
     if kept < from.0 {
         return 0;
     }
-    let mut walk = Walk::begin(copy, i, from, Limits::MAX_FILE_BLOCKS);
+    let back = Stretch {
+        i,
+        from,
+        n: Limits::MAX_FILE_BLOCKS,
+    };
     let mut count: usize = 0;
-    while let Some(e) = walk.next(copy) {
-        release_run(t, DiskBlock(e.first), e.count);
-        count += e.count as usize;
+    for e in Pieces::of(copy, back) {
+        release_run(t, e);
+        count += e.extent.count as usize;
     }
     count
 }
@@ -147,25 +151,21 @@ fn take_data(t: &mut [u8; Limits::BLOCK_SIZE], extents: &mut ExtentList, kept: u
 }
 
 // The nodes of record i, of the block of the table that holds it.
-fn held_nodes(table: &[u8], i: usize) -> Nodes
-    requires { (i < 128) × (length table.now ≤ 512) }
-    ensures { (v : Disk) → exactly 512 table.now ≡ v (block_of_inode i) → HeldNodes (nodes_at v i) result }
+fn held_nodes(table: &SlotBlock, i: InodeNumber) -> Nodes
+    ensures { (v : Disk) → exactly 512 table.now.bytes.now ≡ v (block_of_inode i.n) → HeldNodes (nodes_at v i.n) result }
 {
-    let cur = start_at(table, i);
-    let mut top = cur.top;
-    let mut tops = cur.tops;
+    let cur = start_at(table.bytes, i);
     let mut node = [0u32; 4];
-    let mut len: usize = 0;
-    // The slots end at the first one that is not used: no range names them.
-    loop {
-        let e = slot_in(table, top);
-        if !is_live(tops, e) {
+    for len in 0..cur.tops {
+        let e = table.slot(cur.top + Limits::SLOT_SIZE * len);
+        if !is_live(cur.tops - len, e) {
             return Nodes { node, len };
         }
         node[len] = e.first;
-        len += 1;
-        top += 4;
-        tops -= 1;
+    }
+    Nodes {
+        node,
+        len: cur.tops,
     }
 }
 
@@ -196,11 +196,11 @@ pub fn draft_of(
     table: &mut [u8; Limits::BLOCK_SIZE],
     extents: &mut ExtentList,
     copy: &WorkingCopy,
-    i: usize,
+    i: InodeNumber,
     wanted: usize,
 ) -> Result<Draft, Refusal>
-    requires { (i < 128) × (wanted ≤ 8388608) × (table.old ≡ working copy.now 33) × Small extents.old 0 }
-    ensures { Drafted (working copy.now) i wanted table.new extents.new result }
+    requires { (wanted ≤ 8388608) × (table.old ≡ working copy.now 33) × Small extents.old 0 }
+    ensures { Drafted (working copy.now) i.n wanted table.new extents.new result }
 {
     let free = free_in(table);
     let kept = keep(extents, copy, i, wanted);
@@ -209,7 +209,10 @@ pub fn draft_of(
         return Err(Refusal::NoSpace);
     }
     take_data(table, extents, kept, fresh);
-    let held = held_nodes(inode_block(copy, i), i);
+    let records = SlotBlock {
+        bytes: inode_block(copy, i),
+    };
+    let held = held_nodes(&records, i);
     let nodes = nodes_for(extents.len);
     let lacking = nodes.saturating_sub(held.len);
     if free < fresh + lacking {

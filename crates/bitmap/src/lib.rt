@@ -70,7 +70,7 @@ pub fn set_bit(t: &mut [u8; Limits::BLOCK_SIZE], b: DiskBlock)
     t[i] = t[i] | m;
 }
 
-// The bit of block b becomes 0.
+// The bit of block b becomes 0. It is set_bit with another operator: one function of both would test at each call which.
 pub fn clear_bit(t: &mut [u8; Limits::BLOCK_SIZE], b: DiskBlock)
     requires { b.0 < 4096 }
     ensures { bits_of t.new ≡ set (bits_of t.old) b.0 0 }

@@ -5,13 +5,8 @@ ghost use Rattle.std.specs.Prelude.{◌≡◌, ◌<◌};
 ghost use Rattle.spec.specs.Bitmap.{bits_of, free_bits};
 
 use spec::{DiskBlock, Limits};
-use std::fmt::Display;
 use std::io;
-
-fn number<D: Display + Drop>(rt: &impl Print, n: D) -> io::Result<()> {
-    rt.write_all(b" ")?;
-    rt.print(n)
-}
+use trial::number;
 
 fn show(rt: &impl Print, name: &[u8], t: &[u8; Limits::BLOCK_SIZE]) -> io::Result<()> {
     rt.write_all(name)?;
@@ -32,6 +27,7 @@ fn take_all(table: [u8; Limits::BLOCK_SIZE]) -> usize
     let mut t = table;
     let mut from: usize = 0;
     let mut n: usize = 0;
+    // Each turn changes the table that the next one searches, so there is no list of bits to go over.
     while let Some(b) = bitmap::lowest_free_from(&t, from) {
         bitmap::set_bit(&mut t, b);
         from = (b.0 / 64) as usize;

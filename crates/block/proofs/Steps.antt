@@ -1,19 +1,17 @@
 -- What the functions of this crate leave to prove. Assumes nothing.
 use Prim.Native.Nat.{ℕ, zero, suc, ◌+◌, ◌*◌, ◌-◌, ◌<◌, ◌≤◌, min}
-use mathlib.Core.Path.{◌≡◌, refl, sym, ap, ◌∙◌}
-use mathlib.Core.Bool.{Bool, true, false, cond}
+use mathlib.Core.Path.{◌≡◌, sym, ap, ◌∙◌}
 use mathlib.Core.List.{List, [], ◌∷◌, ◌++◌}
 use mathlib.Core.Logic.{⊎_elim}
 use native.Mathlib.Numerals.{add-one}
 use native.Mathlib.Omega.{arith}
-use borrow.Author.Tests.{lt-ltb, le-ltb, le-leb, lt-leb}
-use lib.Dec.{leb, ltb}
+use borrow.Author.Tests.{lt-ltb, le-ltb}
 use Rattle.std.proofs.lemmas.List.{drop-replicate}
 use lib.ListN.{length, take, drop, get_or, set, replicate, length-drop, drop_of_length-le}
 use lib.Seq.{take-suc, take-suc-set, take-nil, take_all, drop-drop}
 use Rattle.spec.specs.Bytes.{exactly}
-use Rattle.spec.specs.Disk.{slice_of, area_of, is_data_area, is_target_area}
-use Rattle.spec.specs.declared.Area.TheVariants.{Header, Log, Bitmap, Inodes, Data}
+use Rattle.spec.specs.Disk.{slice_of, area_of}
+use Rattle.spec.specs.declared.Area.TheVariants.{Log, Inodes, Data}
 use Rattle.block.specs.Stores.{stored_in}
 use Rattle.block.proofs.Laws.{lt-or-le, length-patch, blocks-patch}
 
@@ -30,42 +28,6 @@ area-inodes b g h = simp (le-ltb b 1 (omega arith), le-ltb b 33 (omega arith), l
 pub area-data : (b : ℕ) → 42 ≤ b → Data ≡ area_of b
 unfolding area_of
 area-data b g = simp (le-ltb b 1 (omega arith), le-ltb b 33 (omega arith), le-ltb b 34 (omega arith), le-ltb b 42 (omega arith))
-
--- the areas of data blocks and of targets are the last ones
-pub data-area : (b : ℕ) → leb 42 b ≡ is_data_area (area_of b)
-unfolding area_of
-data-area b = ⊎_elim below above (lt-or-le b 42)
-  where
-    below : b < 42 → leb 42 b ≡ is_data_area (area_of b)
-    below h = rw (lt-leb 42 b h, lt-ltb b 42 h) (go (ltb b 1) (ltb b 33) (ltb b 34))
-      where
-        go : (t u v : Bool) → false ≡ is_data_area (cond t Header (cond u Log (cond v Bitmap Inodes)))
-        go true u v = refl
-        go false true v = refl
-        go false false true = refl
-        go false false false = refl
-
-    above : 42 ≤ b → leb 42 b ≡ is_data_area (area_of b)
-    above h = rw (le-leb 42 b h, ← area-data b h)
-
-pub target-area : (b : ℕ) → leb 33 b ≡ is_target_area (area_of b)
-unfolding area_of
-target-area b = ⊎_elim below above (lt-or-le b 33)
-  where
-    below : b < 33 → leb 33 b ≡ is_target_area (area_of b)
-    below h = rw (lt-leb 33 b h, lt-ltb b 33 h) (go (ltb b 1))
-      where
-        go : (t : Bool) → false ≡ is_target_area (cond t Header Log)
-        go true = refl
-        go false = refl
-
-    above : 33 ≤ b → leb 33 b ≡ is_target_area (area_of b)
-    above h = rw (le-leb 33 b h, le-ltb b 1 (omega arith), le-ltb b 33 h) (go (ltb b 34) (ltb b 42))
-      where
-        go : (u v : Bool) → true ≡ is_target_area (cond u Bitmap (cond v Inodes Data))
-        go true v = refl
-        go false true = refl
-        go false false = refl
 
 -- ---- stores
 

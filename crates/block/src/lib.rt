@@ -23,18 +23,28 @@ pub fn area_of(b: DiskBlock) -> Area
     }
 }
 
-// Within 42 to N-1.
+// Within 42 to N-1, by the area. It differs from is_target by the areas alone: one function of both would take a list of them.
+#[tactic(auto, unfolding(spec::specs::Disk::in_data))]
 pub fn in_data(blocks: usize, b: DiskBlock) -> bool
     ensures { result ≡ in_data blocks b.0 }
 {
-    (Limits::DATA_START <= b.0) & ((b.0 as usize) < blocks)
+    let inside = (b.0 as usize) < blocks;
+    match area_of(b) {
+        Area::Header | Area::Log | Area::Bitmap | Area::Inodes => false,
+        Area::Data => inside,
+    }
 }
 
-// Within 33 to N-1.
+// Within 33 to N-1, by the area.
+#[tactic(auto, unfolding(spec::specs::Disk::is_target))]
 pub fn is_target(blocks: usize, b: DiskBlock) -> bool
     ensures { result ≡ is_target blocks b.0 }
 {
-    (Limits::BITMAP_BLOCK <= b.0) & ((b.0 as usize) < blocks)
+    let inside = (b.0 as usize) < blocks;
+    match area_of(b) {
+        Area::Header | Area::Log => false,
+        Area::Bitmap | Area::Inodes | Area::Data => inside,
+    }
 }
 
 // The byte at a place, 0 past the end.
@@ -66,6 +76,7 @@ pub fn load4(bytes: &[u8], at: usize) -> u32
     load2(bytes, at) + 65536 * load2(bytes, at + 2)
 }
 
+// Two functions, by their number of bytes: one over the width would want a trait for std's to_le_bytes of each type.
 pub fn store2(bytes: &mut [u8], at: usize, n: u32)
     requires { at + 2 ≤ length bytes.old }
     ensures { bytes.new ≡ patch at (bytes2 n) bytes.old }
@@ -108,7 +119,7 @@ pub fn copy_of(bytes: &[u8]) -> [u8; Limits::BLOCK_SIZE]
     out
 }
 
-// Block b stored.
+// Block b stored. That it lies within the bytes stands here and in the two functions below: a type that says so would lend the bytes anew for each block.
 pub fn store_block(bytes: &mut [u8], b: DiskBlock, x: &[u8; Limits::BLOCK_SIZE])
     requires { 512 * b.0 + 512 ≤ length bytes.old }
     ensures { slice_of bytes.new ≡ stored_in (slice_of bytes.old) b.0 x.now }

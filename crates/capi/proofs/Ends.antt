@@ -8,12 +8,13 @@ use Rattle.std.specs.Prelude.{Result as Returned}
 use Rattle.spec.specs.declared.Session.{Session}
 use Rattle.spec.specs.declared.Refusal.{Refusal}
 use Rattle.spec.specs.declared.Refusal.TheVariants.{DeviceSize, WorkSize, BadName, TooLarge, BadHeader, Unsound, NotReady, Unknown, Taken, NoInode, NoSpace, TooManyExtents, TooManyStaged, ListShort}
-use Rattle.spec.specs.Answers.{Answer, is_refused, refusal_of, started_of}
+use Rattle.spec.specs.Answers.{Answer, is_refused, refusal_of, started_of, done_of}
 use Rattle.spec.specs.Transaction.{State, state_of}
 use Rattle.spec.specs.Calls.{Outcome, outcome, left}
 use Rattle.block.proofs.Laws.{slice-bytes}
 use Rattle.transaction.specs.Places.{session_of}
-use Rattle.checks.specs.Checks.{changed_of, in_use}
+use Rattle.transaction.specs.LentSessions.{state_lent, Kept}
+use Rattle.transaction.specs.declared.lent_session.LentSession.{LentSession}
 use Rattle.capi.specs.declared.Parts.{Parts}
 use Rattle.capi.specs.Cells.{parts_in}
 use Rattle.mirror.specs.declared.CFinished.{CFinished}
@@ -127,12 +128,22 @@ module _ (f : State → Outcome) (k : (s : State) → Still (outcome s) (f s)) (
     pub ends-settled : l ≡ unless_refused a cells s.staged → Ends m r (lent ns cells device work) (lent after l d w) f
     ends-settled c = ends_of (c ∙ cells_left (lent ns cells device work) (f (state_of (decode (head_in ns) cells) device work)) (k (state_of (decode (head_in ns) cells) device work)) s d w a at-lent)
 
--- a call that is lent the cells
+-- a call of a session that is lent in the parts l, which it leaves as m
 module _ (f : State → Outcome) (k : (s : State) → Still (outcome s) (f s)) (ns cells device work : List ℕ) (s : Parts) (is : s ≡ parts_in ns) where
-  pub ends-in : (c : Returned ℕ Refusal) (left-cells d w : List ℕ)
-      → left (session_of s.blocks s.phase left-cells (in_use s.count c)) d w (changed_of c) ≡ f (state_of (session_of s.blocks s.phase cells s.count) device work)
-      → (r : CFinished) (after : List ℕ) → (r ≡ finished_of (changed_of c)) × (after ≡ unless_refused (changed_of c) ns (numbers_of (head_of s.blocks s.phase (in_use s.count c))))
-      → Ends finished_of r (lent ns cells device work) (lent after left-cells d w) f
-  ends-in c left-cells d w q r after g =
-      ends_of f k ns cells device work (session_of s.blocks s.phase cells s.count) (lent-session s ns cells is) finished_of (session_of s.blocks s.phase left-cells (in_use s.count c)) d w
-      (changed_of c) q r g.0 after left-cells g.1 refl
+  pub ends-in : (l m : LentSession)
+      → (l.device.now ≡ device) × (l.work.now ≡ work) × (l.blocks ≡ s.blocks) × (l.phase ≡ s.phase) × (l.cells.now ≡ cells) × (l.count ≡ s.count)
+      → Kept l m → (answer : Returned (Unit {0}) Refusal) → outcome (state_lent m) (done_of answer) ≡ f (state_lent l)
+      → (r : CFinished) (after : List ℕ)
+      → (r ≡ finished_of (done_of answer)) × (after ≡ unless_refused (done_of answer) ns (numbers_of (head_of s.blocks s.phase m.count)))
+      → (left-cells left-work : List ℕ) → left-cells ≡ m.cells.now → left-work ≡ m.work.now
+      → Ends finished_of r (lent ns cells device work) (lent after left-cells device left-work) f
+  ends-in l m p h answer q r after g left-cells w ec ew =
+      let b = session_of s.blocks s.phase cells s.count in
+      let t = session_of s.blocks s.phase left-cells m.count in
+      let e : state_lent l ≡ state_of b device work = rw (p.0, p.1, p.2, p.3, p.4, p.5) in
+      let hd : m.device.now ≡ device = h.device ∙ p.0 in
+      let hb : m.blocks ≡ s.blocks = h.blocks ∙ p.2 in
+      let hp : m.phase ≡ s.phase = h.phase ∙ p.3 in
+      let u : state_of t device w ≡ state_lent m = rw (ec, ew, hd, hb, hp) in
+      ends_of f k ns cells device work b (lent-session s ns cells is) finished_of t device w (done_of answer)
+      (ap (λ (z : State). outcome z (done_of answer)) u ∙ q ∙ ap f e) r g.0 after left-cells g.1 refl

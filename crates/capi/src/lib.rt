@@ -3,22 +3,21 @@
 // session that the numbers and the cells given stand for.
 // A refusal leaves all that is lent as it was, numbers that the store did not make too. A call that is accepted leaves the session's own numbers:
 // phase 0 where the number given was none, place 0 where the phase has none.
+// Device, work space, numbers and cells are lent to each call by themselves, and each call is a function of its own, since C declares them so.
 #![tactic(auto)]
 
-ghost use Rattle.std.specs.Prelude.{◌≡◌, List, ℕ, ◌<◌, ◌≤◌, length};
+ghost use Rattle.std.specs.Prelude.{◌≡◌, List, ℕ, ◌/◌, ◌<◌, ◌≤◌, length};
 ghost use Rattle.spec.specs.Answers.{done_of, started_of, stored_of, counted_of as answer_of};
 ghost use Rattle.spec.specs.Transaction.{State, state_of};
 ghost use Rattle.spec.specs.Calls.{format, open_store, advance, commit, abort, create, remove, rename, write, set_size, read, size_of, free_count, record_at, nth_extent, run_list};
 ghost use Rattle.journal.specs.Entries.{behind, begun_phase};
-ghost use Rattle.checks.specs.Checks.{changed_of, in_use};
 ghost use Rattle.transaction.specs.Places.{session_of};
 ghost use Rattle.transaction.specs.Volumes.{working, Shows};
 ghost use Rattle.extents.specs.Stretches.{runs_in};
-ghost use Rattle.capi.specs.Cells.{parts_in, Put, Last, Listed};
-ghost use Rattle.mirror.specs.Mirror.{head_in, numbers_of, head_of, decode, encode, finished_of, committed_of, advanced_of, counted_of, run_of, unless_refused, lent, Ends, Reads, Names, Lists, extents_of};
+ghost use Rattle.capi.specs.Cells.{parts_in};
+ghost use Rattle.mirror.specs.Mirror.{head_in, numbers_of, head_of, decode, encode, finished_of, committed_of, advanced_of, counted_of, run_of, unless_refused, lent, Ends, Reads, Names, Lists, extents_of, with_extents};
 
-use extents::{AtSlot, pass_slots, stretch_at, take_node, take_slot};
-use inode::inode_block;
+use extents::{Runs, Stretch, count_runs};
 use journal::{advance_in, begun_phase, commit_in, last_phase, phase_at};
 use lookup::look_up;
 use mirror::{
@@ -28,7 +27,7 @@ use mirror::{
 use query::{free_count_in, nth_extent_in, read_in, record_in, size_in};
 use spec::{Answered, BlockStored, ByteOffset, Extent, FileBlock, Limits, Phase, Refusal};
 use store::{abort, format, open_store};
-use transaction::{Volume, WorkingCopy, staged_in};
+use transaction::{LentSession, Volume, WorkingCopy, staged_in};
 use update::{create_in, remove_in, rename_in, set_size_in, write_in};
 
 // The session that lent numbers stand for, but for its cells: how many of them are in use.
@@ -60,7 +59,7 @@ impl Parts {
     ) -> Volume<'a>
         ensures { Shows result (state_of (session_of self.blocks self.phase staged.now self.count) device.now work.now) }
     {
-        Volume::with_cells(device, work, self.blocks, self.phase, staged, self.count)
+        Volume::of_parts(device, work, self.blocks, self.phase, staged, self.count)
     }
 
     // The numbers become those of a session on the same blocks.
@@ -207,13 +206,14 @@ pub extern "C" fn purse_abort_v(
     settled(numbers, staged, after)
 }
 
-// What a call that is lent a session's cells leaves in its numbers: the same where it is refused, else blocks and phase as they were.
-fn changed(numbers: &mut [u64; 4], s: Parts, c: Result<usize, Refusal>) -> CFinished
-    ensures { (result ≡ finished_of (changed_of c))
-        × (numbers.new ≡ unless_refused (changed_of c) numbers.old (numbers_of (head_of s.blocks s.phase (in_use s.count c)))) }
+// What a call that changes a lent session leaves in its numbers: the same where it is refused, else blocks and phase as they were, and how many cells are
+// in use.
+fn changed(numbers: &mut [u64; 4], s: Parts, count: usize, answer: Result<(), Refusal>) -> CFinished
+    ensures { (result ≡ finished_of (done_of answer))
+        × (numbers.new ≡ unless_refused (done_of answer) numbers.old (numbers_of (head_of s.blocks s.phase count))) }
 {
-    match c {
-        Ok(count) => {
+    match answer {
+        Ok(_) => {
             s.keep(numbers, s.phase, count);
             finished(Ok(()))
         }
@@ -234,8 +234,10 @@ pub extern "C" fn purse_create_v(
         (lent numbers.new staged.new device.now work.new) (λ s. create s name.now) }
 {
     let s = Parts::of(numbers);
-    let c = create_in(device, work, s.blocks, s.phase, staged, s.count, name);
-    changed(numbers, s, c)
+    let mut session = LentSession::new(device, work, s.blocks, s.phase, staged, s.count);
+    let answer = create_in(&mut session, name);
+    let count = session.count;
+    changed(numbers, s, count, answer)
 }
 
 // Removes a file.
@@ -251,8 +253,10 @@ pub extern "C" fn purse_remove_v(
         (lent numbers.new staged.new device.now work.new) (λ s. remove s name.now) }
 {
     let s = Parts::of(numbers);
-    let c = remove_in(device, work, s.blocks, s.phase, staged, s.count, name);
-    changed(numbers, s, c)
+    let mut session = LentSession::new(device, work, s.blocks, s.phase, staged, s.count);
+    let answer = remove_in(&mut session, name);
+    let count = session.count;
+    changed(numbers, s, count, answer)
 }
 
 // Names a file anew.
@@ -269,8 +273,10 @@ pub extern "C" fn purse_rename_v(
         (lent numbers.new staged.new device.now work.new) (λ s. rename s name.now new.now) }
 {
     let s = Parts::of(numbers);
-    let c = rename_in(device, work, s.blocks, s.phase, staged, s.count, name, new);
-    changed(numbers, s, c)
+    let mut session = LentSession::new(device, work, s.blocks, s.phase, staged, s.count);
+    let answer = rename_in(&mut session, name, new);
+    let count = session.count;
+    changed(numbers, s, count, answer)
 }
 
 // Bytes laid over a file from byte x on.
@@ -288,18 +294,10 @@ pub extern "C" fn purse_write_v(
         (lent numbers.new staged.new device.now work.new) (λ s. write s name.now x bytes.now) }
 {
     let s = Parts::of(numbers);
-    let c = write_in(
-        device,
-        work,
-        s.blocks,
-        s.phase,
-        staged,
-        s.count,
-        name,
-        ByteOffset(x as usize),
-        bytes,
-    );
-    changed(numbers, s, c)
+    let mut session = LentSession::new(device, work, s.blocks, s.phase, staged, s.count);
+    let answer = write_in(&mut session, name, ByteOffset(x as usize), bytes);
+    let count = session.count;
+    changed(numbers, s, count, answer)
 }
 
 // A file cut, or lengthened by zeros.
@@ -316,17 +314,10 @@ pub extern "C" fn purse_set_size_v(
         (lent numbers.new staged.new device.now work.new) (λ s. set_size s name.now size) }
 {
     let s = Parts::of(numbers);
-    let c = set_size_in(
-        device,
-        work,
-        s.blocks,
-        s.phase,
-        staged,
-        s.count,
-        name,
-        size as usize,
-    );
-    changed(numbers, s, c)
+    let mut session = LentSession::new(device, work, s.blocks, s.phase, staged, s.count);
+    let answer = set_size_in(&mut session, name, size as usize);
+    let count = session.count;
+    changed(numbers, s, count, answer)
 }
 
 // Bytes of a file from byte x on, as many as the buffer takes and the file has; how many.
@@ -419,73 +410,15 @@ pub extern "C" fn purse_nth_extent_v<'a>(
     ))
 }
 
-// Run k into its pair of cells, where there is one.
-fn put_run(list: &mut [u32], k: usize, run: Extent)
-    ensures { Put list.old list.new k run }
+// The runs of a stretch into pairs of cells, where there are pairs for all.
+fn put_runs(copy: &WorkingCopy, stretch: Stretch, list: &mut [u32])
+    requires { length (runs_in (working copy.now) stretch.i.n stretch.from.0 stretch.n) ≤ length list.old / 2 }
+    ensures { list.new ≡ with_extents list.old (runs_in (working copy.now) stretch.i.n stretch.from.0 stretch.n) }
 {
-    if k < list.len() / 2 {
+    for (k, run) in Runs::of(copy, stretch).enumerate() {
         list[2 * k] = run.first;
         list[2 * k + 1] = run.count;
     }
-}
-
-// The last run, if there is one; how many there are.
-fn put_last(list: &mut [u32], k: usize, run: Extent) -> usize
-    requires { k ≤ 2048 }
-    ensures { Last list.old list.new k run result }
-{
-    if run.count == 0 {
-        return k;
-    }
-    put_run(list, k, run);
-    k + 1
-}
-
-// The runs of n data blocks of record i from block `from` on, into pairs of cells as far as there are pairs; how many.
-fn put_runs(copy: &WorkingCopy, i: usize, from: FileBlock, n: usize, list: &mut [u32]) -> usize
-    requires { i < 128 }
-    ensures { Listed (runs_in (working copy.now) i from.0 n) list.old list.new result }
-{
-    let table = inode_block(copy, i);
-    let mut scan = stretch_at(table, i, from, n);
-    let mut block = table;
-    let mut run = Extent { first: 0, count: 0 };
-    let mut k = 0;
-    while 0 < scan.room {
-        match take_slot(block, scan) {
-            AtSlot::Piece(e, then) => {
-                if run.count == 0 {
-                    run = e;
-                } else if run.first + run.count == e.first {
-                    run.count += e.count;
-                } else {
-                    put_run(list, k, run);
-                    k += 1;
-                    run = e;
-                }
-                scan = then;
-            }
-            AtSlot::Passed(then) => {
-                scan = pass_slots(block, then);
-            }
-            AtSlot::Unused => {
-                let Some((b, then)) = take_node(table, scan) else {
-                    return put_last(list, k, run);
-                };
-                block = copy.block(b);
-                scan = then;
-            }
-        }
-    }
-    put_last(list, k, run)
-}
-
-// How many runs they have: the same walk with no pair of cells.
-fn count_runs(copy: &WorkingCopy, i: usize, from: FileBlock, n: usize) -> usize
-    requires { i < 128 }
-    ensures { result ≡ length (runs_in (working copy.now) i from.0 n) }
-{
-    put_runs(copy, i, from, n, &mut [])
 }
 
 // 1, 2, 3, 12, 13 and 19, or the run list put into pairs of cells: the tree once for the count, and once for the runs.
@@ -500,11 +433,12 @@ fn list_runs(
         (run_list s name.now from.0 n (extents_of list.old)) }
 {
     let i = look_up(volume, name)?;
-    let count = count_runs(&volume.copy, i, from, n);
+    let stretch = Stretch { i, from, n };
+    let count = count_runs(&volume.copy, stretch);
     if list.len() / 2 < count {
         return Err(Refusal::ListShort);
     }
-    put_runs(&volume.copy, i, from, n, list);
+    put_runs(&volume.copy, stretch, list);
     Ok(count)
 }
 

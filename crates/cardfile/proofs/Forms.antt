@@ -15,7 +15,7 @@ use lib.Dec.{eqb, leb}
 use borrow.Author.Tests.{eqb-true, eqb-false, eq-eqb, ne_eqb, lt-ltb, le-ltb, lt-leb, le-leb, leb-true}
 use Rattle.spec.specs.Bytes.{occurs, exactly}
 use Rattle.spec.specs.Listing.{decimal}
-use Rattle.cardfile.specs.Cards.{number_of, bytes_of, name_of, amount_bytes, read_hex, read_decimal, within, serial_h, serial_d, serial_of, amount_of, Entry, entry, before, split, entry_of}
+use Rattle.cardfile.specs.Cards.{bytes_of, name_of, amount_bytes, read_hex, read_decimal, within, serial_h, serial_d, serial_of, amount_of, Entry, entry, before, split, entry_of}
 use Rattle.cardfile.specs.Lines.{number_told, serial_told, form_told, formed, letter_of, spelling_of, spelling_for, serial_for, standing_in, standing, line_told, line_in, line_at, card_for, line_of, line_number, name_told}
 use Rattle.cardfile.specs.declared.Spelling.{Spelling}
 use Rattle.cardfile.specs.declared.Spelling.TheVariants.{Hexadecimal, Decimal}

@@ -1,7 +1,7 @@
 // The printer's file: what stands at a place of it, line by line. What a line says is defined in specs/Cards.antt, what stands at a place in specs/Lines.antt.
 #![tactic(auto)]
 
-ghost use Rattle.std.specs.Prelude.{◌≡◌, ◌+◌, ◌*◌, ◌<◌, ◌≤◌, ◌^◌, ◌==◌, min, position, length};
+ghost use Rattle.std.specs.Prelude.{◌≡◌, ◌+◌, ◌-◌, ◌*◌, ◌<◌, ◌≤◌, ◌^◌, ◌==◌, min, position, length};
 ghost use Rattle.cardfile.specs.Cards.{before, digit_value, hex_value, hex_byte, read_hex, read_decimal, within, serial_h, serial_d, serial_of, amount_of, entry_of, amount_bytes};
 ghost use Rattle.cardfile.specs.Lines.{line_of, line_number, below, letter_of, spelling_of, number_told, bytes_told, serial_told, form_told, line_in, line_at, name_told};
 
@@ -98,7 +98,7 @@ pub enum LineFault {
     BadForm,
 }
 
-// The place of the first x.
+// The place of the first x: in a function of its own, where the proof finds what std's position answers; within `until` it did not.
 fn place_of(s: &[u8], x: u8) -> Option<usize>
     ensures { result ≡ position (λ c. c == x) s.now }
 {
@@ -297,6 +297,39 @@ pub fn line_at(text: &[u8], at: usize) -> Result<Option<Line>, LineFault>
     line_in(&text[at..], at)
 }
 
+// The lines of a text, one by one, each with its card or its fault. A fault is the last.
+#[derive(Clone, Copy)]
+pub struct Lines<'a> {
+    text: &'a [u8],
+    at: usize,
+}
+
+impl<'a> Lines<'a> {
+    // From the first line on.
+    pub fn of(text: &'a [u8]) -> Lines<'a>
+        ensures { (result.text.now ≡ text.now) × (result.at ≡ 0) }
+    {
+        Lines { text, at: 0 }
+    }
+}
+
+impl<'a> Iterator for Lines<'a> {
+    ghost use Rattle.cardfile.specs.Steps.{LineStep};
+    ghost use Rattle.std.specs.Iterator.{at_most};
+
+    type Item = Result<Line, LineFault>;
+
+    ghost next_gives = { LineStep };
+
+    ghost remaining = { λ s. at_most (length s.text.now - s.at) };
+
+    fn next(&mut self) -> Option<Result<Line, LineFault>> {
+        let found = line_at(self.text, self.at).transpose()?;
+        self.at = found.map_or(self.text.len(), |line| line.next);
+        Some(found)
+    }
+}
+
 // The number of the line at a place, counted from 1.
 pub fn line_number(text: &[u8], at: usize) -> usize
     ensures { result ≡ line_number text.now at }
@@ -305,7 +338,7 @@ pub fn line_number(text: &[u8], at: usize) -> usize
     1 + text[..end].iter().filter(|c| **c == b'\n').count()
 }
 
-// The name of a card: the number of its serial's bytes, these bytes, zeros.
+// The name of a card (that of a record is read by crate inode): the number of its serial's bytes, these bytes, zeros.
 #[tactic(auto, using(crate::proofs::Forms::bytes_rules))]
 pub fn name_of(card: Card) -> [u8; 8]
     ensures { result ≡ name_told card.serial.bytes card.serial.number }

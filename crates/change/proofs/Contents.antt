@@ -8,7 +8,7 @@ use Rattle.spec.specs.Bytes.{patch}
 use Rattle.spec.specs.Disk.{Disk}
 use Rattle.spec.specs.Inode.{place_of_inode, node_bytes}
 use Rattle.spec.specs.Plan.{new_content}
-use Rattle.spec.specs.declared.FileBlock.{FileBlock}
+use Rattle.runs.specs.declared.DataBlock.{DataBlock}
 use Rattle.runs.specs.Runs.{listed}
 use Rattle.content.specs.Content.{with_record, node_content, data_content}
 use Rattle.agenda.specs.declared.Content.TheVariants.{Bitmap, Record, Node, Data}
@@ -29,7 +29,7 @@ module _ (i : ℕ) (c : Change) (x : ℕ) (bytes old q : List ℕ) where
   unfolding content_of
   made-node j e = e
 
-  pub made-data : (p : FileBlock) → q ≡ data_content c.tree.held c.old c.size x bytes p.0 old → q ≡ content_of i c x bytes (Data p) old
+  pub made-data : (p : DataBlock) → q ≡ data_content c.tree.held c.old c.size x bytes p.0 old → q ≡ content_of i c x bytes (Data p) old
   unfolding content_of
   made-data p e = e
 
@@ -43,7 +43,7 @@ module _ (i : ℕ) (c : Change) (x : ℕ) (bytes y z : List ℕ) where
   unfolding content_of
   anew-node j = refl
 
-  pub anew-data : (p : FileBlock) → c.tree.held ≤ p.0 → content_of i c x bytes (Data p) y ≡ content_of i c x bytes (Data p) z
+  pub anew-data : (p : DataBlock) → c.tree.held ≤ p.0 → content_of i c x bytes (Data p) y ≡ content_of i c x bytes (Data p) z
   unfolding content_of data_content
   anew-data p h = rw (le-leb c.tree.held p.0 h)
 
@@ -75,6 +75,6 @@ module _ (i : ℕ) (c : Change) (x : ℕ) (bytes : List ℕ) (old : List ℕ) wh
   unfolding content_of node_content
   content-node j = refl
 
-  pub content-data : (p : FileBlock) → content_of i c x bytes (Data p) old ≡ new_content c.tree.held c.old c.size x bytes p.0 old
+  pub content-data : (p : DataBlock) → content_of i c x bytes (Data p) old ≡ new_content c.tree.held c.old c.size x bytes p.0 old
   unfolding content_of data_content
   content-data p = refl

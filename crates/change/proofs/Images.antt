@@ -1,28 +1,25 @@
 -- Laws of comparing a block with its new content, and of making that in its image. Assumes nothing.
-use Prim.Native.Nat.{ℕ, ◌+◌, ◌*◌, ◌-◌, ◌<◌, ◌≤◌, min}
+use Prim.Native.Nat.{ℕ, ◌+◌, ◌*◌, ◌-◌, ◌<◌, ◌≤◌}
 use mathlib.Core.Path.{◌≡◌, refl, sym, ap, ap₂, ◌∙◌, fun_ext}
 use mathlib.Core.Bool.{Bool, true, false, ◌&&◌, true≢false}
 use mathlib.Core.List.{List, [], ◌∷◌, ◌++◌}
 use native.Mathlib.Omega.{arith}
-use borrow.Author.Tests.{eqb-true}
 use lib.Dec.{eqb}
 use lib.Pointwise.{pointwise}
 use lib.ListN.{length, take, drop, length-take, length-drop, take-append-drop}
 use lib.Seq.{take_all, drop-drop, take-append_seam, drop-append_seam, ext_get_or, get_or-take, get_or-drop}
-use Rattle.spec.specs.Bytes.{exactly, part, patch, same, place}
+use Rattle.spec.specs.Bytes.{exactly, part, patch, same}
 use Rattle.spec.specs.Disk.{Disk, Slice, slice_of, blocks_of, with_block}
 use Rattle.spec.specs.Inode.{block_of_inode, place_of_inode}
-use Rattle.spec.specs.declared.Phase.{Phase}
 use Rattle.spec.specs.declared.Session.{Session}
 use Rattle.spec.specs.Session.{staged_in, with_staged}
 use Rattle.spec.specs.Transaction.{view, state_of, put, stage, staged_of, with_staging}
 use Rattle.lists.specs.Tests.{eqb-turn}
 use Rattle.block.specs.Stores.{stored_in}
-use Rattle.block.proofs.Laws.{length-exactly, get_or-exactly, exactly-all, block-is, block_read, with-same, same_self, same_true}
+use Rattle.block.proofs.Laws.{length-exactly, get_or-exactly, exactly-all, block-is, with-same, same_self, same_true}
 use Rattle.block.proofs.Steps.{slice-stored}
-use Rattle.std.specs.Prelude.{Some, None}
-use Rattle.transaction.specs.Places.{found_at, spot, blocks_with, session_of, view_in}
-use Rattle.transaction.proofs.Laws.{spot-at, spot-new, view-at, view-new, cells-lent, cells-view, stage-leaves}
+use Rattle.transaction.specs.Places.{spot, blocks_with}
+use Rattle.transaction.proofs.Laws.{stage-leaves}
 use Rattle.inode.specs.Records.{bytes_in}
 use Rattle.content.specs.Content.{with_record}
 use Rattle.change.specs.Contents.{Ready}
@@ -111,33 +108,12 @@ record-compared v i at block new r p e l h y ey =
 
 -- ---- an image
 
--- a block stored once more, and over itself
-with-self : (k : ℕ) (d : Disk) → with_block k (d k) d ≡ d
-with-self k d = fun_ext (λ c. go c (eqb c k) refl)
-  where
-    go : (c : ℕ) (t : Bool) → eqb c k ≡ t → with_block k (d k) d c ≡ d c
-    go c true h = rw h (ap d (sym (eqb-true c k h)))
-    go c false h = rw h
-
 with-twice : (k : ℕ) (x y : List ℕ) (d : Disk) → with_block k x (with_block k y d) ≡ with_block k x d
 with-twice k x y d = fun_ext (λ c. go c (eqb c k) refl)
   where
     go : (c : ℕ) (t : Bool) → eqb c k ≡ t → with_block k x (with_block k y d) c ≡ with_block k x d c
     go c true h = rw h
     go c false h = rw h
-
--- where these are staged
-module _ (l device work : List ℕ) (b : ℕ) where
-  -- where the block is staged its image is its working copy
-  pub image-held : (i : ℕ) → found_at (place b l) ≡ Some i → slice_of work ≡ stored_in (slice_of work) (spot l b) (view_in l device work b)
-  image-held i e =
-      ap (λ (d : Disk). record { size = length work; block = d }) (sym (with-self i (blocks_of work)))
-      ∙ ap₂ (λ (k : ℕ) (x : List ℕ). stored_in (slice_of work) k x) (spot-at l b i e) (sym (view-at l device work b i e))
-
-  pub image-new : (left from : List ℕ) (n : ℕ) → found_at (place b l) ≡ None → n ≡ length l → from ≡ take 512 (drop (512 * b) device)
-      → slice_of left ≡ stored_in (slice_of work) n (exactly 512 from) → slice_of left ≡ stored_in (slice_of work) (spot l b) (view_in l device work b)
-  image-new left from n e en ef h =
-      h ∙ ap₂ (λ (k : ℕ) (x : List ℕ). stored_in (slice_of work) k x) (en ∙ spot-new l b e) (block_read device from (exactly 512 from) b ef refl ∙ sym (view-new l device work b e))
 
 -- an image that is loaded is ready for any content
 pub ready-loaded : (g : List ℕ → List ℕ) (old was work : List ℕ) (j k : ℕ) → k ≡ j → 512 * k + 512 ≤ length work → slice_of work ≡ stored_in (slice_of was) j old → Ready g old was work k
@@ -149,36 +125,14 @@ ready-loaded g old was work j k e fits is =
       made = ap g (sym (block-is work k ∙ exactly-all 512 (take 512 (drop (512 * k) work)) l) ∙ ap (λ (u : Slice). u.block k) loaded ∙ with-same k old (blocks_of was));
     }
 
--- a content made in an image that is ready for it, in the part that is lent
-image-edited : (s q : Session) (device work w : List ℕ) (b k : ℕ) (g : List ℕ → List ℕ) (y : List ℕ) → k ≡ spot (staged_in s) b → 512 * k + 512 ≤ length w
-    → Ready g (view (state_of s device work) b) work w k → y ≡ g (take (512 * k + 512 - 512 * k) (drop (512 * k) w)) → length y ≡ 512
-    → q ≡ with_staged s (blocks_with (staged_in s) b)
-    → state_of q device (take (512 * k) w ++ (y ++ drop (512 * k + 512 - 512 * k) (drop (512 * k) w)))
-    ≡ with_staging (state_of s device work) (stage (staged_of (state_of s device work)) (put b (g (view (state_of s device work) b))))
-image-edited s q device work w b k g y e fits ready ey l eq =
-    let x = g (view (state_of s device work) b) in
+-- a content made in an image that is ready for it, in the part that is lent: its block is staged with what it makes of the block
+pub image-staged : (s q : Session) (device was w : List ℕ) (b k : ℕ) (g : List ℕ → List ℕ) (y : List ℕ) → k ≡ spot (staged_in s) b → 512 * k + 512 ≤ length w
+    → Ready g (view (state_of s device was) b) was w k → y ≡ g (take (512 * k + 512 - 512 * k) (drop (512 * k) w)) → length y ≡ 512
+    → (left : List ℕ) → left ≡ take (512 * k) w ++ (y ++ drop (512 * k + 512 - 512 * k) (drop (512 * k) w)) → q ≡ with_staged s (blocks_with (staged_in s) b)
+    → state_of q device left ≡ with_staging (state_of s device was) (stage (staged_of (state_of s device was)) (put b (g (view (state_of s device was) b))))
+image-staged s q device was w b k g y e fits ready ey l left el eq =
+    let x = g (view (state_of s device was) b) in
     let z : 512 * k + 512 - 512 * k ≡ 512 = omega arith in
     let yx : y ≡ x = ey ∙ ap (λ (n : ℕ). g (take n (drop (512 * k) w))) z ∙ ready.made in
     let m : length x ≡ 512 = sym (ap length yx) ∙ l in
-    stage-leaves s q device work (take (512 * k) w ++ (y ++ drop (512 * k + 512 - 512 * k) (drop (512 * k) w))) b k x e
-    (slice-stored k x y w yx m fits ∙ ready.around x)
-    eq
-
--- the same of every session with these cells, where those in use are lent
-module _ (cells : List ℕ) (count n : ℕ) (h : length cells ≡ 32) (m : n ≡ min count 32) (b : ℕ) where
-  pub spot-cells : (k : ℕ) → k ≡ spot (take (n - 0) (drop 0 cells)) b → k ≡ spot (take count cells) b
-  spot-cells k e = e ∙ ap (λ (l : List ℕ). spot l b) (cells-lent cells count n h m)
-
-  pub spot-lent : (k : ℕ) → k ≡ spot (take count cells) b → k ≡ spot (take (n - 0) (drop 0 cells)) b
-  spot-lent k e = e ∙ ap (λ (l : List ℕ). spot l b) (sym (cells-lent cells count n h m))
-
-  pub image-cells : (device work w : List ℕ) (k : ℕ) → k ≡ spot (take count cells) b → 512 * k + 512 ≤ length w
-      → (g : List ℕ → List ℕ) → Ready g (view_in (take (n - 0) (drop 0 cells)) device work b) work w k
-      → (left : List ℕ) (q : ℕ) → ((N : ℕ) (p : Phase) → session_of N p left q ≡ with_staged (session_of N p cells count) (blocks_with (take count cells) b))
-      → (y : List ℕ) → y ≡ g (take (512 * k + 512 - 512 * k) (drop (512 * k) w)) → length y ≡ 512 → (N : ℕ) (p : Phase)
-      → state_of (session_of N p left q) device (take (512 * k) w ++ (y ++ drop (512 * k + 512 - 512 * k) (drop (512 * k) w)))
-      ≡ with_staging (state_of (session_of N p cells count) device work) (stage (staged_of (state_of (session_of N p cells count) device work)) (put b (g (view (state_of (session_of N p cells count) device work) b))))
-  unfolding staged_in
-  image-cells device work w k e fits g ready left q eq y ey l N p =
-      let r : Ready g (view (state_of (session_of N p cells count) device work) b) work w k = rw (← cells-view cells count n h m N p device work) ready in
-      image-edited (session_of N p cells count) (session_of N p left q) device work w b k g y e fits r ey l (eq N p)
+    stage-leaves s q device was left b k x e (ap slice_of el ∙ slice-stored k x y w yx m fits ∙ ready.around x) eq

@@ -5,12 +5,11 @@ use mathlib.Core.Bool.{Bool, true, false, not, ◌&&◌, ◌||◌, true≢false}
 use mathlib.Core.List.{List}
 use mathlib.Core.Logic.{◌⊎◌, inl, inr}
 use native.Mathlib.Omega.{arith}
-use borrow.Author.Tests.{lt-leb, le-ltb, lt-ltb, ne_eqb, leb-true, ltb-true}
-use lib.Dec.{eqb, leb, ltb}
+use borrow.Author.Tests.{lt-leb, le-ltb, lt-ltb, ne_eqb}
+use lib.Dec.{eqb, ltb}
 use lib.ListN.{length}
 use Rattle.spec.specs.declared.FileBlock.{FileBlock}
 use Rattle.spec.specs.Plan.{is_staged, holds_data, is_last_kept}
-use Rattle.lists.specs.Tests.{both_true}
 use Rattle.block.proofs.Laws.{lt-or-le}
 use Rattle.change.specs.Window.{Window, Outside}
 

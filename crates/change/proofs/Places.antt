@@ -117,3 +117,33 @@ module _ (es : List Extent) where
           let p = place-more in
           let z : place_of es m ≡ place_of es (k + 1) = ap (place_of es) q in
           omega arith
+
+-- ---- the last of what is left of a list
+
+module _ {A : Type 0} (d : A) where
+  pub record Last (es rest : List A) (x : A) : Type 0 where
+    pub front : rest ≡ take (length rest) es
+    pub inside : length rest < length es
+    pub is : x ≡ get_or es (length rest) d
+
+  last-of : (rest es : List A) (x : A) → rest ++ (x ∷ []) ≡ take (length rest + 1) es → Last es rest x
+  last-of [] [] x e = absurd (let n = ap length e in omega arith)
+  last-of [] (a ∷ es) x e = record { front = refl; inside = omega arith; is = ap (λ (l : List A). get_or l 0 d) e }
+  last-of (r ∷ rs) [] x e =
+      let z : suc (length rs) + 1 ≡ suc (length rs + 1) = omega arith in
+      let e' : r ∷ (rs ++ (x ∷ [])) ≡ [] = rw z at e in
+      absurd (let n = ap length e' in omega arith)
+  last-of (r ∷ rs) (a ∷ es) x e =
+      let z : suc (length rs) + 1 ≡ suc (length rs + 1) = omega arith in
+      let e' : r ∷ (rs ++ (x ∷ [])) ≡ a ∷ take (length rs + 1) es = rw z at e in
+      let l = last-of rs es x (ap (λ (l : List A). drop 1 l) e') in
+      record {
+        front = ap (λ (b : A). b ∷ rs) (ap (λ (l : List A). get_or l 0 d) e') ∙ ap (λ (l : List A). a ∷ l) l.front;
+        inside = omega (arith, l.inside);
+        is = l.is;
+      }
+
+  pub last-left : (rest es old : List A) (x : A) → old ≡ take (length old) es → old ≡ rest ++ (x ∷ []) → Last es rest x
+  last-left rest es old x e p =
+      let n : length old ≡ length rest + 1 = ap length p ∙ length-append rest (x ∷ []) in
+      last-of rest es x (sym p ∙ e ∙ ap (λ (k : ℕ). take k es) n)

@@ -1,5 +1,5 @@
 -- Laws of staging an agenda block by block, each content from the working copy as it then is. Assumes nothing.
-use Prim.Native.Nat.{ℕ, ◌-◌, suc, ◌+◌, ◌<◌, ◌≤◌, min}
+use Prim.Native.Nat.{ℕ, suc, ◌+◌, ◌<◌, ◌≤◌}
 use mathlib.Core.Path.{◌≡◌, refl, sym, ap, ap₂, ◌∙◌, subst}
 use mathlib.Core.Bool.{Bool, true, false}
 use mathlib.Core.List.{List, [], ◌∷◌, ◌++◌}
@@ -7,22 +7,21 @@ use mathlib.Core.Option.{Option, none, some}
 use native.Mathlib.Omega.{arith}
 use borrow.Author.Tests.{ne_eqb, leb-true, lt-leb}
 use lib.Dec.{leb}
-use lib.ListN.{length, take, drop, get_or, length-append, take-append-drop, drop_of_length-le}
+use lib.ListN.{length, take, drop, get_or, length-append, drop_of_length-le}
 use lib.Seq.{drop-cons}
 use native.Mathlib.Numerals.{add-one}
 use Rattle.spec.specs.Bytes.{found, place}
 use Rattle.spec.specs.Disk.{Disk, with_block}
-use Rattle.spec.specs.declared.Phase.{Phase}
 use Rattle.spec.specs.declared.Session.{Session}
 use Rattle.spec.specs.Session.{staged_in, with_staged}
 use Rattle.spec.specs.Answers.{done, refused}
 use Rattle.spec.specs.Transaction.{State, state_of, view, BlockStore, put, Staged, stage, stage_each, staged_of, stage_all, with_staging, ascending}
 use Rattle.spec.specs.Calls.{left, outcome, settle, staging}
 use Rattle.lists.specs.Places.{place-lt}
-use Rattle.transaction.specs.Places.{spot, blocks_with, session_of, view_in}
-use Rattle.transaction.proofs.Laws.{staged-with, staged-is, cells-lent, cells-view, view-stage, with_staged-twice, stage-longer, stage_is}
+use Rattle.transaction.specs.Places.{spot, blocks_with}
+use Rattle.transaction.proofs.Laws.{staged-with, view-stage, with_staged-twice, stage-longer, stage_is}
 use Rattle.agenda.specs.declared.Content.{Content}
-use Rattle.agenda.specs.declared.Entry.{Entry}
+use Rattle.agenda.specs.declared.Planned.{Planned}
 use Rattle.agenda.specs.declared.Agenda.{Agenda}
 use Rattle.agenda.specs.Agenda.{stores_by, Rising, Lists, fresh_in}
 use Rattle.agenda.proofs.Laws.{ascending-rising, fits-is, told-over, none_yet}
@@ -55,7 +54,7 @@ spot-fits s device work b x ws h = go (place b (staged_in s)) refl
 
 -- higher blocks are not touched, so their stores stay what they were
 module _ (i : ℕ) (c : Change) (x : ℕ) (bytes : List ℕ) where
-  stores-agree : (v : Disk) (b low : ℕ) (y : List ℕ) (es : List Entry) → b < low → Rising low (stores_by (content_in v i c x bytes) es)
+  stores-agree : (v : Disk) (b low : ℕ) (y : List ℕ) (es : List Planned) → b < low → Rising low (stores_by (content_in v i c x bytes) es)
       → stores_by (content_in (with_block b y v) i c x bytes) es ≡ stores_by (content_in v i c x bytes) es
   unfolding stores_by Rising content_in
   stores-agree v b low y [] h r = refl
@@ -68,17 +67,12 @@ module _ (i : ℕ) (c : Change) (x : ℕ) (bytes : List ℕ) where
   rising-lower low lower (w ∷ ws) h r = (omega (arith, r.0), r.1)
 
   -- what is left to stage from a state leads to a goal
-  pub record Going (goal t : State) (es : List Entry) : Type 0 where
+  pub record Going (goal t : State) (es : List Planned) : Type 0 where
     pub is : goal ≡ with_staging t (stage_each (staged_of t) (stores_by (content_in (view t) i c x bytes) es))
     pub rising : Rising 0 (stores_by (content_in (view t) i c x bytes) es)
     pub room : length (stage_each (staged_of t) (stores_by (content_in (view t) i c x bytes) es)).blocks ≤ 32
 
-  pub going_start : (t : State) (es : List Entry) → Rising 0 (stores_by (content_in (view t) i c x bytes) es)
-      → length (stage_each (staged_of t) (stores_by (content_in (view t) i c x bytes) es)).blocks ≤ 32
-      → Going (with_staging t (stage_each (staged_of t) (stores_by (content_in (view t) i c x bytes) es))) t es
-  going_start t es r l = record { is = refl; rising = r; room = l }
-
-  pub going-room : (goal : State) (s : Session) (device work : List ℕ) (e : Entry) (es : List Entry) → Going goal (state_of s device work) (e ∷ es) → spot (staged_in s) e.block.0 < 32
+  pub going-room : (goal : State) (s : Session) (device work : List ℕ) (e : Planned) (es : List Planned) → Going goal (state_of s device work) (e ∷ es) → spot (staged_in s) e.block.0 < 32
   unfolding stores_by
   going-room goal s device work e es g =
       spot-fits s device work e.block.0 (content_in (view (state_of s device work)) i c x bytes e.block.0 e.content) (stores_by (content_in (view (state_of s device work)) i c x bytes) es) g.room
@@ -89,7 +83,7 @@ module _ (i : ℕ) (c : Change) (x : ℕ) (bytes : List ℕ) where
   twice : (t : State) (u w : Staged) → length u.blocks ≤ length w.blocks → with_staging (with_staging t u) w ≡ with_staging t w
   twice t u w h = rw (with_staged-twice t.session u.blocks w.blocks h)
 
-  going_step : (goal t t' : State) (e : Entry) (es : List Entry) → Going goal t (e ∷ es)
+  going_step : (goal t t' : State) (e : Planned) (es : List Planned) → Going goal t (e ∷ es)
       → t' ≡ with_staging t (stage (staged_of t) (put e.block.0 (content_in (view t) i c x bytes e.block.0 e.content))) → Going goal t' es
   unfolding stores_by Rising
   going_step goal t t' e es g et =
@@ -115,7 +109,7 @@ module _ (i : ℕ) (c : Change) (x : ℕ) (bytes : List ℕ) where
   going_end goal s q device work g e = ap (λ (z : Session). state_of z device work) e ∙ sym g.is
 
 -- the same on the entries of an agenda, from place k on
-module _ (i : ℕ) (c : Change) (x : ℕ) (bytes : List ℕ) (goal : State) (s : Session) (device work : List ℕ) (es : List Entry) (k : ℕ)
+module _ (i : ℕ) (c : Change) (x : ℕ) (bytes : List ℕ) (goal : State) (s : Session) (device work : List ℕ) (es : List Planned) (k : ℕ)
     (g : Going i c x bytes goal (state_of s device work) (drop k es)) where
   module _ (h : k < length es) where
     here : Going i c x bytes goal (state_of s device work) (get_or es k none_yet ∷ drop (k + 1) es)
@@ -132,11 +126,6 @@ module _ (i : ℕ) (c : Change) (x : ℕ) (bytes : List ℕ) (goal : State) (s :
 
   pub stage-end : length es ≤ k → (q : Session) → q ≡ with_staged s (staged_in s) → state_of q device work ≡ goal
   stage-end h q e = going_end i c x bytes goal s q device work (rw (drop_of_length-le es h) at g) e
-
-pub settled_is : (s : Session) (n : ℕ) → length s.staged ≡ 32 → n ≡ length (staged_in s)
-    → record { blocks = s.blocks; phase = s.phase; staged = s.staged; count = n } ≡ with_staged s (staged_in s)
-unfolding with_staged
-settled_is s n h e = rw (← e, staged-is s h n e, take-append-drop n s.staged)
 
 -- ---- 18
 
@@ -169,51 +158,37 @@ module _ (f : ℕ → Content → List ℕ) (s : Session) (device work : List �
         → t ≡ with_staging (state_of s device work) (stage_each (staged_of (state_of s device work)) (ascending ws))
     fits-staged t q = q ∙ rw l.stores
 
--- the same of every session with these cells, where those in use are lent
-module _ (cells : List ℕ) (count n : ℕ) (h : length cells ≡ 32) (m : n ≡ min count 32) (device work : List ℕ) (i : ℕ) (c : Change) (x : ℕ) (bytes : List ℕ) where
-  abbrev before : ℕ → Phase → State
-  before N p = state_of (session_of N p cells count) device work
+-- of all that a change stages
+module _ (s : Session) (device work : List ℕ) (i : ℕ) (c : Change) (x : ℕ) (bytes : List ℕ) where
+  abbrev before : State
+  before = state_of s device work
 
-  abbrev stores : ℕ → Phase → List BlockStore
-  stores N p = change_stores (view (before N p)) i c x bytes
+  abbrev stores : List BlockStore
+  stores = change_stores (view before) i c x bytes
 
   -- 18: more than 32 blocks
-  pub cells-over : 32 < length (ascending (change_stores (view_in (take (n - 0) (drop 0 cells)) device work) i c x bytes))
-      → (N : ℕ) (p : Phase) → left (session_of N p cells count) device work (refused 18 []) ≡ settle (outcome (before N p)) (staging (before N p) (stores N p))
-  cells-over l N p =
-      let k : 32 < length (ascending (stores N p)) =
-      subst (λ (v : Disk). 32 < length (ascending (change_stores v i c x bytes))) (cells-view cells count n h m N p device work) l in
-      let z : leb (length (stage_each (staged_of (before N p)) (ascending (stores N p))).blocks) 32 ≡ false =
-      lt-leb (length (stage_each (staged_of (before N p)) (ascending (stores N p))).blocks) 32 (told-over (ascending (stores N p)) (staged_of (before N p)) (ascending-rising (stores N p)) k) in
-      fits_not (before N p) (stores N p) false (sym z) refl
+  pub change-over : 32 < length (ascending stores) → outcome before (refused 18 []) ≡ settle (outcome before) (staging before stores)
+  change-over l =
+      let z : leb (length (stage_each (staged_of before) (ascending stores)).blocks) 32 ≡ false =
+      lt-leb (length (stage_each (staged_of before) (ascending stores)).blocks) 32 (told-over (ascending stores) (staged_of before) (ascending-rising stores) l) in
+      fits_not before stores false (sym z) refl
 
-  module _ (a : Agenda)
-      (l : Lists (content_in (view_in (take (n - 0) (drop 0 cells)) device work) i c x bytes) a (ascending (change_stores (view_in (take (n - 0) (drop 0 cells)) device work) i c x bytes))) (r : Bool)
-      (e : r ≡ leb (length (take (n - 0) (drop 0 cells)) + fresh_in (take (n - 0) (drop 0 cells)) (take a.len a.entries)) 32) where
-    lists-in : (N : ℕ) (p : Phase) → Lists (content_in (view (before N p)) i c x bytes) a (ascending (stores N p))
-    lists-in N p = subst (λ (v : Disk). Lists (content_in v i c x bytes) a (ascending (change_stores v i c x bytes))) (cells-view cells count n h m N p device work) l
-
-    told_in : (N : ℕ) (p : Phase)
-        → r ≡ leb (length (staged_in (session_of N p cells count)) + fresh_in (staged_in (session_of N p cells count)) (take a.len a.entries)) 32
-    unfolding staged_in
-    told_in N p = rw (cells-lent cells count n h m) at e
-
-    ends-in : (N : ℕ) (p : Phase) → r ≡ leb (length (stage_each (staged_of (before N p)) (ascending (stores N p))).blocks) 32
-    ends-in N p = fits-ends _ (session_of N p cells count) device work a (stores N p) (lists-in N p) r (told_in N p)
+  module _ (a : Agenda) (l : Lists (content_in (view before) i c x bytes) a (ascending stores)) (r : Bool)
+      (e : r ≡ leb (length (staged_in s) + fresh_in (staged_in s) (take a.len a.entries)) 32) where
+    ends : r ≡ leb (length (stage_each (staged_of before) (ascending stores)).blocks) 32
+    ends = fits-ends _ s device work a stores l r e
 
     module _ (q : r ≡ true) where
-      pub cells-rising : (N : ℕ) (p : Phase) → Rising 0 (stores_by (content_in (view (before N p)) i c x bytes) (take a.len a.entries))
-      cells-rising N p = fits-rising _ (session_of N p cells count) device work a (stores N p) (lists-in N p) r (told_in N p) q
+      pub change-rising : Rising 0 (stores_by (content_in (view before) i c x bytes) (take a.len a.entries))
+      change-rising = fits-rising _ s device work a stores l r e q
 
-      pub cells-room : (N : ℕ) (p : Phase) → length (stage_each (staged_of (before N p)) (stores_by (content_in (view (before N p)) i c x bytes) (take a.len a.entries))).blocks ≤ 32
-      cells-room N p = fits-room _ (session_of N p cells count) device work a (stores N p) (lists-in N p) r (told_in N p) q
+      pub change-room : length (stage_each (staged_of before) (stores_by (content_in (view before) i c x bytes) (take a.len a.entries))).blocks ≤ 32
+      change-room = fits-room _ s device work a stores l r e q
 
-      pub cells-done : (N : ℕ) (p : Phase) (t : Session) (left-work : List ℕ)
-          → state_of t device left-work ≡ with_staging (before N p) (stage_each (staged_of (before N p)) (stores_by (content_in (view (before N p)) i c x bytes) (take a.len a.entries)))
-          → left t device left-work done ≡ settle (outcome (before N p)) (staging (before N p) (stores N p))
-      cells-done N p t w z =
-          fits-done (before N p) (stores N p) r (ends-in N p) t device w q
-          (fits-staged _ (session_of N p cells count) device work a (stores N p) (lists-in N p) r (told_in N p) q (state_of t device w) z)
+      pub change-done : (t : Session) (d w : List ℕ)
+          → state_of t d w ≡ with_staging before (stage_each (staged_of before) (stores_by (content_in (view before) i c x bytes) (take a.len a.entries)))
+          → outcome (state_of t d w) done ≡ settle (outcome before) (staging before stores)
+      change-done t d w z = fits-done before stores r ends t d w q (fits-staged _ s device work a stores l r e q (state_of t d w) z)
 
-    pub cells-full : r ≡ false → (N : ℕ) (p : Phase) → left (session_of N p cells count) device work (refused 18 []) ≡ settle (outcome (before N p)) (staging (before N p) (stores N p))
-    cells-full q N p = fits_not (before N p) (stores N p) r (ends-in N p) q
+    pub change-full : r ≡ false → outcome before (refused 18 []) ≡ settle (outcome before) (staging before stores)
+    change-full q = fits_not before stores r ends q

@@ -40,7 +40,7 @@ pub told-err : (t : Result Unit Refusal) (P : Refusal → Type 0) (e : Refusal) 
 told-err (Ok u) P e f a ws h k q l = elim h [ ]
 told-err (Err r) P e f a ws h k q l = (k r h ∙ q, l)
 
-pub refused-err : (t : Result ℕ Refusal) (P : Refusal → Type 0) (e : Refusal) → IsErrAnd t P → ((r : Refusal) → P r → r ≡ e) → e ≡ TooManyStaged → t ≡ Err TooManyStaged
+pub refused-err : (t : Result Unit Refusal) (P : Refusal → Type 0) (e : Refusal) → IsErrAnd t P → ((r : Refusal) → P r → r ≡ e) → e ≡ TooManyStaged → t ≡ Err TooManyStaged
 refused-err (Ok n) P e h k q = elim h [ ]
 refused-err (Err r) P e h k q = let z : r ≡ TooManyStaged = k r h ∙ q in cc
 

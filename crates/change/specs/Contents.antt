@@ -8,18 +8,19 @@ use Rattle.spec.specs.Plan.{edit, if_changed, stores_of, inode_edit, node_edits,
 use Rattle.block.specs.Stores.{stored_in}
 use Rattle.spec.specs.declared.Extent.{Extent}
 use Rattle.runs.specs.Runs.{listed, nodes_in}
+use Rattle.runs.specs.Tree.{tree_with}
 use Rattle.agenda.specs.declared.Content.{Content}
 use Rattle.agenda.specs.declared.Content.TheVariants.{Bitmap, Record, Node, Data}
-use Rattle.agenda.specs.declared.Entry.{Entry}
+use Rattle.agenda.specs.declared.Planned.{Planned}
 use Rattle.agenda.specs.Agenda.{stores_by, Rising}
 use Rattle.content.specs.Content.{with_record, node_content, data_content}
 use Rattle.change.specs.Change.{Change}
-use Rattle.change.specs.declared.Plan.{Plan}
+use Rattle.change.specs.declared.plan.Plan.{Plan}
 
 -- a change as the code tells it
 abbrev pub change_of : Plan → Change
 change_of p =
-    record { tree = record { table = p.table.now; runs = p.extents.now; node = p.nodes.node; nodes = p.nodes.len; before = p.before; held = p.data.held }; «record» = p.inode; old = p.data.old; size = p.data.size }
+    record { tree = tree_with p.table.now p.extents.now p.nodes p.before p.data.held; «record» = p.inode; old = p.data.old; size = p.data.size }
 
 -- the content of a block: the bitmap, the record's block, node j, the file's data block p
 unfoldable pub content_of : ℕ → Change → ℕ → List ℕ → Content → List ℕ → List ℕ
@@ -83,6 +84,6 @@ abbrev pub IsNode : Change → ℕ → ℕ → Type 0
 IsNode c j b = (j < length (nodes_in c.tree)) × (b ≡ get_or (nodes_in c.tree) j 0)
 
 -- the stores of an agenda's entries, staged in turn from a state: they rise, and all have room
-pub record Stages (i : ℕ) (p : Plan) (t : State) (es : List Entry) : Type 0 where
+pub record Stages (i : ℕ) (p : Plan) (t : State) (es : List Planned) : Type 0 where
   pub rising : Rising 0 (stores_by (content_by (view t) i p) es)
   pub room : length (stage_each (staged_of t) (stores_by (content_by (view t) i p) es)).blocks ≤ 32

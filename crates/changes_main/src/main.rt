@@ -10,16 +10,8 @@ use trial::number;
 
 // ---- text
 
-fn say(rt: &impl Print, text: &[u8]) -> io::Result<()> {
-    rt.write_all(text)
-}
-
-fn end_line(rt: &impl Print) -> io::Result<()> {
-    say(rt, b"\n")
-}
-
 fn refused(rt: &impl Print, why: Refusal) -> io::Result<()> {
-    say(rt, b" refused")?;
+    rt.write_all(b" refused")?;
     number(rt, why.number())
 }
 
@@ -27,7 +19,7 @@ fn refused(rt: &impl Print, why: Refusal) -> io::Result<()> {
 fn told(rt: &impl Print, r: Answered<()>) -> io::Result<Session> {
     match r.answer {
         Err(why) => refused(rt, why)?,
-        Ok(()) => say(rt, b" done")?,
+        Ok(()) => rt.write_all(b" done")?,
     }
     Ok(r.session)
 }
@@ -47,8 +39,8 @@ fn name(k: u8) -> [u8; 8] {
 
 // An empty store, opened.
 fn begin(rt: &impl Print, title: &[u8], device: &mut [u8]) -> io::Result<Session> {
-    say(rt, title)?;
-    say(rt, b": empty store")?;
+    rt.write_all(title)?;
+    rt.write_all(b": empty store")?;
     store::format(device, Session::never_opened());
     let r = store::open_store(device, Session::never_opened());
     Ok(r.session)
@@ -56,7 +48,7 @@ fn begin(rt: &impl Print, title: &[u8], device: &mut [u8]) -> io::Result<Session
 
 // The device as a cut leaves it, opened anew.
 fn reopen(rt: &impl Print, device: &[u8]) -> io::Result<Session> {
-    say(rt, b", open")?;
+    rt.write_all(b", open")?;
     told(rt, store::open_store(device, Session::never_opened()))
 }
 
@@ -68,7 +60,7 @@ fn create(
     k: u8,
 ) -> io::Result<Session> {
     let file = name(k);
-    say(rt, b", create")?;
+    rt.write_all(b", create")?;
     number(rt, k)?;
     told(rt, store::create(device, work, s, &file))
 }
@@ -82,15 +74,15 @@ fn set_size(
     n: usize,
 ) -> io::Result<Session> {
     let file = name(k);
-    say(rt, b", set")?;
+    rt.write_all(b", set")?;
     number(rt, k)?;
-    say(rt, b" to")?;
+    rt.write_all(b" to")?;
     number(rt, n)?;
     told(rt, store::set_size(device, work, s, &file, n))
 }
 
 fn free<'a>(rt: &impl Print, device: &'a [u8], work: &'a [u8], s: Session) -> io::Result<()> {
-    say(rt, b", free")?;
+    rt.write_all(b", free")?;
     counted(rt, store::free_count(device, work, s))
 }
 
@@ -116,10 +108,10 @@ fn extent<'a>(
         Err(why) => refused(rt, why),
         Ok(Some(e)) => {
             number(rt, e.first)?;
-            say(rt, b"+")?;
+            rt.write_all(b"+")?;
             rt.print(e.count)
         }
-        Ok(None) => say(rt, b" -"),
+        Ok(None) => rt.write_all(b" -"),
     }
 }
 
@@ -140,9 +132,9 @@ fn count(x: &[u8], from: usize, end: usize, byte: u32) -> usize {
 fn staged(rt: &impl Print, s: Session) -> io::Result<()> {
     let staged = s.staged;
     let n = staged_count(s);
-    say(rt, b", staged")?;
+    rt.write_all(b", staged")?;
     if n == 0 {
-        say(rt, b" none")?;
+        rt.write_all(b" none")?;
     }
     for b in &staged[..n] {
         number(rt, *b)?;
@@ -151,17 +143,17 @@ fn staged(rt: &impl Print, s: Session) -> io::Result<()> {
 }
 
 fn many_staged(rt: &impl Print, s: Session) -> io::Result<()> {
-    say(rt, b", blocks staged")?;
+    rt.write_all(b", blocks staged")?;
     number(rt, staged_count(s))
 }
 
 // Size, depth and slot 0 of record 0.
 fn record_bytes(rt: &impl Print, device: &[u8]) -> io::Result<()> {
-    say(rt, b", record 0: size")?;
+    rt.write_all(b", record 0: size")?;
     number(rt, load4(device, 17416))?;
-    say(rt, b", depth")?;
+    rt.write_all(b", depth")?;
     number(rt, load(device, 17420))?;
-    say(rt, b", slot")?;
+    rt.write_all(b", slot")?;
     number(rt, load2(device, 17424))?;
     number(rt, load2(device, 17426))
 }
@@ -173,7 +165,7 @@ fn stored(rt: &impl Print, a: Result<Option<BlockStored>, Refusal>) -> io::Resul
     match a {
         Err(why) => refused(rt, why),
         Ok(Some(stored)) => number(rt, stored.block.0),
-        Ok(None) => say(rt, b" idle"),
+        Ok(None) => rt.write_all(b" idle"),
     }
 }
 
@@ -190,7 +182,7 @@ fn advance_quietly(device: &mut [u8], work: &[u8], s: Session, n: usize) -> Sess
 fn commit(rt: &impl Print, device: &mut [u8], work: &[u8], s: Session) -> io::Result<Session> {
     let r = store::commit(device, work, s);
     let n = r.answer.unwrap_or(0);
-    say(rt, b", commit")?;
+    rt.write_all(b", commit")?;
     number(rt, n)?;
     Ok(advance_quietly(device, work, r.session, n))
 }
@@ -221,16 +213,16 @@ fn read<'a>(
 ) -> io::Result<()> {
     let file = name(k);
     let mut buffer = [9u8; 20];
-    say(rt, b", read")?;
+    rt.write_all(b", read")?;
     number(rt, k)?;
-    say(rt, b" at")?;
+    rt.write_all(b" at")?;
     number(rt, x)?;
-    say(rt, b":")?;
+    rt.write_all(b":")?;
     counted(
         rt,
         store::read(device, work, s, &file, ByteOffset(x), &mut buffer),
     )?;
-    say(rt, b" with buffer")?;
+    rt.write_all(b" with buffer")?;
     bytes(rt, &buffer, 0, 20)
 }
 
@@ -244,12 +236,12 @@ fn read_zeros<'a>(
 ) -> io::Result<()> {
     let file = name(k);
     let mut buffer = [9u8; 1200];
-    say(rt, b", read")?;
+    rt.write_all(b", read")?;
     counted(
         rt,
         store::read(device, work, s, &file, ByteOffset(0), &mut buffer),
     )?;
-    say(rt, b", zeros in the buffer")?;
+    rt.write_all(b", zeros in the buffer")?;
     number(rt, count(&buffer, 0, 1200, 0))
 }
 
@@ -260,18 +252,18 @@ fn record<'a>(
     s: Session,
     i: usize,
 ) -> io::Result<()> {
-    say(rt, b", record")?;
+    rt.write_all(b", record")?;
     number(rt, i)?;
     match store::record_at(device, work, s, i) {
         Err(why) => refused(rt, why),
         Ok(Some(file)) => {
             let name = file.name;
-            say(rt, b" of file")?;
+            rt.write_all(b" of file")?;
             number(rt, name[0])?;
-            say(rt, b" with")?;
+            rt.write_all(b" with")?;
             number(rt, file.size)
         }
-        Ok(None) => say(rt, b" empty"),
+        Ok(None) => rt.write_all(b" empty"),
     }
 }
 
@@ -284,9 +276,9 @@ fn extents<'a>(
     k: u8,
     n: usize,
 ) -> io::Result<()> {
-    say(rt, b", extents of")?;
+    rt.write_all(b", extents of")?;
     number(rt, k)?;
-    say(rt, b":")?;
+    rt.write_all(b":")?;
     for i in 0..n {
         extent(rt, device, work, s, k, i)?;
     }
@@ -296,12 +288,12 @@ fn extents<'a>(
 // The bit of a block.
 fn bit(rt: &impl Print, device: &[u8], b: u32) -> io::Result<()> {
     let mask = 1u32 << (b % 8);
-    say(rt, b", block")?;
+    rt.write_all(b", block")?;
     number(rt, b)?;
     if load(device, 16896 + (b / 8) as usize) & mask == 0 {
-        say(rt, b" free")
+        rt.write_all(b" free")
     } else {
-        say(rt, b" in use")
+        rt.write_all(b" in use")
     }
 }
 
@@ -314,7 +306,7 @@ fn advance(
     n: usize,
 ) -> io::Result<Session> {
     let mut t = s;
-    say(rt, b", stores to")?;
+    rt.write_all(b", stores to")?;
     for _ in 0..n {
         let r = store::advance(device, work, t);
         stored(rt, r.answer)?;
@@ -332,7 +324,7 @@ fn in_turn(
     n: usize,
 ) -> io::Result<Session> {
     let mut t = s;
-    say(rt, b", 1 and 2 grown in turn to blocks")?;
+    rt.write_all(b", 1 and 2 grown in turn to blocks")?;
     number(rt, n)?;
     for i in 0..n {
         let u = grow(device, work, t, 1, i + 1);
@@ -383,7 +375,7 @@ impl Till {
         let file = name(k);
         let device = self.device;
         let mut work = self.work;
-        say(rt, b", remove")?;
+        rt.write_all(b", remove")?;
         number(rt, k)?;
         let s = told(rt, store::remove(&device, &mut work, self.session, &file))?;
         Ok(self.with(work, s))
@@ -394,9 +386,9 @@ impl Till {
         let new = name(l);
         let device = self.device;
         let mut work = self.work;
-        say(rt, b", rename")?;
+        rt.write_all(b", rename")?;
         number(rt, k)?;
-        say(rt, b" to")?;
+        rt.write_all(b" to")?;
         number(rt, l)?;
         let s = told(
             rt,
@@ -416,11 +408,11 @@ impl Till {
         let file = name(k);
         let device = self.device;
         let mut work = self.work;
-        say(rt, b", write")?;
+        rt.write_all(b", write")?;
         number(rt, bytes.len())?;
-        say(rt, b" to")?;
+        rt.write_all(b" to")?;
         number(rt, k)?;
-        say(rt, b" at")?;
+        rt.write_all(b" at")?;
         number(rt, x)?;
         let s = told(
             rt,
@@ -460,7 +452,7 @@ impl Till {
         let device = self.device;
         let work = self.work;
         let r = store::commit(&device, &work, self.session);
-        say(rt, b", commit")?;
+        rt.write_all(b", commit")?;
         number(rt, r.answer.unwrap_or(0))?;
         Ok(self.with(work, r.session))
     }
@@ -481,7 +473,7 @@ impl Till {
     fn abort(self, rt: &impl Print) -> io::Result<Till> {
         let device = self.device;
         let work = self.work;
-        say(rt, b", abort")?;
+        rt.write_all(b", abort")?;
         let s = told(rt, store::abort(&device, &work, self.session))?;
         Ok(self.with(work, s))
     }
@@ -497,9 +489,9 @@ impl Till {
         let file = name(k);
         let device = self.device;
         let work = self.work;
-        say(rt, b", size of")?;
+        rt.write_all(b", size of")?;
         number(rt, k)?;
-        say(rt, b":")?;
+        rt.write_all(b":")?;
         counted(rt, store::size(&device, &work, self.session, &file))?;
         Ok(self)
     }
@@ -566,11 +558,11 @@ impl Till {
 fn e1(rt: &impl Print) -> io::Result<()> {
     let t = Till::empty(rt, b"E1")?.free(rt)?;
     let device = t.device;
-    say(rt, b", block 33:")?;
+    rt.write_all(b", block 33:")?;
     bytes(rt, &device, 16896, 16904)?;
-    say(rt, b", then 255 in")?;
+    rt.write_all(b", then 255 in")?;
     number(rt, count(&device, 16904, 17408, 255))?;
-    end_line(rt)
+    rt.write_all(b"\n")
 }
 
 fn e2(rt: &impl Print) -> io::Result<()> {
@@ -578,7 +570,7 @@ fn e2(rt: &impl Print) -> io::Result<()> {
         .create(rt, 1)?
         .start(rt)?
         .advance(rt, 4)?;
-    end_line(rt)
+    rt.write_all(b"\n")
 }
 
 // A new file of 600 bytes, not committed.
@@ -595,20 +587,20 @@ fn e3(rt: &impl Print) -> io::Result<()> {
         .advance(rt, 10)?
         .record_bytes(rt)?;
     let device = t.device;
-    say(rt, b", zeros in bytes 88 to 511 of block 43:")?;
+    rt.write_all(b", zeros in bytes 88 to 511 of block 43:")?;
     number(rt, count(&device, 22104, 22528, 0))?;
-    end_line(rt)
+    rt.write_all(b"\n")
 }
 
 // A cut behind n stores, then so many stores of the recovery.
 fn e4(rt: &impl Print, n: usize, recovery: usize) -> io::Result<()> {
     let t = e3_written(rt, b"E4")?.start(rt)?.advance(rt, n)?;
-    say(rt, b", cut")?;
+    rt.write_all(b", cut")?;
     t.reopen(rt)?
         .advance(rt, recovery)?
         .reopen(rt)?
         .size(rt, 1)?;
-    end_line(rt)
+    rt.write_all(b"\n")
 }
 
 fn e3_committed(rt: &impl Print, title: &[u8]) -> io::Result<Till> {
@@ -620,7 +612,7 @@ fn e5(rt: &impl Print) -> io::Result<()> {
         .size(rt, 1)?
         .read(rt, 1, 590)?
         .read(rt, 1, 600)?;
-    end_line(rt)
+    rt.write_all(b"\n")
 }
 
 fn e6(rt: &impl Print) -> io::Result<()> {
@@ -630,7 +622,7 @@ fn e6(rt: &impl Print) -> io::Result<()> {
         .write(rt, 1, 1000, &none)?;
     let u = t.size(rt, 1)?.read_zeros(rt, 1)?.commit(rt)?;
     u.write(rt, 1, 0, &none)?.staged(rt)?.commit(rt)?;
-    end_line(rt)
+    rt.write_all(b"\n")
 }
 
 fn e7(rt: &impl Print) -> io::Result<()> {
@@ -639,7 +631,7 @@ fn e7(rt: &impl Print) -> io::Result<()> {
         .free(rt)?
         .set_size(rt, 1, 11264)?
         .free(rt)?;
-    end_line(rt)
+    rt.write_all(b"\n")
 }
 
 // On 128 blocks.
@@ -652,7 +644,7 @@ fn e8(rt: &impl Print) -> io::Result<()> {
     many_staged(rt, two)?;
     let three = set_size(rt, &device, &mut work, two, 1, 15360)?;
     many_staged(rt, three)?;
-    end_line(rt)
+    rt.write_all(b"\n")
 }
 
 fn e9(rt: &impl Print) -> io::Result<()> {
@@ -661,7 +653,7 @@ fn e9(rt: &impl Print) -> io::Result<()> {
         .staged(rt)?
         .commit(rt)?;
     t.bit(rt, 42)?.bit(rt, 43)?;
-    end_line(rt)
+    rt.write_all(b"\n")
 }
 
 // Files 1 and 2 with n blocks each, taken in turn.
@@ -677,15 +669,15 @@ fn e11(rt: &impl Print) -> io::Result<()> {
         .set_size(rt, 1, 2560)?
         .extents(rt, 1, 6)?;
     let u = t.commit(rt)?.record_bytes(rt)?;
-    end_line(rt)?;
-    say(rt, b"E11 committed")?;
+    rt.write_all(b"\n")?;
+    rt.write_all(b"E11 committed")?;
     let v = u
         .set_size(rt, 1, 2048)?
         .staged(rt)?
         .extents(rt, 1, 5)?
         .commit(rt)?;
     v.record_bytes(rt)?.bit(rt, 50)?.bit(rt, 51)?;
-    end_line(rt)
+    rt.write_all(b"\n")
 }
 
 // 64 blocks do not hold a file of 1,048,576 bytes, so past refusal 4 comes 16.
@@ -697,12 +689,12 @@ fn e12(rt: &impl Print) -> io::Result<()> {
     let u = t.write(rt, 1, 1048576, &byte)?;
     let v = u.write(rt, 1, 18446744073709551615, &byte)?;
     v.set_size(rt, 1, 1048576)?.set_size(rt, 1, 1048577)?;
-    end_line(rt)
+    rt.write_all(b"\n")
 }
 
 fn e13(rt: &impl Print) -> io::Result<()> {
     Till::empty(rt, b"E13")?.create(rt, 1)?.rename(rt, 1, 1)?;
-    end_line(rt)
+    rt.write_all(b"\n")
 }
 
 // ---- more than the examples
@@ -721,7 +713,7 @@ fn full(rt: &impl Print) -> io::Result<()> {
         .free(rt)?;
     let v = u.write(rt, 2, 0, &byte)?.free(rt)?.extents(rt, 2, 2)?;
     v.commit(rt)?.reopen(rt)?;
-    end_line(rt)
+    rt.write_all(b"\n")
 }
 
 // One block free and a fifth extent due: the data block fits, its extent block does not.
@@ -737,7 +729,7 @@ fn node(rt: &impl Print) -> io::Result<()> {
         .commit(rt)?
         .record_bytes(rt)?
         .reopen(rt)?;
-    end_line(rt)
+    rt.write_all(b"\n")
 }
 
 // A block freed and taken again in one transaction shows nothing of what it held.
@@ -752,7 +744,7 @@ fn again(rt: &impl Print) -> io::Result<()> {
         .read(rt, 2, 0)?;
     let v = u.staged(rt)?.commit(rt)?.reopen(rt)?;
     v.read(rt, 1, 502)?.read(rt, 2, 0)?;
-    end_line(rt)
+    rt.write_all(b"\n")
 }
 
 // A file of 1,500 sevens cut to a size and lengthened again.
@@ -766,7 +758,7 @@ fn shorten(rt: &impl Print, n: usize, place: usize) -> io::Result<()> {
         .read(rt, 1, place)?
         .commit(rt)?
         .reopen(rt)?;
-    end_line(rt)
+    rt.write_all(b"\n")
 }
 
 fn removed(rt: &impl Print) -> io::Result<()> {
@@ -778,7 +770,7 @@ fn removed(rt: &impl Print) -> io::Result<()> {
         .free(rt)?
         .remove(rt, 2)?;
     u.staged(rt)?.commit(rt)?.reopen(rt)?.free(rt)?;
-    end_line(rt)
+    rt.write_all(b"\n")
 }
 
 // The record stays in its place, and create takes the lowest empty one.
@@ -793,7 +785,7 @@ fn renamed(rt: &impl Print) -> io::Result<()> {
         .rename(rt, 1, 4)?;
     let v = u.remove(rt, 3)?.create(rt, 5)?;
     v.record(rt, 0)?.record(rt, 1)?.record(rt, 128)?;
-    end_line(rt)
+    rt.write_all(b"\n")
 }
 
 fn aborted(rt: &impl Print) -> io::Result<()> {
@@ -802,7 +794,7 @@ fn aborted(rt: &impl Print) -> io::Result<()> {
         .create(rt, 2)?
         .free(rt)?;
     t.abort(rt)?.staged(rt)?.free(rt)?.size(rt, 1)?.size(rt, 2)?;
-    end_line(rt)
+    rt.write_all(b"\n")
 }
 
 // Files 0 to n - 1 made.
@@ -821,7 +813,7 @@ fn records(rt: &impl Print) -> io::Result<()> {
     let s = create_all(&device, &mut work, t.session, 128);
     let u = t.with(work, s).record(rt, 127)?.staged(rt)?;
     u.create(rt, 128)?.create(rt, 127)?;
-    end_line(rt)
+    rt.write_all(b"\n")
 }
 
 // Files 1 and 2 grown by one block in turn, each time committed.
@@ -833,7 +825,7 @@ fn in_turn_committed(
     n: usize,
 ) -> io::Result<Session> {
     let mut t = s;
-    say(rt, b", 1 and 2 grown in turn to blocks")?;
+    rt.write_all(b", 1 and 2 grown in turn to blocks")?;
     number(rt, n)?;
     for i in 0..n {
         let u = grow(device, work, t, 1, i + 1);
@@ -862,7 +854,7 @@ fn many_extents(rt: &impl Print) -> io::Result<()> {
 fn last_extents(rt: &impl Print, device: &mut [u8], work: &mut [u8], s: Session) -> io::Result<()> {
     free(rt, device, work, s)?;
     record_bytes(rt, device)?;
-    say(rt, b", extents 511 and 512 of 1:")?;
+    rt.write_all(b", extents 511 and 512 of 1:")?;
     extent(rt, device, work, s, 1, 511)?;
     extent(rt, device, work, s, 1, 512)?;
     let one = set_size(rt, device, work, s, 1, 262656)?;
@@ -870,7 +862,7 @@ fn last_extents(rt: &impl Print, device: &mut [u8], work: &mut [u8], s: Session)
     staged(rt, two)?;
     commit(rt, device, work, two)?;
     reopen(rt, device)?;
-    end_line(rt)
+    rt.write_all(b"\n")
 }
 
 fn examples(rt: &impl Print) -> io::Result<()> {

@@ -14,6 +14,7 @@ use Rattle.spec.specs.declared.Refusal.TheVariants.{DeviceSize, WorkSize, BadNam
 use Rattle.spec.specs.Answers.{Result, refuse, accept, require, ◌>>◌, Answer}
 use Rattle.spec.specs.Transaction.{state_of}
 use Rattle.spec.specs.Calls.{Outcome, left, lent_ok, name_ok}
+use Rattle.lists.specs.Tests.{both_true}
 use Rattle.checks.specs.Checks.{names_ok, name_size_ok}
 
 -- ---- 1 and 2, and 12
@@ -76,11 +77,7 @@ module _ (s : Session) (d w name : List ℕ) where
   names-say new t h =
       let p = then-passed (lent_ok (state_of s d w)) _ t h in
       let q = then-passed (require (is_name name && is_name new) BadName) _ t p.rest in
-      ((lent_says s d w p.value p.first).work, name-length new (second (is_name name) (is_name new) (require-passed (is_name name && is_name new) q.value BadName q.first)))
-    where
-      second : (a b : Bool) → (a && b) ≡ true → b ≡ true
-      second true b e = e
-      second false b e = cc
+      ((lent_says s d w p.value p.first).work, name-length new (both_true (is_name name) (is_name new) (require-passed (is_name name && is_name new) q.value BadName q.first)).1)
 
   pub sized-says : (size : ℕ) (t : Bool) → accept t ≡ name_size_ok (state_of s d w) name size → (length w ≡ 16384) × (size ≤ 1048576)
   unfolding name_size_ok

@@ -7,7 +7,7 @@ use Rattle.spec.specs.declared.Refusal.{Refusal}
 use Rattle.spec.specs.declared.Refusal.TheVariants.{BadName, TooLarge, NotReady}
 use Rattle.spec.specs.Session.{staged_in}
 use Rattle.spec.specs.Inode.{is_name}
-use Rattle.spec.specs.Answers.{Answer, done, refusal_of, Result, refuse, accept, require, ◌>>◌}
+use Rattle.spec.specs.Answers.{Result, refuse, accept, require, ◌>>◌}
 use Rattle.spec.specs.Transaction.{State}
 use Rattle.spec.specs.Calls.{lent_ok, size_fits, is_ready}
 
@@ -40,14 +40,3 @@ name_size_ok s name size = do
   require (is_name name) BadName
   require (size_fits size) TooLarge
   require (is_ready s.session.phase) NotReady
-
--- ---- a call that is lent a session's cells, so many of them in use: it returns how many are in use behind it, or why it is refused
-
-abbrev pub changed_of : Returned ℕ Refusal → Answer
-changed_of (Ok count) = done
-changed_of (Err r) = refusal_of r
-
--- as many as before where it is refused
-abbrev pub in_use : ℕ → Returned ℕ Refusal → ℕ
-in_use before (Ok count) = count
-in_use before (Err r) = before

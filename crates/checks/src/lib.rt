@@ -3,15 +3,14 @@
 
 ghost use Rattle.std.specs.Prelude.{◌≡◌, ◌+◌, ◌*◌, eqb, leb, Ok, Err};
 ghost use Rattle.spec.specs.declared.Session.{Session};
-ghost use Rattle.spec.specs.Session.{with_cells};
-ghost use Rattle.spec.specs.Answers.{require, done_of};
+ghost use Rattle.spec.specs.Answers.{require};
 ghost use Rattle.spec.specs.declared.Refusal.TheVariants.{NotReady};
 ghost use Rattle.spec.specs.Disk.{is_allowed};
 ghost use Rattle.spec.specs.Inode.{is_name};
 ghost use Rattle.spec.specs.Transaction.{State, state_of};
 ghost use Rattle.transaction.specs.Volumes.{Shows};
 ghost use Rattle.spec.specs.Calls.{is_ready, lent_ok, ready_ok, name_ok};
-ghost use Rattle.checks.specs.Checks.{result_of, names_ok, name_size_ok, changed_of, in_use};
+ghost use Rattle.checks.specs.Checks.{result_of, names_ok, name_size_ok};
 
 use block::key_of;
 use spec::{Answered, ByteOffset, Limits, Phase, Refusal, Session};
@@ -41,7 +40,7 @@ fn same_size(size: usize, blocks: usize) -> bool
     blocks == size / Limits::BLOCK_SIZE
 }
 
-// 1 and 2, of every session on so many blocks
+// 1 and 2, of every session on so many blocks. Parameters and no Volume: an advance is lent the device to change it, and a Volume only reads; this serves both.
 #[tactic(auto, unfolding(spec::specs::Calls::lent_ok))]
 pub fn lent(device: &[u8], work: &[u8], blocks: usize) -> Result<(), Refusal>
     ensures { (s : Session) → s.blocks ≡ blocks → result_of result ≡ lent_ok (state_of s device.now work.now) }
@@ -165,21 +164,5 @@ pub fn done(session: Session) -> Answered<()>
     Answered {
         session,
         answer: Ok(()),
-    }
-}
-
-// What a call that is lent a session's cells has changed, told of the session by value: its other numbers are kept.
-pub fn finished(
-    blocks: usize,
-    phase: Phase,
-    cells: [u32; Limits::LOG_LENGTH],
-    count: usize,
-    changed: Result<usize, Refusal>,
-) -> Answered<()>
-    ensures { (result.session ≡ with_cells blocks phase cells (in_use count changed)) × (done_of result.answer ≡ changed_of changed) }
-{
-    match changed {
-        Ok(after) => done(Session::with_cells(blocks, phase, cells, after)),
-        Err(why) => refused(Session::with_cells(blocks, phase, cells, count), why),
     }
 }

@@ -10,8 +10,7 @@ use native.Mathlib.Numerals.{add-one}
 use borrow.Author.Tests.{eqb-true, leb-true, le-leb, lt-leb, lt-ltb, le-ltb}
 use lib.Dec.{eqb, leb, ltb}
 use lib.ListN.{length, take, drop, get_or, replicate, length-take, length-drop, take-append-drop, drop_of_length-le}
-use lib.Seq.{take_all, take-take, take-suc, drop-cons, drop-drop}
-use Rattle.std.proofs.lemmas.List.{drop-take}
+use lib.Seq.{take_all, take-suc, drop-cons, drop-drop}
 use Rattle.lists.specs.Tests.{both_true}
 use Rattle.spec.specs.Bytes.{exactly, zeros, bytes2}
 use Rattle.block.proofs.Laws.{lt-or-le, length-exactly, exactly-nil}
@@ -34,27 +33,22 @@ record-laid i at q new old ea eq =
 
 -- ---- a node
 
--- n extents from a place on, as far as the list goes, are at most 128 of those listed
-pub extents-of : (cs : List Extent) (len s n : ℕ) → n ≡ min (len - s) 128 → take (s + n - s) (drop s cs) ≡ take 128 (drop s (take len cs))
-extents-of cs len s n e = ap (λ (m : ℕ). take m (drop s cs)) z ∙ go (lt-or-le len s) (lt-or-le 128 (len - s))
+-- those from a place on, as far as they go, are at most 128 of them
+pub extents-of : (xs : List Extent) (s from end : ℕ) → from ≡ min (length xs) s → end ≡ min (length xs) (from + 128) → take (end - from) (drop from xs) ≡ take 128 (drop s xs)
+extents-of xs s from end f e = go (lt-or-le (length xs) s) (lt-or-le (s + 128) (length xs))
   where
-    z : s + n - s ≡ n
-    z = omega arith
-
-    go : (len < s) ⊎ (s ≤ len) → (128 < len - s) ⊎ (len - s ≤ 128) → take n (drop s cs) ≡ take 128 (drop s (take len cs))
+    go : (length xs < s) ⊎ (s ≤ length xs) → (s + 128 < length xs) ⊎ (length xs ≤ s + 128) → take (end - from) (drop from xs) ≡ take 128 (drop s xs)
     go (inl h) w =
-        let y : n ≡ 0 = omega arith in
-        let l : length (take len cs) ≤ s = simp length-take (omega arith) in
-        rw (y, drop_of_length-le (take len cs) l)
+        let y : end - from ≡ 0 = omega arith in
+        rw (y, drop_of_length-le xs {i = s} (omega arith))
     go (inr h) (inl m) =
-        let y : n ≡ 128 = omega arith in
-        let u : s + (len - s) ≡ len = omega arith in
-        rw (y, ← u, drop-take s (len - s) cs, take-take 128 (len - s) (drop s cs) (omega arith))
+        let x : from ≡ s = omega arith in
+        let y : end - s ≡ 128 = omega arith in
+        rw (x, y)
     go (inr h) (inr m) =
-        let y : n ≡ len - s = omega arith in
-        let u : s + (len - s) ≡ len = omega arith in
-        let l : length (take (len - s) (drop s cs)) ≤ 128 = simp length-take (omega arith) in
-        rw y (sym (ap (λ (k : ℕ). take 128 (drop s (take k cs))) (sym u) ∙ ap (take 128) (drop-take s (len - s) cs) ∙ take_all 128 (take (len - s) (drop s cs)) l))
+        let x : from ≡ s = omega arith in
+        let l : length (drop s xs) ≡ length xs - s = length-drop s xs in
+        rw x (take_all (end - s) (drop s xs) (omega (arith, l)) ∙ sym (take_all 128 (drop s xs) (omega (arith, l))))
 
 unfoldable pub filled : List ℕ → List ℕ
 filled xs = exactly 512 xs
@@ -208,16 +202,16 @@ module _ (held old_size size p : ℕ) (old : List ℕ) where
   unfolding kept_content zeros
   kept_new h l q e = rw (e, l, le-leb held p h)
 
-  pub kept-cut : p < held → is_last_kept old_size size p ≡ true → length old ≡ 512 → (q : List ℕ) → q ≡ replicate (length (take (length old - size % 512) (drop (size % 512) old))) 0
-      → take (size % 512) old ++ (q ++ drop (length old - size % 512) (drop (size % 512) old)) ≡ kept_content held old_size size p old
+  pub kept-cut : p < held → is_last_kept old_size size p ≡ true → length old ≡ 512 → (q : List ℕ) → q ≡ replicate (length (take (512 - size % 512) (drop (size % 512) old))) 0
+      → take (size % 512) old ++ (q ++ drop (512 - size % 512) (drop (size % 512) old)) ≡ kept_content held old_size size p old
   unfolding kept_content
   kept-cut h t l q e =
       let n = size % 512 in
       let m : length (take n old) ≡ n = simp length-take (omega arith) in
-      let r : length (take (length old - n) (drop n old)) ≡ length old - n = simp (length-take, length-drop) (omega arith) in
-      let z : length (drop n old) ≤ length old - n = simp length-drop (omega arith) in
+      let r : length (take (512 - n) (drop n old)) ≡ 512 - n = simp (length-take, length-drop) (omega arith) in
+      let z : length (drop n old) ≤ 512 - n = simp length-drop (omega arith) in
       rw (lt-leb held p h, t, last-kept old_size size p t, e, drop_of_length-le (drop n old) z, r)
-      (ap (λ (xs : List ℕ). take n old ++ xs) (append-nil (replicate (length old - n) 0)) ∙ exactly-zeros 512 (length old - n) (take n old) (omega arith))
+      (ap (λ (xs : List ℕ). take n old ++ xs) (append-nil (replicate (512 - n) 0)) ∙ exactly-zeros 512 (512 - n) (take n old) (omega arith))
 
   pub kept_same : p < held → is_last_kept old_size size p ≡ false → old ≡ kept_content held old_size size p old
   unfolding kept_content

@@ -1,6 +1,6 @@
 -- The content of blocks after a change, sealed, for the contracts of this crate.
 use Rattle.std.specs.Prelude.{ℕ, ◌*◌, cond, List, [], take, drop, leb}
-use Rattle.spec.specs.Bytes.{exactly, patch, zeros}
+use Rattle.spec.specs.Bytes.{patch, zeros}
 use Rattle.spec.specs.declared.Extent.{Extent}
 use Rattle.spec.specs.Inode.{place_of_inode, node_bytes, counts, top_slots}
 use Rattle.spec.specs.Plan.{overlay, clear_tail, is_last_kept, new_content}

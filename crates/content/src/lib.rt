@@ -9,8 +9,8 @@ ghost use Rattle.runs.specs.Runs.{Bounded, listed, levels_in};
 ghost use Rattle.content.specs.Content.{tree_of, with_record, node_content, counts_below, slots_above, laid_over, kept_content, data_content};
 
 use block::place_in_block;
-use runs::{ExtentList, Nodes, block_count};
-use spec::{ByteOffset, Extent, FileBlock, Limits};
+use runs::{DataBlock, ExtentList, Nodes, block_count};
+use spec::{ByteOffset, Extent, Limits};
 
 // The first bytes of file record i replaced in its block.
 pub fn lay_record(block: &mut [u8], i: usize, new: &[u8])
@@ -22,16 +22,14 @@ pub fn lay_record(block: &mut [u8], i: usize, new: &[u8])
 }
 
 // The extents of node j.
-fn extents_of(extents: &ExtentList, j: usize) -> &[Extent]
-    requires { (extents.now.len ≤ 512) × (j < 4) }
+fn extents_of(extents: &ExtentList, j: u8) -> &[Extent]
+    requires { extents.now.len ≤ 512 }
     ensures { result.now ≡ take 128 (drop (128 * j) (listed extents.now)) }
 {
-    let start = Limits::SLOTS_PER_NODE * j;
-    let n = extents
-        .len
-        .saturating_sub(start)
-        .min(Limits::SLOTS_PER_NODE);
-    &extents.cells[start..start + n]
+    let all = extents.listed();
+    let from = all.len().min(Limits::SLOTS_PER_NODE * j as usize);
+    let end = all.len().min(from + Limits::SLOTS_PER_NODE);
+    &all[from..end]
 }
 
 fn slot_bytes(e: Extent) -> [u8; 4]
@@ -43,20 +41,20 @@ fn slot_bytes(e: Extent) -> [u8; 4]
 }
 
 // The content of node j.
-pub fn node_content(extents: &ExtentList, j: usize) -> [u8; Limits::BLOCK_SIZE]
-    requires { (extents.now.len ≤ 512) × (j < 4) }
+pub fn node_content(extents: &ExtentList, j: u8) -> [u8; Limits::BLOCK_SIZE]
+    requires { extents.now.len ≤ 512 }
     ensures { result ≡ node_content extents.now j }
 {
     let own = extents_of(extents, j);
     let mut out = [0u8; Limits::BLOCK_SIZE];
-    for k in 0..own.len() {
+    for (k, e) in own.iter().enumerate() {
         let at = 4 * k;
-        out[at..at + 4].copy_from_slice(&slot_bytes(own[k]));
+        out[at..at + 4].copy_from_slice(&slot_bytes(*e));
     }
     out
 }
 
-// The extent at place k, of no blocks past the last one.
+// The extent at place k, of no blocks past the last one: no Option, since a slot of no blocks is what an unused slot is on the disk.
 fn extent_at(extents: &ExtentList, k: usize) -> Extent
     requires { k < 512 }
     ensures { result ≡ get_or (listed extents.now) k (extent 0 0) }
@@ -67,7 +65,7 @@ fn extent_at(extents: &ExtentList, k: usize) -> Extent
     Extent { first: 0, count: 0 }
 }
 
-// Slot k of the record: an extent, or a node with the data blocks below it.
+// Slot k of the record: an extent, or a node with the data blocks below it. An unused slot is one of no blocks, as on the disk.
 fn top_slot(extents: &ExtentList, nodes: Nodes, k: usize) -> Extent
     requires { (k < 4) × Bounded (tree_of extents.now nodes) }
     ensures { result ≡ get_or (slots_above (tree_of extents.now nodes)) k (extent 0 0) }
@@ -78,19 +76,20 @@ fn top_slot(extents: &ExtentList, nodes: Nodes, k: usize) -> Extent
     if k < nodes.len {
         return Extent {
             first: nodes.node[k],
-            count: block_count(extents_of(extents, k)),
+            count: block_count(extents_of(extents, k as u8)),
         };
     }
     Extent { first: 0, count: 0 }
 }
 
+// The depth, as the record tells it: 0 without nodes, 1 with them.
 fn depth_of(nodes: Nodes) -> u8
     ensures { result ≡ cond (eqb nodes.len 0) 0 1 }
 {
     if nodes.len == 0 { 0 } else { 1 }
 }
 
-// The fields of a record, one after the other.
+// The fields of a record, one after the other, in their order. An array literal: std joins arrays by `concat`, which wants a heap.
 fn joined(
     n: [u8; 8],
     z: [u8; 4],
@@ -140,11 +139,10 @@ pub struct Rewrite<'a> {
 
 impl Rewrite<'_> {
     // The data laid over block p of the file.
-    fn lay_over(&self, block: &mut [u8], p: FileBlock)
-        requires { (length block.old ≡ 512) × (p.0 < 4294967296) }
+    fn lay_over(&self, block: &mut [u8; Limits::BLOCK_SIZE], p: DataBlock)
         ensures { block.new ≡ laid_over self.now.x.0 self.now.bytes.now p.0 block.old }
     {
-        let start = Limits::BLOCK_SIZE * p.0;
+        let start = Limits::BLOCK_SIZE * p.0 as usize;
         let x = self.x.0;
         let from = Limits::BLOCK_SIZE.min(x.saturating_sub(start));
         let end = Limits::BLOCK_SIZE.min((x + self.bytes.len()).saturating_sub(start));
@@ -155,48 +153,43 @@ impl Rewrite<'_> {
     }
 
     // Whether the data covers the whole of block p of the file.
-    fn is_covered(&self, p: FileBlock) -> bool
-        requires { p.0 < 4294967296 }
+    fn is_covered(&self, p: DataBlock) -> bool
         ensures { result ≡ leb self.now.x.0 (512 * p.0) && leb (512 * p.0 + 512) (self.now.x.0 + length self.now.bytes.now) }
     {
-        let start = Limits::BLOCK_SIZE * p.0;
+        let start = Limits::BLOCK_SIZE * p.0 as usize;
         (self.x.0 <= start) & (start + Limits::BLOCK_SIZE <= self.x.0 + self.bytes.len())
     }
 
     // "on shortening to a size not divisible by 512, the last kept block"
-    fn is_last_kept(&self, p: FileBlock) -> bool
+    fn is_last_kept(&self, p: DataBlock) -> bool
         ensures { result ≡ is_last_kept self.now.old self.now.size p.0 }
     {
         (self.size < self.old)
             & !(self.size % Limits::BLOCK_SIZE == 0)
-            & (p.0 == self.size / Limits::BLOCK_SIZE)
+            & (p.0 as usize == self.size / Limits::BLOCK_SIZE)
     }
 
     // "each data block holding a byte of the data"
-    fn holds_data(&self, p: FileBlock) -> bool
-        requires { p.0 < 4294967296 }
+    fn holds_data(&self, p: DataBlock) -> bool
         ensures { result ≡ holds_data self.now.x.0 self.now.bytes.now p.0 }
     {
         let n = self.bytes.len();
-        (0 < n)
-            & (self.x.0 < Limits::BLOCK_SIZE * (p.0 + 1))
-            & (Limits::BLOCK_SIZE * p.0 < self.x.0 + n)
+        let start = Limits::BLOCK_SIZE * p.0 as usize;
+        (0 < n) & (self.x.0 < start + Limits::BLOCK_SIZE) & (start < self.x.0 + n)
     }
 
     // "each data block holding a byte of the data; each new data .. block; .. the last kept block"
-    pub fn is_staged(&self, p: FileBlock) -> bool
-        requires { p.0 < 4294967296 }
+    pub fn is_staged(&self, p: DataBlock) -> bool
         ensures { result ≡ is_staged self.now.held self.now.old self.now.size self.now.x.0 self.now.bytes.now p.0 }
     {
-        (self.held <= p.0) | self.holds_data(p) | self.is_last_kept(p)
+        (self.held <= p.0 as usize) | self.holds_data(p) | self.is_last_kept(p)
     }
 
     // Block p of the file before the data is laid over it: a new one is zeros, in the last kept one the bytes from the size on are.
-    fn clear(&self, block: &mut [u8], p: FileBlock)
-        requires { length block.old ≡ 512 }
+    fn clear(&self, block: &mut [u8; Limits::BLOCK_SIZE], p: DataBlock)
         ensures { block.new ≡ kept_content self.now.held self.now.old self.now.size p.0 block.old }
     {
-        if self.held <= p.0 {
+        if self.held <= p.0 as usize {
             block.fill(0);
         } else if self.is_last_kept(p) {
             block[self.size % Limits::BLOCK_SIZE..].fill(0);
@@ -204,8 +197,7 @@ impl Rewrite<'_> {
     }
 
     // Block p of the file as the change leaves it. Where the data covers it, what it held plays no part.
-    pub fn lay(&self, block: &mut [u8], p: FileBlock)
-        requires { (length block.old ≡ 512) × (p.0 < 4294967296) }
+    pub fn lay(&self, block: &mut [u8; Limits::BLOCK_SIZE], p: DataBlock)
         ensures { block.new ≡ data_content self.now.held self.now.old self.now.size self.now.x.0 self.now.bytes.now p.0 block.old }
     {
         if !self.is_covered(p) {

@@ -29,7 +29,7 @@ fn refused(number: u32, line: usize) -> CConverted
     }
 }
 
-// An answer in numbers.
+// An answer in numbers. 20, 21, 24 and 25 are told to C here alone, 20 and 21 by crate loadapi too, and else by the programs that print them.
 fn numbers_of(answer: Result<usize, ConvertFault>) -> CConverted
     ensures { result ≡ converted_numbers (converted_of answer) }
 {

@@ -28,9 +28,12 @@ use Rattle.cardfile.proofs.Laws.{no_byte}
 use Rattle.cardfile.proofs.Splits.{split-some, split-feed, split-last, split-nil}
 use Rattle.cardfile.proofs.Spellings.{read_is, bytes-number, digits-few, length-hex, length-padded}
 use Rattle.cardfile.proofs.Names.{width_fits, number_fits}
+use Rattle.cardfile.specs.Steps.{line_shown, LineStep}
+use Rattle.cardfile.specs.declared.Lines.{Lines}
+use Rattle.cardfile.proofs.Steps.{shown-line, shown-fault, shown-none}
 use Rattle.cardfile.proofs.Places.{Stands, stands, too-long-at, malformed-at, nothing-at, long-at, bad-at, none-at, found_at}
 use Rattle.converter.specs.Convert.{cents, line_with, Conversion, output, refusal, onto, entry_converted, line_converted, last_converted, convert_lines, convert_file, converted_of}
-use Rattle.converter.specs.Passes.{answer_behind, answer_for, with_line, fault_at, spelt_size}
+use Rattle.converter.specs.Passes.{answer_behind, answer_for, card_told, spelt_size}
 
 -- ---- the lines from a place on
 
@@ -235,33 +238,32 @@ pub tested-none : (w : ℕ) (text : List ℕ) (most : ℕ) → Tested w text mos
 unfolding convert_file
 tested-none w text most = record { inside = omega arith; count = omega arith; fits = omega arith; rest = refl }
 
+-- what a step over the lines shows
+pub seen : (text : List ℕ) (s t : Lines) (o : Option (Result Line LineFault)) → s.text.now ≡ text → LineStep s o t → o ≡ line_shown (line_at text s.at)
+seen text s t o e h = h.shows ∙ ap (λ (u : List ℕ). line_shown (line_at u s.at)) e
+
+pub numbered : (w : ℕ) (text : List ℕ) (most at count : ℕ) (room : Option ℕ) → Tested w text most at (count + 1) room → (k : ℕ) → k ≡ count → Tested w text most at (k + 1) room
+numbered w text most at count room p k h = rw h p
+
 module _ (w : ℕ) (text : List ℕ) (most at line : ℕ) (room : Option ℕ) (p : Tested w text most at line room) where
   told : (k : ℕ) → convert_lines w line (split_lines (drop at text)) ≡ refusal k line → refused k (line ∷ []) ≡ answer_for most (convert_file w text)
   unfolding answer_behind
   told k e = ap (answer_behind most room) (sym e) ∙ p.rest
 
-  pub tested-fault : (f : ConvertFault) → Err f ≡ fault_at text at line → converted_of (Err f) ≡ answer_for most (convert_file w text)
-  tested-fault f h = go (line_at text at) refl h
-    where
-      go : (r : Result (Option Line) LineFault) → line_at text at ≡ r → Err f ≡ with_line line r → converted_of (Err f) ≡ answer_for most (convert_file w text)
-      go (Ok x) q h = cc
-      go (Err line-cases.TooLong) q h = let z : f ≡ TooLong line = cc in rw z (told 20 (line-long w text at q line))
-      go (Err line-cases.BadForm) q h = let z : f ≡ Malformed line = cc in rw z (told 21 (line-bad w text at q line))
+  pub tested-fault : (r : Result Line LineFault) → Some r ≡ line_shown (line_at text at) → (f : ConvertFault) → Err f ≡ card_told line r → converted_of (Err f) ≡ answer_for most (convert_file w text)
+  tested-fault (Ok x) s f h = cc
+  tested-fault (Err line-cases.TooLong) s f h = let z : f ≡ TooLong line = cc in rw z (told 20 (line-long w text at (shown-fault text at line-cases.TooLong (sym s)) line))
+  tested-fault (Err line-cases.BadForm) s f h = let z : f ≡ Malformed line = cc in rw z (told 21 (line-bad w text at (shown-fault text at line-cases.BadForm (sym s)) line))
 
-  tested-found : (o : Option Line) → Ok o ≡ fault_at text at line → line_at text at ≡ Ok o
-  tested-found o h = go (line_at text at) h
-    where
-      go : (r : Result (Option Line) LineFault) → Ok o ≡ with_line line r → r ≡ Ok o
-      go (Ok x) h = cc
-      go (Err line-cases.TooLong) h = cc
-      go (Err line-cases.BadForm) h = cc
+  pub tested-card : (r : Result Line LineFault) → Some r ≡ line_shown (line_at text at) → (next : ℕ) → ((x : Line) → Some r ≡ Some (Ok x) → next ≡ x.next)
+      → (c : Card) → Ok c ≡ card_told line r → Next w text at c next
+  tested-card (Ok x) s next b c h = let z : x.card ≡ c = cc in rw (b x refl, ← z) (line-found w text at x (shown-line text at x (sym s)))
+  tested-card (Err line-cases.TooLong) s next b c h = cc
+  tested-card (Err line-cases.BadForm) s next b c h = cc
 
-  pub tested-card : (o : Option Line) → Ok o ≡ fault_at text at line → (x : Line) → o ≡ Some x → Next w text at x.card x.next
-  tested-card o h x e = line-found w text at x (tested-found o h ∙ ap Ok e)
-
-  pub tested-end : (o : Option Line) → Ok o ≡ fault_at text at line → o ≡ None → (r : Result ℕ ConvertFault) → r ≡ ok_or room TooSmall → converted_of r ≡ answer_for most (convert_file w text)
+  pub tested-end : None ≡ line_shown (line_at text at) → (r : Result ℕ ConvertFault) → r ≡ ok_or room TooSmall → converted_of r ≡ answer_for most (convert_file w text)
   unfolding answer_behind
-  tested-end o h n r e = rw e (go room p.fits refl ∙ ap (answer_behind most room) (sym (line-end w text at (line-none w text at (tested-found o h ∙ ap Ok n)) line)) ∙ p.rest)
+  tested-end s r e = rw e (go room p.fits refl ∙ ap (answer_behind most room) (sym (line-end w text at (line-none w text at (shown-none text at (sym s))) line)) ∙ p.rest)
     where
       go : (o : Option ℕ) → IfSome o (λ n. n ≤ most) → room ≡ o → converted_of (ok_or room TooSmall) ≡ answer_behind most room (output [])
       go None f q = rw q

@@ -4,7 +4,7 @@ use mathlib.Core.Path.{◌≡◌, refl, sym, ap, ◌∙◌}
 use mathlib.Core.Bool.{Bool, true, false, cond}
 use mathlib.Core.List.{List, [], ◌∷◌, ◌++◌, append_assoc}
 use mathlib.Core.Option.{some}
-use Rattle.std.specs.Prelude.{None, Ok, Err}
+use Rattle.std.specs.Prelude.{Some, None, Result, Ok, Err}
 use native.Mathlib.Omega.{arith}
 use native.Mathlib.Nat.{div-div-eq-div-mul, pow-succ', one-le-pow}
 use lib.ListN.{length, take, drop, length-append, take-append-drop}
@@ -21,6 +21,10 @@ use Rattle.cardfile.specs.Lines.{split_lines, letter_of, line_at, name_told}
 use Rattle.cardfile.specs.declared.Card.{Card}
 use Rattle.cardfile.specs.declared.Spelling.{Spelling}
 use Rattle.cardfile.specs.declared.Spelling.TheVariants.{Hexadecimal, Decimal}
+use Rattle.cardfile.specs.Steps.{line_shown, LineStep}
+use Rattle.cardfile.proofs.Steps.{shown-line, shown-fault, shown-none}
+use Rattle.cardfile.specs.declared.Line.{Line}
+use Rattle.cardfile.specs.declared.Lines.{Lines}
 use Rattle.cardfile.specs.declared.LineFault.{LineFault}
 use Rattle.cardfile.specs.declared.LineFault.TheVariants.{TooLong, BadForm}
 use Rattle.cardfile.proofs.Laws.{before-is, length-bytes, number-bytes}
@@ -31,7 +35,7 @@ use Rattle.converter.specs.declared.ConvertFault.TheVariants as fault-cases
 use Rattle.converter.specs.Convert.{cents, line_with, Conversion, output, refusal, onto, entry_converted, line_converted, last_converted, convert_lines, convert_file, left_buffer, settled, convert, converted_of}
 use Rattle.converter.specs.Passes.{answer_behind, answer_for, output_of}
 use Rattle.converter.proofs.Meaning.{no-refusal, last-refused, line_of, line-to}
-use Rattle.converter.proofs.Passes.{Next, line-long, line-bad, line-none, line-end, digits_are, serial-is, cents-are}
+use Rattle.converter.proofs.Passes.{Next, seen, line-found, line-long, line-bad, line-none, line-end, digits_are, serial-is, cents-are}
 
 -- ---- digits and serials
 
@@ -47,9 +51,6 @@ padded-front (suc k) n =
 pub record Padding (w₀ : Writer) (count n : ℕ) (w : Writer) (k u : ℕ) : Type 0 where
   pub unit : u ≡ 10 ^ k
   pub left : Left w₀ (padded count n) w (padded k n)
-
-pub padding-none : (w : Writer) (count k unit n : ℕ) → k ≡ count → unit ≡ 10 ^ count → Padding w count n w k unit
-padding-none w count k unit n q e = rw q (record { unit = e; left = left-start w (padded count n) (padded count n) refl })
 
 module _ (w₀ : Writer) (count n : ℕ) (w : Writer) (k u : ℕ) (q : Padding w₀ count n w k u) where
   pub unit-next : (j : ℕ) → k ≡ suc j → u / 10 ≡ 10 ^ j
@@ -158,12 +159,19 @@ module _ (w : ℕ) (text : List ℕ) (p₀ p : Writer) (at : ℕ) (q : Putting w
   not-refused : {A : Type 0} (k : ℕ) → convert_lines w 1 (split_lines (drop at text)) ≡ refusal k 1 → A
   not-refused k e = no-refusal (output_of (convert_lines w 1 (split_lines (drop at text)))) k 1 (sym e ∙ q.fine 1)
 
-  pub put-end : line_at text at ≡ Ok None → Put p₀ p (output_of (convert_file w text))
-  put-end e = left_end p₀ (output_of (convert_file w text)) p (output_of (convert_lines w 1 (split_lines (drop at text)))) q.left (ap output_of (line-end w text at (line-none w text at e) 1))
+  pub put-end : None ≡ line_shown (line_at text at) → Put p₀ p (output_of (convert_file w text))
+  put-end e = left_end p₀ (output_of (convert_file w text)) p (output_of (convert_lines w 1 (split_lines (drop at text)))) q.left (ap output_of (line-end w text at (line-none w text at (shown-none text at (sym e))) 1))
 
-  pub put-fault : (f : LineFault) → line_at text at ≡ Err f → Put p₀ p (output_of (convert_file w text))
-  put-fault TooLong e = not-refused 20 (line-long w text at e 1)
-  put-fault BadForm e = not-refused 21 (line-bad w text at e 1)
+  pub put-fault : (r : Result Line LineFault) → Some r ≡ line_shown (line_at text at) → (f : LineFault) → r ≡ Err f → Put p₀ p (output_of (convert_file w text))
+  put-fault r e f h = go f (shown-fault text at f (sym e ∙ ap Some h))
+    where
+      go : (f : LineFault) → line_at text at ≡ Err f → Put p₀ p (output_of (convert_file w text))
+      go TooLong e = not-refused 20 (line-long w text at e 1)
+      go BadForm e = not-refused 21 (line-bad w text at e 1)
+
+-- the card of the next line
+pub put-card : (w : ℕ) (text : List ℕ) (s t : Lines) (r : Result Line LineFault) → s.text.now ≡ text → LineStep s (Some r) t → (x : Line) → r ≡ Ok x → Next w text s.at x.card x.next
+put-card w text s t r e h x q = line-found w text s.at x (shown-line text s.at x (sym (seen text s t (Some r) e h) ∙ ap Some q))
 
 module _ (w : ℕ) (text : List ℕ) (at : ℕ) (c : Card) (next : ℕ) (s : Next w text at c next) where
   -- the amount's digits are the last of the line

@@ -1,11 +1,11 @@
 -- What the two passes over a file compute, for the contracts of this crate.
 use Rattle.std.specs.Prelude.{ℕ, ◌+◌, ◌*◌, cond, List, [], ◌∷◌, length, eqb, leb, Option, Some, None, Result, Ok, Err}
 use Rattle.spec.specs.Answers.{Answer, refused, counted}
+use Rattle.cardfile.specs.declared.Card.{Card}
 use Rattle.cardfile.specs.declared.Line.{Line}
 use Rattle.cardfile.specs.declared.LineFault.{LineFault}
 use Rattle.cardfile.specs.declared.LineFault.TheVariants as line-cases
 use Rattle.cardfile.specs.Cards.{letter_h, digits_for}
-use Rattle.cardfile.specs.Lines.{line_at}
 use Rattle.converter.specs.declared.ConvertFault.{ConvertFault}
 use Rattle.converter.specs.declared.ConvertFault.TheVariants.{TooLong, Malformed}
 use Rattle.converter.specs.Convert.{Conversion, output, refusal}
@@ -19,14 +19,11 @@ answer_behind most (Some total) (output u) = cond (leb (total + length u) most) 
 abbrev pub answer_for : ℕ → Conversion → Answer
 answer_for most c = answer_behind most (Some 0) c
 
--- what stands at a place, with the line's number where it is refused
-abbrev pub with_line : ℕ → Result (Option Line) LineFault → Result (Option Line) ConvertFault
-with_line line (Ok found) = Ok found
-with_line line (Err line-cases.TooLong) = Err (TooLong line)
-with_line line (Err line-cases.BadForm) = Err (Malformed line)
-
-abbrev pub fault_at : List ℕ → ℕ → ℕ → Result (Option Line) ConvertFault
-fault_at text at line = with_line line (line_at text at)
+-- the card of a line, or its number where it is refused
+abbrev pub card_told : ℕ → Result Line LineFault → Result Card ConvertFault
+card_told line (Ok found) = Ok found.card
+card_told line (Err line-cases.TooLong) = Err (TooLong line)
+card_told line (Err line-cases.BadForm) = Err (Malformed line)
 
 -- the output, none for a file that is refused
 abbrev pub output_of : Conversion → List ℕ

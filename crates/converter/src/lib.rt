@@ -7,9 +7,9 @@ ghost use Rattle.cardfile.specs.Cards.{bytes_of, padded, spell};
 ghost use Rattle.cardfile.specs.Lines.{letter_of};
 ghost use Rattle.text.specs.Written.{Written, Put};
 ghost use Rattle.converter.specs.Convert.{line_with, Conversion, output, onto, convert_file, left_buffer, convert, converted_of};
-ghost use Rattle.converter.specs.Passes.{answer_behind, answer_for, fault_at, output_of, spelt_size};
+ghost use Rattle.converter.specs.Passes.{answer_behind, answer_for, card_told, output_of, spelt_size};
 
-use cardfile::{Card, Line, LineFault, Serial, Spelling, line_at, name_of};
+use cardfile::{Card, Line, LineFault, Lines, Serial, Spelling, name_of};
 use text::Writer;
 
 // Ten to the number of digits of a D line: 10 for four bytes, 17 for seven.
@@ -52,12 +52,12 @@ fn count_more(room: Option<usize>, size: usize, most: usize) -> Option<usize>
     (total <= most).then_some(total)
 }
 
-// The line at a place, or the fault of the line with that number.
-fn line_of(text: &[u8], at: usize, line: usize) -> Result<Option<Line>, ConvertFault>
-    ensures { result ≡ fault_at text.now at line }
+// The card of the line with this number, or its fault.
+fn card_of(found: Result<Line, LineFault>, line: usize) -> Result<Card, ConvertFault>
+    ensures { result ≡ card_told line found }
 {
-    match line_at(text, at) {
-        Ok(found) => Ok(found),
+    match found {
+        Ok(found) => Ok(found.card),
         Err(LineFault::TooLong) => Err(ConvertFault::TooLong(line)),
         Err(LineFault::BadForm) => Err(ConvertFault::Malformed(line)),
     }
@@ -67,18 +67,15 @@ fn line_of(text: &[u8], at: usize, line: usize) -> Result<Option<Line>, ConvertF
 fn test_lines(text: &[u8], wanted: Spelling, most: usize) -> Result<usize, ConvertFault>
     ensures { converted_of result ≡ answer_for most (convert_file (letter_of wanted) text.now) }
 {
-    let mut at = 0;
-    let mut line = 1;
     let mut room = Some(0);
-    while let Some(found) = line_of(text, at, line)? {
-        let card = found.card;
+    for (k, found) in Lines::of(text).enumerate() {
+        let line = k + 1;
+        let card = card_of(found, line)?;
         if card.spelling == wanted {
             return Err(ConvertFault::SameSpelling(line));
         }
         let size = spelt_size(card.serial.bytes, wanted) + card.digits + SIGNS;
         room = count_more(room, size, most);
-        at = found.next;
-        line += 1;
     }
     room.ok_or(ConvertFault::TooSmall)
 }
@@ -97,7 +94,8 @@ fn put_padded(w: &mut Writer, count: usize, unit: u64, n: u64)
     }
 }
 
-// A card's serial in the wanted spelling. Its bytes stand in the card's name, behind their number.
+// A card's serial in the wanted spelling. Its bytes stand in the card's name, behind their number. What is asked stands here and in put_card alone: as a ghost
+// field of Serial it would have to be proved in each definition that tells a serial.
 fn put_serial(w: &mut Writer, card: Card, wanted: Spelling)
     requires { (card.serial.bytes ≤ 7) × (card.serial.number < 256 ^ card.serial.bytes) }
     ensures { Put w.old w.new (spell (letter_of wanted) (bytes_of card.serial.bytes card.serial.number)) }
@@ -116,7 +114,7 @@ fn put_serial(w: &mut Writer, card: Card, wanted: Spelling)
 }
 
 // A line: the serial respelled, the wanted letter, the amount's bytes copied.
-fn put_line(w: &mut Writer, card: Card, wanted: Spelling, amount: &[u8])
+fn put_card(w: &mut Writer, card: Card, wanted: Spelling, amount: &[u8])
     requires { (card.serial.bytes ≤ 7) × (card.serial.number < 256 ^ card.serial.bytes) }
     ensures { Put w.old w.new (line_with (letter_of wanted) (bytes_of card.serial.bytes card.serial.number) amount.now) }
 {
@@ -129,17 +127,19 @@ fn put_line(w: &mut Writer, card: Card, wanted: Spelling, amount: &[u8])
 }
 
 // All lines of a file that is not refused.
-fn put_lines(out: &mut [u8], text: &[u8], wanted: Spelling) -> usize
+fn put_cards(out: &mut [u8], text: &[u8], wanted: Spelling) -> usize
     requires { convert_file (letter_of wanted) text.now ≡ output (output_of (convert_file (letter_of wanted) text.now)) }
     ensures { Written out.old 0 (output_of (convert_file (letter_of wanted) text.now)) out.new result }
 {
     let mut w = Writer::new(out);
-    let mut at = 0;
-    while let Ok(Some(found)) = line_at(text, at) {
+    for found in Lines::of(text) {
+        // A file that is not refused has no fault.
+        let Ok(found) = found else {
+            break;
+        };
         let end = found.next - 1;
         let from = end - found.card.digits;
-        put_line(&mut w, found.card, wanted, &text[from..end]);
-        at = found.next;
+        put_card(&mut w, found.card, wanted, &text[from..end]);
     }
     w.at
 }
@@ -149,6 +149,6 @@ pub fn convert(wanted: Spelling, text: &[u8], out: &mut [u8]) -> Result<usize, C
     ensures { left_buffer out.new (converted_of result) ≡ convert wanted text.now out.old }
 {
     let length = test_lines(text, wanted, out.len())?;
-    put_lines(out, text, wanted);
+    put_cards(out, text, wanted);
     Ok(length)
 }

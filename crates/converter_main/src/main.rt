@@ -4,11 +4,7 @@
 use cardfile::Spelling;
 use converter::{ConvertFault, convert};
 use std::io;
-
-fn number(rt: &impl Print, n: usize) -> io::Result<()> {
-    rt.write_all(b" ")?;
-    rt.print(n)
-}
+use trial::number;
 
 fn refused(rt: &impl Print, why: usize, line: usize) -> io::Result<()> {
     rt.write_all(b"refused")?;

@@ -93,7 +93,7 @@ fn later_cuts(i: usize, new: bool) -> usize {
 
 fn line(rt: &impl Print, i: usize) -> io::Result<()> {
     rt.write_all(b"cut behind store")?;
-    number(rt, i as u64)?;
+    number(rt, i)?;
     rt.write_all(b": of 25 runs")?;
     print_if(
         rt,

@@ -2,35 +2,32 @@
 use Prim.Native.Nat.{ℕ, zero, suc, ◌+◌, ◌-◌, ◌<◌, ◌≤◌, min}
 use mathlib.Core.Path.{◌≡◌, refl, sym, ap, ◌∙◌}
 use mathlib.Core.Bool.{Bool, true, false, cond}
+use mathlib.Core.Logic.{◌⊎◌, inl, inr}
 use mathlib.Core.List.{List, [], ◌∷◌, ◌++◌, append-nil, append_assoc}
 use native.Mathlib.Omega.{arith}
-use borrow.Author.Tests.{eq-eqb, ne_eqb}
-use lib.Dec.{eqb}
-use lib.ListN.{length, take, drop, get_elem?, length-append, length-take}
+use borrow.Author.Tests.{eq-eqb, ne_eqb, le-leb, lt-leb}
+use lib.Dec.{eqb, leb}
+use lib.ListN.{length, take, drop, get_elem?, length-append, length-take, length-drop}
 use lib.Seq.{take-nil, drop-nil}
-use Rattle.spec.specs.declared.DiskBlock.{DiskBlock}
 use Rattle.spec.specs.declared.Extent.{Extent}
-use Rattle.spec.specs.Bytes.{exactly, up_from}
+use Rattle.spec.specs.Bytes.{up_from}
 use Rattle.spec.specs.Disk.{Disk}
 use Rattle.spec.specs.Inode.{extent, inode_at, block_of_inode, blocks_in, extents_of, data_of, prepend, runs}
-use Rattle.spec.specs.declared.Session.{Session}
-use Rattle.spec.specs.Session.{staged_in}
-use Rattle.spec.specs.Transaction.{State, state_of, view}
+use Rattle.spec.specs.Transaction.{State, view}
 use Rattle.spec.specs.Calls.{runs_of}
-use Rattle.transaction.specs.Places.{view_in}
+use Rattle.block.proofs.Laws.{lt-or-le}
 use Rattle.transaction.specs.Volumes.{working, Shows}
 use Rattle.transaction.specs.declared.volume.Volume.{Volume}
 use Rattle.transaction.proofs.Laws.{shows-view}
 use Rattle.inode.specs.declared.Cursor.{Cursor}
-use Rattle.inode.specs.Walk.{Slot, live, leaf, rest, start_of, Onward, Inward, Ended}
-use Rattle.inode.proofs.Walk.{walk-leaf, walk-node, walk_end, extents-start, block_start, slot_of, step-leaf, no-leaf, step-node, step_end}
+use Rattle.inode.specs.declared.Step.{Step}
+use Rattle.inode.specs.declared.Step.TheVariants.{Leaf}
+use Rattle.inode.specs.Walk.{Slot, live, leaf, rest, start_of, Onward, Ended, Steps}
+use Rattle.inode.proofs.Walk.{walk-leaf, walk_end, extents-start, block_start, slot_of, step-leaf, no-leaf, step-node, step_end}
 use Rattle.extents.specs.declared.Scan.{Scan}
-use Rattle.extents.specs.declared.AtSlot.{AtSlot}
-use Rattle.extents.specs.declared.AtSlot.TheVariants as slot
-use Rattle.extents.specs.declared.Growing.{Growing}
 use Rattle.std.specs.Prelude.{Option as Returned, Some, None, slice_get, option_map}
 use Rattle.extents.specs.Stretches.{run_of}
-use Rattle.extents.specs.Stretches.{Reached, Held, pending, Starts, NextPiece, TakesPiece, GoesOn, Passes, moved, SlotSteps, NodeSteps, runs_in, rest_runs, Fits, NextRun, RunSteps, growing_from}
+use Rattle.extents.specs.Stretches.{Reached, Held, pending, Starts, blocks_at, pieces, left_at, TakesPiece, GoesOn, Passes, moved, runs_in}
 
 -- ---- lists of numbers in a row
 
@@ -111,12 +108,13 @@ module _ (v : Disk) (tb : ℕ) (c₀ c : Cursor) (p k : ℕ) (h : blocks_from k 
   unfolding blocks_from blocks_in
   seek-past e d s l = sym (drop_past e.first e.count k (blocks_in (rest v tb d)) l) ∙ walk-leaf (blocks_from k) v tb c _ h e d s
 
-  pub seek-node : (b : ℕ) (d : Cursor) → Inward v tb c b d → blocks_from k (rest v tb d) ≡ blocks_from p (rest v tb c₀)
-  seek-node b d s = walk-node (blocks_from k) v tb c _ h b d s
-
   pub seek-end : Ended v tb c → drop p (blocks_in (rest v tb c₀)) ≡ []
   unfolding blocks_from blocks_in
   seek-end s = sym (walk_end (blocks_from k) v tb c _ h s) ∙ drop-nil k
+
+-- a step over an extent
+pub on_leaf : (v : Disk) (tb : ℕ) (c : Cursor) (s : Step) (d : Cursor) (e : Extent) → Steps v tb c (Some (s, d)) → s ≡ Leaf e → Onward v tb c e d
+on_leaf v tb c s d e h q = rw q at h
 
 module _ (v : Disk) (i p tb : ℕ) (c : Cursor) (t : tb ≡ block_of_inode i) (b : c ≡ start_of v i) where
   pub held_in : (e : Extent) (k : ℕ) (d : Cursor) → p < 2048 → Reached v tb c p e k d → Held v i p e k
@@ -150,25 +148,57 @@ module _ (v : Disk) (i from n : ℕ) (c : Scan) where
   unfolding pending
   stretch-start a k r = record { blocks = rw (a, k, r) (sym (data-stretch v i from n)); room = omega arith; block = ap (λ (x : Cursor). x.block) a ∙ block_start v i }
 
+-- extents cut to a stretch
+cut-none : (skip : ℕ) (es : List Extent) → pieces skip 0 es ≡ []
+unfolding pieces
+cut-none skip [] = refl
+cut-none skip (e ∷ es) = go (leb e.count skip) (pieces (skip - e.count) 0 es) (cut-none (skip - e.count) es)
+  where
+    go : (t : Bool) (xs : List Extent) → xs ≡ [] → cond t xs [] ≡ []
+    go true xs h = h
+    go false xs h = refl
+
+cut-past : (skip room : ℕ) (e : Extent) (es : List Extent) → e.count ≤ skip → pieces skip room (e ∷ es) ≡ pieces (skip - e.count) room es
+unfolding pieces
+cut-past skip room e es h = rw (le-leb e.count skip h)
+
+cut-in : (skip room m : ℕ) (e : Extent) (es : List Extent) → skip < e.count → 0 < room → m ≡ min (e.count - skip) room
+    → pieces skip room (e ∷ es) ≡ extent (e.first + skip) m ∷ pieces 0 (room - m) es
+unfolding pieces
+cut-in skip room m e es h k q = rw (lt-leb e.count skip h, ne_eqb room 0 (λ z. omega arith), q)
+
+-- their blocks are the stretch: one extent more
+module _ (skip room : ℕ) (e : Extent) (es : List Extent)
+    (ih : (k r : ℕ) → blocks_in (pieces k r es) ≡ take r (drop k (blocks_in es))) where
+  cut-more : (skip < e.count) ⊎ (e.count ≤ skip) → (0 < room) ⊎ (room ≤ 0) → blocks_in (pieces skip room (e ∷ es)) ≡ take room (drop skip (blocks_in (e ∷ es)))
+  unfolding blocks_in
+  cut-more (inr h) k =
+      ap blocks_in (cut-past skip room e es h) ∙ ih (skip - e.count) room
+      ∙ ap (take room) (sym (drop_past e.first e.count skip (blocks_in es) h))
+  cut-more (inl h) (inr k) = let z : room ≡ 0 = omega arith in rw z (ap blocks_in (cut-none skip (e ∷ es)))
+  cut-more (inl h) (inl k) =
+      let m = min (e.count - skip) room in
+      ap blocks_in (cut-in skip room m e es h k refl)
+      ∙ ap (λ (bs : List ℕ). up_from (e.first + skip) m ++ bs) (ih 0 (room - m))
+      ∙ sym (ap (take room) (drop-inside e.first e.count skip (blocks_in es) (omega arith)) ∙ take-up (e.first + skip) (e.count - skip) room m (blocks_in es) refl)
+
+cut-blocks : (es : List Extent) (skip room : ℕ) → blocks_in (pieces skip room es) ≡ take room (drop skip (blocks_in es))
+unfolding pieces blocks_in
+cut-blocks [] skip room = sym (ap (take room) (drop-nil skip) ∙ take-nil room)
+cut-blocks (e ∷ es) skip room = cut-more skip room e es (cut-blocks es) (lt-or-le skip e.count) (lt-or-le 0 room)
+
 module _ (v : Disk) (tb : ℕ) (c : Scan) where
-  pub no_room : c.room ≡ 0 → pending v tb c ≡ []
-  unfolding pending
-  no_room h = rw h
+  pub blocks-left : blocks_in (left_at v tb c) ≡ pending v tb c
+  unfolding left_at pending
+  blocks-left = cut-blocks (rest v tb c.at) c.skip c.room
 
-  pub no-piece : drop c.skip (blocks_in (rest v tb c.at)) ≡ [] → pending v tb c ≡ []
-  unfolding pending
-  no-piece h = rw h (take-nil c.room)
+  pub no_room : c.room ≡ 0 → left_at v tb c ≡ []
+  unfolding left_at
+  no_room h = rw h (cut-none c.skip (rest v tb c.at))
 
-  pub piece-in : (e : Extent) (k m : ℕ) (d : Cursor) → Reached v tb c.at c.skip e k d → (c.room ≡ 0 → ⊥) → m ≡ min (e.count - k) c.room
-      → NextPiece v tb c (extent (e.first + k) m) (record { at = d; skip = 0; room = c.room - m })
-  unfolding pending
-  piece-in e k m d r ne h =
-      record {
-        blocks = rw r.blocks (take-up (e.first + k) (e.count - k) c.room m (blocks_in (rest v tb d)) h);
-        some = omega (arith, r.inside);
-        first = omega (arith, r.inside, r.first, r.count);
-        room = omega arith;
-      }
+-- where a walk begins
+pub left-start : (v : Disk) (i from n tb : ℕ) (c : Scan) → tb ≡ block_of_inode i → Starts v i from n c → blocks_in (left_at v tb c) ≡ blocks_at v i from n
+left-start v i from n tb c t s = rw t (blocks-left v (block_of_inode i) c ∙ s.blocks)
 
 -- ---- one slot or node of a stretch
 
@@ -183,24 +213,22 @@ module _ (v : Disk) (tb : ℕ) (c : Scan) where
 
     pub slot-piece : r ≡ true → c.skip < e.count → 0 < c.room → (m : ℕ) → m ≡ min (e.count - c.skip) c.room
         → TakesPiece v tb c (extent (e.first + c.skip) m) (record { at = behind; skip = 0; room = c.room - m })
+    unfolding left_at
     slot-piece h k p m q =
         let o = onward h in
         record {
-          piece = piece-in v tb c e c.skip m behind (seek_hit v tb c.at c.at c.skip c.skip refl e behind o k) (λ z. omega arith) q;
+          pieces = rw o.extents (cut-in c.skip c.room m e (rest v tb behind) k p q);
+          some = omega arith;
           less = o.less;
           block = refl;
         }
 
     pub slot-passed : r ≡ true → e.count ≤ c.skip
         → GoesOn v tb c (record { at = behind; skip = c.skip - e.count; room = c.room })
-    unfolding pending blocks_from
+    unfolding left_at
     slot-passed h k =
         let o = onward h in
-        record {
-          blocks = ap (take c.room) (sym (seek-past v tb c.at c.at c.skip c.skip refl e behind o k));
-          room = refl;
-          less = o.less;
-        }
+        record { pieces = rw o.extents (cut-past c.skip c.room e (rest v tb behind) k); less = o.less }
 
     pub slot-unused : r ≡ false → leaf v c.at.block c.at.at c.at.left ≡ []
     slot-unused h = no-leaf v c.at.block c.at.at c.at.left e r (slot_of X (v c.at.block) c.at.at e x s) l h
@@ -209,32 +237,16 @@ module _ (v : Disk) (tb : ℕ) (c : Scan) where
       (none_left : leaf v c.at.block c.at.at c.at.left ≡ []) where
     pub node-next : r ≡ true
         → GoesOn v tb c (record { at = record { block = t.first; at = 0; left = 128; top = c.at.top + 4; tops = c.at.tops - 1 }; skip = c.skip; room = c.room })
-    unfolding pending
+    unfolding left_at
     node-next h =
         let i = step-node v tb c.at t r none_left (slot_of X (v tb) c.at.top t x s) l h in
-        record { blocks = ap (λ (es : List Extent). take c.room (drop c.skip (blocks_in es))) i.extents; room = refl; less = i.less }
+        record { pieces = ap (λ (es : List Extent). pieces c.skip c.room es) i.extents; less = i.less }
 
-    pub node-none : r ≡ false → pending v tb c ≡ []
-    unfolding blocks_in
+    pub node-none : r ≡ false → left_at v tb c ≡ []
+    unfolding left_at pieces
     node-none h =
         let i = step_end v tb c.at t r none_left (slot_of X (v tb) c.at.top t x s) l h in
-        no-piece v tb c (rw i.extents (drop-nil c.skip))
-
-  -- a step by its kind
-  pub on-slot-piece : (r : AtSlot) (e : Extent) (d : Scan) → SlotSteps v tb c r → r ≡ slot.Piece e d → TakesPiece v tb c e d
-  on-slot-piece r e d s q = rw q at s
-
-  pub on-slot-passed : (r : AtSlot) (d : Scan) → SlotSteps v tb c r → r ≡ slot.Passed d → GoesOn v tb c d × (d.at.block ≡ c.at.block)
-  on-slot-passed r d s q = rw q at s
-
-  pub on-slot-unused : (r : AtSlot) → SlotSteps v tb c r → r ≡ slot.Unused → leaf v c.at.block c.at.at c.at.left ≡ []
-  on-slot-unused r s q = rw q at s
-
-  pub on-node-next : (r : Returned (DiskBlock × Scan)) (b : DiskBlock) (d : Scan) → NodeSteps v tb c r → r ≡ Some (b, d) → GoesOn v tb c d × (d.at.block ≡ b.0)
-  on-node-next r b d s q = rw q at s
-
-  pub on-node-none : (r : Returned (DiskBlock × Scan)) → NodeSteps v tb c r → r ≡ None → pending v tb c ≡ []
-  on-node-none r s q = rw q at s
+        ap (λ (es : List Extent). pieces c.skip c.room es) i.extents
 
 -- slots passed, one by one
 module _ (c : Scan) (X : List ℕ) (at left skip : ℕ) where
@@ -247,40 +259,11 @@ module _ (c : Scan) (X : List ℕ) (at left skip : ℕ) where
     pass-more k v tb x =
         let p = h v tb x in
         let g = slot-passed v tb (moved c at left skip) X x e r s l live-one k in
-        record { blocks = p.blocks ∙ g.blocks; room = refl; less = omega (arith, p.less, g.less); block = refl }
-
-pub pass-none : (c : Scan) (v : Disk) (tb : ℕ) → Passes v tb c (moved c c.at.at c.at.left c.skip)
-pass-none c v tb = record { blocks = refl; room = refl; less = omega arith; block = refl }
+        record { pieces = p.pieces ∙ g.pieces; less = omega (arith, p.less, g.less); block = refl }
 
 pub pass-end : (c d : Scan) (X : List ℕ) (at left skip : ℕ) → d ≡ moved c at left skip → ((v : Disk) (tb : ℕ) → X ≡ v c.at.block → Passes v tb c (moved c at left skip))
     → (v : Disk) (tb : ℕ) → X ≡ v c.at.block → Passes v tb c d
 pass-end c d X at left skip e h v tb x = rw e (h v tb x)
-
--- a slot passed, and those behind it
-pub goes_further : (v : Disk) (tb : ℕ) (c m d : Scan) → GoesOn v tb c m × (m.at.block ≡ c.at.block) → Passes v tb m d → GoesOn v tb c d × (d.at.block ≡ c.at.block)
-goes_further v tb c m d g p =
-    (record { blocks = g.0.blocks ∙ p.blocks; room = p.room ∙ g.0.room; less = omega (arith, p.less, g.0.less) }, p.block ∙ g.1)
-
--- a walk that has gone from c₀ to c, with the block of its cursor in hand
-pub record Walked (v : Disk) (tb : ℕ) (c₀ c : Scan) (block : List ℕ) : Type 0 where
-  pub blocks : pending v tb c₀ ≡ pending v tb c
-  pub room : c.room ≡ c₀.room
-  pub hand : exactly 512 block ≡ v c.at.block
-  pub few : length block ≤ 512
-
-module _ (v : Disk) (tb : ℕ) (c₀ c : Scan) (block : List ℕ) (w : Walked v tb c₀ c block) where
-  pub walked-piece : (e : Extent) (d : Scan) → TakesPiece v tb c e d → NextPiece v tb c₀ e d
-  walked-piece e d t =
-      let p = t.piece in
-      record { blocks = w.blocks ∙ p.blocks; some = p.some; first = p.first; room = p.room ∙ w.room }
-
-  pub walked-passed : (d : Scan) → GoesOn v tb c d × (d.at.block ≡ c.at.block) → Walked v tb c₀ d block
-  walked-passed d g =
-      record { blocks = w.blocks ∙ g.0.blocks; room = g.0.room ∙ w.room; hand = w.hand ∙ ap v (sym g.1); few = w.few }
-
-  pub walked-node : (b : ℕ) (d : Scan) (x : List ℕ) → GoesOn v tb c d × (d.at.block ≡ b) → (exactly 512 x ≡ v b) × (length x ≤ 512) → Walked v tb c₀ d x
-  walked-node b d x g h =
-      record { blocks = w.blocks ∙ g.0.blocks; room = g.0.room ∙ w.room; hand = h.0 ∙ ap v (sym g.1); few = h.1 }
 
 -- ---- maximal runs
 
@@ -317,68 +300,37 @@ unfolding runs
 run-last a zero p = absurd (omega arith)
 run-last a (suc n) p = run-front a n [] refl
 
--- a run that grows from g₀ to g leaves the runs as they were
-pub record Grown (v : Disk) (tb : ℕ) (g₀ g : Growing) : Type 0 where
-  pub runs : rest_runs v tb g₀ ≡ rest_runs v tb g
-  pub fits : Fits g
+-- the blocks of the first piece and of the others
+pub piece-counts : (ps : List Extent) (e : Extent) (qs : List Extent) → ps ≡ e ∷ qs → length (blocks_in ps) ≡ e.count + length (blocks_in qs)
+unfolding blocks_in
+piece-counts ps e qs h = rw h (length-append (up_from e.first e.count) (blocks_in qs) ∙ ap (λ (k : ℕ). k + length (blocks_in qs)) (length_up e.first e.count))
 
-module _ (v : Disk) (tb : ℕ) (c : Scan) (e : Extent) (d : Scan) (s : NextPiece v tb c e d) where
-  pub piece-less : length (pending v tb d) < length (pending v tb c)
-  piece-less =
-      omega (arith, ap length s.blocks, length-append (up_from e.first e.count) (pending v tb d), length_up e.first e.count, s.some)
+-- the runs of a run in the making and of the pieces behind it
+module _ (first count : ℕ) (ps : List Extent) where
+  -- the pieces begin with e, which goes on with the run or not
+  module _ (e : Extent) (qs : List Extent) (h : ps ≡ e ∷ qs) where
+    pub run-begins : count ≡ 0 → runs (up_from first count ++ blocks_in ps) ≡ runs (up_from e.first e.count ++ blocks_in qs)
+    unfolding blocks_in
+    run-begins z = rw (z, h)
 
-module _ (v : Disk) (tb : ℕ) (g₀ g : Growing) (h : Grown v tb g₀ g) where
-  module _ (e : Extent) (d : Scan) (s : NextPiece v tb g.scan e d) where
-    -- the piece fits where a run begins with it
-    piece-fits : Fits (record { run = e; scan = d })
-    piece-fits = record { first = s.first; count = omega (arith, s.room, h.fits.count) }
+    pub run-goes_on : first + count ≡ e.first → runs (up_from first count ++ blocks_in ps) ≡ runs (up_from first (count + e.count) ++ blocks_in qs)
+    unfolding blocks_in
+    run-goes_on q = rw (h, ← q) (ap runs (run-joined first count e.count (blocks_in qs)))
 
-    pub grow_first : g.run.count ≡ 0 → Grown v tb g₀ (record { run = e; scan = d })
-    unfolding rest_runs
-    grow_first z = record { runs = h.runs ∙ rw (z, s.blocks); fits = piece-fits }
+    pub run-ends : (count ≡ 0 → ⊥) → 0 < e.count → (first + count ≡ e.first → ⊥)
+        → runs (up_from first count ++ blocks_in ps) ≡ extent first count ∷ runs (up_from e.first e.count ++ blocks_in qs)
+    unfolding blocks_in
+    run-ends z p q = rw h (run-apart first count e.first e.count (blocks_in qs) (omega arith) p q)
 
-    pub grow-join : g.run.first + g.run.count ≡ e.first → Grown v tb g₀ (record { run = extent g.run.first (g.run.count + e.count); scan = d })
-    unfolding rest_runs
-    grow-join q =
-        record {
-          runs = h.runs ∙ rw (s.blocks, ← q) (ap runs (run-joined g.run.first g.run.count e.count (pending v tb d)));
-          fits = record { first = h.fits.first; count = omega (arith, s.room, h.fits.count) };
-        }
+  -- no piece is left
+  module _ (h : ps ≡ []) where
+    pub run_none : count ≡ 0 → runs (up_from first count ++ blocks_in ps) ≡ []
+    unfolding blocks_in runs
+    run_none z = rw (z, h)
 
-    pub grow-apart : (g.run.count ≡ 0 → ⊥) → (g.run.first + g.run.count ≡ e.first → ⊥) → NextRun v tb g₀ g.run (record { run = e; scan = d })
-    unfolding rest_runs
-    grow-apart z q =
-        record {
-          runs = h.runs ∙ rw s.blocks (run-apart g.run.first g.run.count e.first e.count (pending v tb d) (omega arith) s.some q);
-          fits = piece-fits;
-        }
-
-  module _ (s : pending v tb g.scan ≡ []) where
-    pub grow-none : g.run.count ≡ 0 → rest_runs v tb g₀ ≡ []
-    unfolding rest_runs runs
-    grow-none z = h.runs ∙ rw (z, s)
-
-    pub grow_last : (g.run.count ≡ 0 → ⊥) → (d : Growing) → d ≡ growing_from g.scan → NextRun v tb g₀ g.run d
-    unfolding rest_runs runs
-    grow_last z d q =
-        rw q
-        (record {
-          runs = h.runs ∙ rw s (run-last g.run.first g.run.count (omega arith));
-          fits = record { first = omega arith; count = omega (arith, h.fits.count) };
-        })
-
--- ---- the runs of a stretch, one by one
-
-module _ (v : Disk) (tb : ℕ) (c : Growing) where
-  pub on-run : (r : Returned (Extent × Growing)) (e : Extent) (d : Growing) → RunSteps v tb c r → r ≡ Some (e, d) → NextRun v tb c e d
-  on-run r e d s q = rw q at s
-
-  pub on-stop : (r : Returned (Extent × Growing)) → RunSteps v tb c r → r ≡ None → rest_runs v tb c ≡ []
-  on-stop r s q = rw q at s
-
-  module _ (e : Extent) (d : Growing) (s : NextRun v tb c e d) where
-    pub run-less : length (rest_runs v tb d) < length (rest_runs v tb c)
-    run-less = omega (arith, ap length s.runs)
+    pub run-is-last : (count ≡ 0 → ⊥) → runs (up_from first count ++ blocks_in ps) ≡ extent first count ∷ []
+    unfolding blocks_in
+    run-is-last z = rw h (run-last first count (omega arith))
 
 -- no list has more runs than numbers
 pub runs-few : (xs : List ℕ) → length (runs xs) ≤ length xs
@@ -395,19 +347,19 @@ runs-few (x ∷ xs) = go (runs xs) (runs-few xs)
         join false h = omega arith
 
 -- at the start all runs of the stretch are left
-pub record BegunIn (v : Disk) (i from n tb : ℕ) (g : Growing) : Type 0 where
-  pub runs : rest_runs v tb g ≡ runs_in v i from n
-  pub few : length (runs_in v i from n) ≤ 2048
-  pub fits : Fits g
+pub record BegunIn (v : Disk) (i from n : ℕ) (ps : List Extent) : Type 0 where
+  pub runs : runs (up_from 0 0 ++ blocks_in ps) ≡ runs_in v i from n
+  pub some : length (runs_in v i from n) ≤ 2048
+  pub few : length (blocks_in ps) ≤ 2048
 
-pub begin-in : (v : Disk) (i from n tb : ℕ) (c : Scan) (g : Growing) → tb ≡ block_of_inode i → Starts v i from n c → g ≡ growing_from c → BegunIn v i from n tb g
-unfolding rest_runs runs_in pending
-begin-in v i from n tb c g t h q =
-    let p : length (pending v (block_of_inode i) c) ≤ 2048 = omega (arith, length-take c.room (drop c.skip (blocks_in (rest v (block_of_inode i) c.at))), h.room) in
+pub begin-in : (v : Disk) (i from n : ℕ) (ps : List Extent) → blocks_in ps ≡ blocks_at v i from n → BegunIn v i from n ps
+unfolding runs_in data_of
+begin-in v i from n ps h =
+    let p : length (blocks_at v i from n) ≤ 2048 = simp (length-take, length-drop) (omega arith) in
     record {
-      runs = rw (q, t) (ap runs h.blocks);
-      few = omega (arith, runs-few (take n (drop from (data_of v (inode_at v i)))), ap length h.blocks, p);
-      fits = rw q (record { first = omega arith; count = omega (arith, h.room) });
+      runs = ap runs h;
+      some = omega (arith, runs-few (blocks_at v i from n), p);
+      few = omega (arith, ap length h, p);
     }
 
 -- the same of a state
@@ -418,16 +370,6 @@ runs_of_lem s i from n = refl
 -- of a state that is seen
 pub runs-seen : (v : Volume) (s : State) (i from n : ℕ) → Shows v s → runs_in (working v.copy) i from n ≡ runs_of s i from n
 runs-seen v s i from n e = ap (λ (d : Disk). runs_in d i from n) (shows-view v s e) ∙ runs_of_lem s i from n
-
-pub record Begun (s : State) (i from n tb : ℕ) (g : Growing) : Type 0 where
-  pub runs : rest_runs (view s) tb g ≡ runs_of s i from n
-  pub few : length (runs_of s i from n) ≤ 2048
-  pub fits : Fits g
-
-pub begin : (s : State) (i from n tb : ℕ) (c : Scan) (g : Growing) → tb ≡ block_of_inode i → Starts (view s) i from n c → g ≡ growing_from c → Begun s i from n tb g
-begin s i from n tb c g t h q =
-    let b = begin-in (view s) i from n tb c g t h q in
-    record { runs = b.runs ∙ runs_of_lem s i from n; few = rw (← runs_of_lem s i from n) b.few; fits = b.fits }
 
 -- ---- the k-th of them, as code tells it
 

@@ -1,19 +1,19 @@
 -- Stretches of a file's data blocks, as the steps of this crate go through them.
-use Rattle.std.specs.Prelude.{ℕ, ◌+◌, ◌-◌, ◌<◌, ◌≤◌, ◌≡◌, List, [], ◌∷◌, ◌++◌, take, drop}
+use Rattle.std.specs.Prelude.{ℕ, ◌+◌, ◌-◌, ◌<◌, ◌≤◌, ◌≡◌, cond, eqb, leb, min, List, [], ◌∷◌, ◌++◌, take, drop}
 use Rattle.std.specs.Prelude.{Option as Returned, Some, None}
 use Rattle.std.proofs.Math.Option.{Option, none, some}
 use Rattle.spec.specs.declared.DiskBlock.{DiskBlock}
 use Rattle.spec.specs.declared.Extent.{Extent}
-use Rattle.spec.specs.Bytes.{up_from}
+use Rattle.spec.specs.Bytes.{exactly, up_from}
 use Rattle.spec.specs.Disk.{Disk}
 use Rattle.spec.specs.Inode.{extent, inode_at, block_of_inode, blocks_in, data_of, runs}
 use Rattle.inode.specs.declared.Cursor.{Cursor}
+use Rattle.inode.specs.declared.slot_block.SlotBlock.{SlotBlock}
 use Rattle.inode.specs.Walk.{rest, leaf, weight}
 use Rattle.extents.specs.declared.Place.{Place}
 use Rattle.extents.specs.declared.Scan.{Scan}
 use Rattle.extents.specs.declared.AtSlot.{AtSlot}
 use Rattle.extents.specs.declared.AtSlot.TheVariants as slot
-use Rattle.extents.specs.declared.Growing.{Growing}
 
 -- ---- one block
 
@@ -52,33 +52,41 @@ pub record Starts (v : Disk) (i from n : ℕ) (c : Scan) : Type 0 where
   pub room : c.room ≤ 2048
   pub block : c.at.block ≡ block_of_inode i
 
--- the blocks of e come first, then what is left at d
-pub record NextPiece (v : Disk) (tb : ℕ) (c : Scan) (e : Extent) (d : Scan) : Type 0 where
-  pub blocks : pending v tb c ≡ up_from e.first e.count ++ pending v tb d
-  pub some : 0 < e.count
-  pub first : e.first < 131072
-  pub room : e.count + d.room ≡ c.room
+-- the n data blocks of record i from block `from` on
+abbrev pub blocks_at : Disk → ℕ → ℕ → ℕ → List ℕ
+blocks_at v i from n = take n (drop from (data_of v (inode_at v i)))
 
-abbrev pub Pieces : Disk → ℕ → Scan → Returned (Extent × Scan) → Type 0
-Pieces v tb c (Some (e, d)) = NextPiece v tb c e d
-Pieces v tb c None = pending v tb c ≡ []
+-- block b is in hand, as lent: zeros past its end
+abbrev pub InHand : Disk → ℕ → SlotBlock → Type 0
+InHand v b block = exactly 512 block.bytes.now ≡ v b
+
+-- some extents cut to `room` blocks behind the first `skip`
+unfoldable pub pieces : ℕ → ℕ → List Extent → List Extent
+pieces skip room [] = []
+pieces skip room (e ∷ es) =
+    let here = min (e.count - skip) room in
+    cond (leb e.count skip) (pieces (skip - e.count) room es)
+    (cond (eqb room 0) [] (extent (e.first + skip) here ∷ pieces 0 (room - here) es))
+
+-- the pieces that are left of a stretch: their blocks are those that are pending
+unfoldable pub left_at : Disk → ℕ → Scan → List Extent
+left_at v tb c = pieces c.skip c.room (rest v tb c.at)
 
 -- the first slot at c holds the blocks of e, and d is behind it
 pub record TakesPiece (v : Disk) (tb : ℕ) (c : Scan) (e : Extent) (d : Scan) : Type 0 where
-  pub piece : NextPiece v tb c e d
+  pub pieces : left_at v tb c ≡ e ∷ left_at v tb d
+  pub some : 0 < e.count
   pub less : weight d.at < weight c.at
   pub block : d.at.block ≡ c.at.block
 
--- at d the blocks that are left at c are left, and fewer slots
+-- at d the pieces that are left at c are left, and fewer slots
 pub record GoesOn (v : Disk) (tb : ℕ) (c d : Scan) : Type 0 where
-  pub blocks : pending v tb c ≡ pending v tb d
-  pub room : d.room ≡ c.room
+  pub pieces : left_at v tb c ≡ left_at v tb d
   pub less : weight d.at < weight c.at
 
 -- the same with no more slots, in the same block
 pub record Passes (v : Disk) (tb : ℕ) (c d : Scan) : Type 0 where
-  pub blocks : pending v tb c ≡ pending v tb d
-  pub room : d.room ≡ c.room
+  pub pieces : left_at v tb c ≡ left_at v tb d
   pub less : weight d.at ≤ weight c.at
   pub block : d.at.block ≡ c.at.block
 
@@ -86,39 +94,19 @@ abbrev pub moved : Scan → ℕ → ℕ → ℕ → Scan
 moved c at left skip = record { at = record { block = c.at.block; at = at; left = left; top = c.at.top; tops = c.at.tops }; skip = skip; room = c.room }
 
 abbrev pub SlotSteps : Disk → ℕ → Scan → AtSlot → Type 0
-SlotSteps v tb c (slot.Piece e d) = TakesPiece v tb c e d
+SlotSteps v tb c (slot.Piece e d) = TakesPiece v tb c e.extent d
 SlotSteps v tb c (slot.Passed d) = GoesOn v tb c d × (d.at.block ≡ c.at.block)
 SlotSteps v tb c slot.Unused = leaf v c.at.block c.at.at c.at.left ≡ []
 
 abbrev pub NodeSteps : Disk → ℕ → Scan → Returned (DiskBlock × Scan) → Type 0
 NodeSteps v tb c (Some (b, d)) = GoesOn v tb c d × (d.at.block ≡ b.0)
-NodeSteps v tb c None = pending v tb c ≡ []
+NodeSteps v tb c None = left_at v tb c ≡ []
 
 -- ---- its maximal runs
 
 -- the run list of n data blocks of record i from block `from` on
 unfoldable pub runs_in : Disk → ℕ → ℕ → ℕ → List Extent
 runs_in v i from n = runs (take n (drop from (data_of v (inode_at v i))))
-
-unfoldable pub rest_runs : Disk → ℕ → Growing → List Extent
-rest_runs v tb g = runs (up_from g.run.first g.run.count ++ pending v tb g.scan)
-
--- no number grows past its type
-pub record Fits (g : Growing) : Type 0 where
-  pub first : g.run.first < 131072
-  pub count : g.run.count + g.scan.room ≤ 2048
-
-pub record NextRun (v : Disk) (tb : ℕ) (c : Growing) (e : Extent) (d : Growing) : Type 0 where
-  pub runs : rest_runs v tb c ≡ e ∷ rest_runs v tb d
-  pub fits : Fits d
-
-abbrev pub RunSteps : Disk → ℕ → Growing → Returned (Extent × Growing) → Type 0
-RunSteps v tb c (Some (e, d)) = NextRun v tb c e d
-RunSteps v tb c None = rest_runs v tb c ≡ []
-
--- at the start of a stretch: no run yet
-abbrev pub growing_from : Scan → Growing
-growing_from c = record { run = extent 0 0; scan = c }
 
 -- a run as the code tells it
 abbrev pub run_of : Option Extent → Returned Extent

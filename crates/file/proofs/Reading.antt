@@ -10,12 +10,12 @@ use lib.Seq.{take-append-le, drop-append-le, drop-append-add, take-take, take_al
 use Rattle.spec.specs.Bytes.{concat, up_from}
 use Rattle.spec.specs.Disk.{Disk}
 use Rattle.spec.specs.declared.Extent.{Extent}
-use Rattle.spec.specs.Inode.{inode_at, data_of, block_of_inode}
+use Rattle.spec.specs.Inode.{inode_at, data_of, blocks_in}
 use Rattle.spec.specs.Map.{content_of}
 use Rattle.block.proofs.Laws.{lt-or-le}
 use Rattle.inode.proofs.Laws.{drop-take}
-use Rattle.extents.specs.declared.Scan.{Scan}
-use Rattle.extents.specs.Stretches.{pending, Starts, NextPiece, GoesOn}
+use Rattle.extents.specs.Stretches.{blocks_at}
+use Rattle.extents.proofs.Laws.{piece-counts}
 use Rattle.file.specs.Bytes.{run_bytes, block_bytes, Filled}
 use Rattle.file.proofs.Laws.{run_length, landed, landed_none, landed-length, landed-step}
 
@@ -32,30 +32,29 @@ concat-drop v w (suc p) (b ∷ bs) =
     let e : 512 * suc p ≡ length (v b) + 512 * p = omega (arith, w b) in
     rw (e, drop-append-add (v b) (concat (map v bs)) (512 * p)) (concat-drop v w p bs)
 
--- the bytes that are left of a stretch
-unfoldable pub left_bytes : Disk → ℕ → Scan → List ℕ
-left_bytes v tb c = concat (map v (pending v tb c))
+-- the bytes of the pieces that are left
+unfoldable pub left_bytes : Disk → List Extent → List ℕ
+left_bytes v ps = concat (map v (blocks_in ps))
 
-pub left-start : (v : Disk) → ((b : ℕ) → length (v b) ≡ 512) → (i x : ℕ) (c : Scan) → length (data_of v (inode_at v i)) ≤ 2048 → Starts v i (x / 512) 2048 c
-    → drop x (block_bytes v i) ≡ drop (x % 512) (left_bytes v (block_of_inode i) c)
+left-start : (v : Disk) → ((b : ℕ) → length (v b) ≡ 512) → (i x : ℕ) (ps : List Extent) → length (data_of v (inode_at v i)) ≤ 2048
+    → blocks_in ps ≡ blocks_at v i (x / 512) 2048 → drop x (block_bytes v i) ≡ drop (x % 512) (left_bytes v ps)
 unfolding block_bytes left_bytes
-left-start v w i x c few s =
+left-start v w i x ps few s =
     let d = data_of v (inode_at v i) in
     let p = x / 512 in
     let e : x ≡ 512 * p + x % 512 = omega arith in
     let l : length (drop p d) ≤ 2048 = simp length-drop (omega arith) in
     ap (λ (k : ℕ). drop k (concat (map v d))) e
     ∙ sym (drop-drop (x % 512) (512 * p) (concat (map v d)))
-    ∙ ap (drop (x % 512)) (concat-drop v w p d ∙ ap (λ (bs : List ℕ). concat (map v bs)) (sym (take_all 2048 (drop p d) l) ∙ sym s.blocks))
+    ∙ ap (drop (x % 512)) (concat-drop v w p d ∙ ap (λ (bs : List ℕ). concat (map v bs)) (sym (take_all 2048 (drop p d) l) ∙ sym s))
 
-pub left-next : (v : Disk) (tb : ℕ) (c : Scan) (first count : ℕ) (d : Scan) → pending v tb c ≡ up_from first count ++ pending v tb d
-    → left_bytes v tb c ≡ run_bytes v first count ++ left_bytes v tb d
-unfolding left_bytes run_bytes
-left-next v tb c first count d e = ap (λ (bs : List ℕ). concat (map v bs)) e ∙ concat-append v (up_from first count) (pending v tb d)
+left-next : (v : Disk) (ps : List Extent) (e : Extent) (qs : List Extent) → ps ≡ e ∷ qs → left_bytes v ps ≡ run_bytes v e.first e.count ++ left_bytes v qs
+unfolding left_bytes run_bytes blocks_in
+left-next v ps e qs h = rw h (concat-append v (up_from e.first e.count) (blocks_in qs))
 
-pub left-none : (v : Disk) (tb : ℕ) (c : Scan) → pending v tb c ≡ [] → left_bytes v tb c ≡ []
-unfolding left_bytes
-left-none v tb c e = ap (λ (bs : List ℕ). concat (map v bs)) e
+left-none : (v : Disk) (ps : List Extent) → ps ≡ [] → left_bytes v ps ≡ []
+unfolding left_bytes blocks_in
+left-none v ps e = rw e
 
 -- ---- one stretch more: w is what is to be read, u the bytes of the run, r those behind it
 
@@ -106,14 +105,14 @@ read_out w len done x e f =
 
 -- ---- the loop: w is to be read into a buffer that held `old`, and `done` bytes of it are there
 
-pub record Under (v : Disk) (tb : ℕ) (w old to : List ℕ) (scan : Scan) (skip done : ℕ) : Type 0 where
+pub record Under (v : Disk) (w old to : List ℕ) (ps : List Extent) (skip done : ℕ) : Type 0 where
   pub fits : length old < 18446744073709551616
   pub long : length to ≡ length old
   pub within : done ≤ length w
   pub few : done ≤ length old
   pub low : skip < 512
-  pub room : scan.room ≤ 2048
-  pub rest : drop done w ≡ take (length old - done) (drop skip (left_bytes v tb scan))
+  pub room : length (blocks_in ps) ≤ 2048
+  pub rest : drop done w ≡ take (length old - done) (drop skip (left_bytes v ps))
   pub bytes : to ≡ landed w done old
 
 module _ (v : Disk) (whole : (b : ℕ) → length (v b) ≡ 512) where
@@ -121,61 +120,45 @@ module _ (v : Disk) (whole : (b : ℕ) → length (v b) ≡ 512) where
   unfolding data_of
   data-few i = simp length-take (omega arith)
 
-  pub under-start : (i x : ℕ) (old : List ℕ) (scan : Scan) (tb : ℕ) → length old < 18446744073709551616 → tb ≡ block_of_inode i → Starts v i (x / 512) 2048 scan
-      → Under v tb (take (length old) (drop x (block_bytes v i))) old old scan (x % 512) 0
-  under-start i x old scan tb h e s =
+  pub under-start : (i x : ℕ) (old : List ℕ) (ps : List Extent) → length old < 18446744073709551616 → blocks_in ps ≡ blocks_at v i (x / 512) 2048
+      → Under v (take (length old) (drop x (block_bytes v i))) old old ps (x % 512) 0
+  under-start i x old ps h s =
       record {
         fits = h;
         long = refl;
         within = omega arith;
         few = omega arith;
         low = omega arith;
-        room = s.room;
-        rest = rw (e, sub-zero (length old)) (ap (take (length old)) (left-start v whole i x scan (data-few i) s));
+        room = omega (arith, ap length s, length-take 2048 (drop (x / 512) (data_of v (inode_at v i))));
+        rest = rw (sub-zero (length old)) (ap (take (length old)) (left-start v whole i x ps (data-few i) s));
         bytes = landed_none (take (length old) (drop x (block_bytes v i))) old;
       }
 
-  module _ (tb : ℕ) (w old to : List ℕ) (scan : Scan) (skip done : ℕ) (u : Under v tb w old to scan skip done) where
-    pub under_next : (e : Extent) (d : Scan) (n k : ℕ) (part : List ℕ) → NextPiece v tb scan e d → done < length old → n ≡ min (512 * e.count - skip) (length old - done)
+  module _ (w old to : List ℕ) (ps : List Extent) (skip done : ℕ) (u : Under v w old to ps skip done) where
+    pub under_next : (e : Extent) (qs : List Extent) (n k : ℕ) (part : List ℕ) → ps ≡ e ∷ qs → 0 < e.count → n ≡ min (512 * e.count - skip) (length old - done)
         → k ≡ n → part ≡ take n (drop skip (run_bytes v e.first e.count))
-        → Under v tb w old (take done to ++ (part ++ drop k (drop done to))) d 0 (done + n)
-    under_next e d n k part p h q r f =
+        → Under v w old (take done to ++ (part ++ drop k (drop done to))) qs 0 (done + n)
+    under_next e qs n k part p z q r f =
         let l = run_length v whole e.first e.count in
-        let some = p.some in
-        let g = goes w (run_bytes v e.first e.count) (left_bytes v tb d) (length old) done skip n (omega (arith, u.low)) u.within
-        (u.rest ∙ ap (λ (x : List ℕ). take (length old - done) (drop skip x)) (left-next v tb scan e.first e.count d p.blocks)) (omega arith)
+        let g = goes w (run_bytes v e.first e.count) (left_bytes v qs) (length old) done skip n (omega (arith, u.low)) u.within
+        (u.rest ∙ ap (λ (x : List ℕ). take (length old - done) (drop skip x)) (left-next v ps e qs p)) (omega arith)
         in
-        let b = landed-step w old to part done n k u.bytes g.within (omega arith) r (f ∙ g.part) in
+        let b = landed-step w old to part done n k u.bytes g.within (omega (arith, u.few)) r (f ∙ g.part) in
         record {
           fits = u.fits;
-          long = ap length b ∙ landed-length w old (done + n) g.within (omega arith);
+          long = ap length b ∙ landed-length w old (done + n) g.within (omega (arith, u.few));
           within = g.within;
-          few = omega arith;
+          few = omega (arith, u.few);
           low = omega arith;
-          room = omega (arith, p.room, u.room);
+          room = omega (arith, piece-counts ps e qs p, u.room);
           rest = g.rest;
           bytes = b;
         }
 
-    -- a slot passed or a node entered
-    pub under-on : (d : Scan) → GoesOn v tb scan d → Under v tb w old to d skip done
-    unfolding left_bytes
-    under-on d g =
-        record {
-          fits = u.fits;
-          long = u.long;
-          within = u.within;
-          few = u.few;
-          low = u.low;
-          room = omega (arith, g.room, u.room);
-          rest = u.rest ∙ ap (λ (bs : List ℕ). take (length old - done) (drop skip (concat (map v bs)))) g.blocks;
-          bytes = u.bytes;
-        }
-
-    pub under-end : pending v tb scan ≡ [] → Filled w old to done
+    pub under-end : ps ≡ [] → Filled w old to done
     under-end e =
         filled w old to done u.bytes u.within
-        (read_out w (length old) done (drop skip (left_bytes v tb scan)) u.rest (ap (drop skip) (left-none v tb scan e) ∙ drop-nil skip))
+        (read_out w (length old) done (drop skip (left_bytes v ps)) u.rest (ap (drop skip) (left-none v ps e) ∙ drop-nil skip))
 
     pub under-full : length old ≤ done → Filled w old to done
     under-full h =

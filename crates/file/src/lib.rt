@@ -6,12 +6,13 @@ ghost use Rattle.spec.specs.Bytes.{exactly};
 ghost use Rattle.spec.specs.Inode.{inode_at, block_of_inode};
 ghost use Rattle.spec.specs.Map.{content_of};
 ghost use Rattle.transaction.specs.Volumes.{working};
+ghost use Rattle.extents.specs.Stretches.{InHand};
 ghost use Rattle.file.specs.Bytes.{run_bytes, block_bytes, Filled};
 
 use block::copy_of;
-use extents::{AtSlot, pass_slots, stretch_at, take_node, take_slot};
-use inode::{inode_block, size_of};
-use spec::{ByteOffset, DiskBlock, Extent, FileBlock, Limits};
+use extents::{Piece, Pieces, Stretch};
+use inode::{InodeNumber, SlotBlock, inode_block, size_of};
+use spec::{ByteOffset, DiskBlock, FileBlock, Limits};
 use transaction::WorkingCopy;
 
 // Bytes of a block from a place on, zeros where the block's bytes end: the rare case, with its copy of the block, is a function of its own.
@@ -39,11 +40,11 @@ fn copy_part(block: &[u8], off: usize, to: &mut [u8])
 
 // Bytes of blocks that follow each other, in the working copy: from byte `skip` of block `first` on, block by block.
 // A `while` over bytes: the first and the last part are shorter than a block.
-fn copy_blocks(copy: &WorkingCopy, run: Extent, skip: usize, to: &mut [u8])
-    requires { (skip + length to.old ≤ 512 * run.count) × (run.first < 131072) × (run.count ≤ 2048) }
-    ensures { to.new ≡ take (length to.old) (drop skip (run_bytes (working copy.now) run.first run.count)) }
+fn copy_blocks(copy: &WorkingCopy, run: Piece, skip: usize, to: &mut [u8])
+    requires { skip + length to.old ≤ 512 * run.extent.count }
+    ensures { to.new ≡ take (length to.old) (drop skip (run_bytes (working copy.now) run.extent.first run.extent.count)) }
 {
-    let first = run.first;
+    let first = run.extent.first;
     let mut done: usize = 0;
     while done < to.len() {
         let at = skip + done;
@@ -56,11 +57,11 @@ fn copy_blocks(copy: &WorkingCopy, run: Extent, skip: usize, to: &mut [u8])
 }
 
 // The same; where nothing is staged and the device has them all, they are copied at once.
-fn copy_run(copy: &WorkingCopy, run: Extent, skip: usize, to: &mut [u8])
-    requires { (skip + length to.old ≤ 512 * run.count) × (run.first < 131072) × (run.count ≤ 2048) }
-    ensures { to.new ≡ take (length to.old) (drop skip (run_bytes (working copy.now) run.first run.count)) }
+fn copy_run(copy: &WorkingCopy, run: Piece, skip: usize, to: &mut [u8])
+    requires { skip + length to.old ≤ 512 * run.extent.count }
+    ensures { to.new ≡ take (length to.old) (drop skip (run_bytes (working copy.now) run.extent.first run.extent.count)) }
 {
-    let from = Limits::BLOCK_SIZE * (run.first as usize) + skip;
+    let from = Limits::BLOCK_SIZE * (run.extent.first as usize) + skip;
     let end = from + to.len();
     if (copy.staged.len() == 0) & (end <= copy.device.len()) {
         to.copy_from_slice(&copy.device[from..end]);
@@ -70,65 +71,47 @@ fn copy_run(copy: &WorkingCopy, run: Extent, skip: usize, to: &mut [u8])
 }
 
 // Bytes of record i's data blocks from byte x on, as far as they reach, where `table` is the record's block; how many.
-// A walk over slots and nodes, whose number is not known before.
 fn read_blocks<'a>(
     copy: &WorkingCopy<'a>,
-    table: &'a [u8],
-    i: usize,
+    table: &SlotBlock<'a>,
+    i: InodeNumber,
     x: ByteOffset,
     to: &mut [u8],
 ) -> usize
-    requires { (i < 128) × (length table.now ≤ 512) × (exactly 512 table.now ≡ working copy.now (block_of_inode i)) }
-    ensures { Filled (take (length to.old) (drop x.0 (block_bytes (working copy.now) i))) to.old to.new result }
+    requires { InHand (working copy.now) (block_of_inode i.n) table.now }
+    ensures { Filled (take (length to.old) (drop x.0 (block_bytes (working copy.now) i.n))) to.old to.new result }
 {
-    let from = x.0;
-    let place = FileBlock(from / Limits::BLOCK_SIZE);
-    let mut scan = stretch_at(table, i, place, Limits::MAX_FILE_BLOCKS);
-    let mut block = table;
-    let mut skip = from % Limits::BLOCK_SIZE;
+    let behind = Stretch {
+        i,
+        from: FileBlock(x.0 / Limits::BLOCK_SIZE),
+        n: Limits::MAX_FILE_BLOCKS,
+    };
+    let mut skip = x.0 % Limits::BLOCK_SIZE;
     let mut done: usize = 0;
-    while done < to.len() {
-        if scan.room == 0 {
-            return done;
+    for run in Pieces::in_table(copy, table, behind) {
+        let here = Limits::BLOCK_SIZE * (run.extent.count as usize) - skip;
+        let end = done + here.min(to.len() - done);
+        copy_run(copy, run, skip, &mut to[done..end]);
+        if end == to.len() {
+            return end;
         }
-        match take_slot(block, scan) {
-            AtSlot::Piece(run, then) => {
-                let here = Limits::BLOCK_SIZE * (run.count as usize) - skip;
-                let end = done + here.min(to.len() - done);
-                copy_run(copy, run, skip, &mut to[done..end]);
-                done = end;
-                skip = 0;
-                scan = then;
-            }
-            AtSlot::Passed(then) => {
-                scan = pass_slots(block, then);
-            }
-            AtSlot::Unused => match take_node(table, scan) {
-                Some((b, then)) => {
-                    block = copy.block(b);
-                    scan = then;
-                }
-                None => {
-                    return done;
-                }
-            },
-        }
+        done = end;
+        skip = 0;
     }
     done
 }
 
 // Bytes of record i's file from byte x on, into the buffer's front; how many.
-pub fn read_file(copy: &WorkingCopy, i: usize, x: ByteOffset, buffer: &mut [u8]) -> usize
-    requires { i < 128 }
-    ensures { Filled (take (length buffer.old) (drop x.0 (content_of (working copy.now) (inode_at (working copy.now) i))))
+pub fn read_file(copy: &WorkingCopy, i: InodeNumber, x: ByteOffset, buffer: &mut [u8]) -> usize
+    ensures { Filled (take (length buffer.old) (drop x.0 (content_of (working copy.now) (inode_at (working copy.now) i.n))))
         buffer.old buffer.new result }
 {
     let from = x.0;
     let table = inode_block(copy, i);
-    let size = size_of(table, i) as usize;
+    let size = size_of(table, i.n) as usize;
     if size <= from {
         return 0;
     }
     let len = buffer.len().min(size - from);
-    read_blocks(copy, table, i, x, &mut buffer[0..len])
+    read_blocks(copy, &SlotBlock { bytes: table }, i, x, &mut buffer[0..len])
 }

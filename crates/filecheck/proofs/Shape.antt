@@ -20,8 +20,8 @@ use Rattle.marks.specs.Marks.{Kept}
 use Rattle.marks.proofs.Laws.{kept-end}
 use Rattle.filecheck.specs.File.{last_clear, tree_sound, file_blocks, Walked, Marked}
 use Rattle.tree.specs.Reached.{blocks_from, tree_from}
-use Rattle.tree.specs.declared.Run.{Run}
-use Rattle.tree.specs.declared.Nodes.{Nodes}
+use Rattle.tree.specs.declared.ExtentTests.{ExtentTests}
+use Rattle.tree.specs.declared.NodeTests.{NodeTests}
 use Rattle.tree.specs.Runs.{over_extents, no_run, flat, over_nodes, no_nodes}
 use Rattle.tree.proofs.Runs.{and_right, over-inside, over-extents, over-blocks, run-apart, run-tail, nodes-run, nodes-sound, nodes-agree, nodes-tops, nodes-counts, all-filled}
 
@@ -133,13 +133,13 @@ module _ (N k : ℕ) (v : Disk) (i at : ℕ) (X : List ℕ) (lend : X ≡ v (blo
     unfolding file_blocks data_of blocks_from
     flat-blocks = rw (flat-extents, flat-levels, append-nil)
 
-    module _ (z r : Run) (ez : z ≡ no_run) (er : r ≡ over_extents N k z (used (slots_in 4 (drop (at + 16) X)))) where
-      pub flat-walked : (f : Nodes) → f ≡ flat r → Walked N k v (inode_at v i) f
+    module _ (z r : ExtentTests) (ez : z ≡ no_run) (er : r ≡ over_extents N k z (used (slots_in 4 (drop (at + 16) X)))) where
+      pub flat-walked : (f : NodeTests) → f ≡ flat r → Walked N k v (inode_at v i) f
       flat-walked f e = rw e (record {
         run = er ∙ rw (ez, used-at, flat-extents);
         sound = rw flat-levels;
         agree = rw depth-0;
-        counted = ap (λ (q : Run). q.blocks) er ∙ rw (ez, used-at) (over-blocks N k no_run _ ∙ omega arith);
+        counted = ap (λ (q : ExtentTests). q.blocks) er ∙ rw (ez, used-at) (over-blocks N k no_run _ ∙ omega arith);
         tops = rw flat-levels;
         filled = rw flat-levels;
       })
@@ -166,17 +166,17 @@ module _ (N k : ℕ) (v : Disk) (i at : ℕ) (X : List ℕ) (lend : X ≡ v (blo
     unfolding file_blocks data_of tree_from blocks_from
     deep-blocks = rw (deep-extents, deep-nodes)
 
-    pub deep-walked : (f : Nodes) → f ≡ over_nodes N k v no_nodes (used (slots_in 4 (drop (at + 16) X))) → Walked N k v (inode_at v i) f
+    pub deep-walked : (f : NodeTests) → f ≡ over_nodes N k v no_nodes (used (slots_in 4 (drop (at + 16) X))) → Walked N k v (inode_at v i) f
     deep-walked f e =
         let T = used (inode_at v i).slots in
         let g : f ≡ over_nodes N k v no_nodes T = e ∙ rw used-at in
         record {
-          run = ap (λ (q : Nodes). q.run) g ∙ nodes-run N k v no_nodes T ∙ ap (over_extents N k no_run) (sym deep-extents);
-          sound = ap (λ (q : Nodes). q.sound) g ∙ nodes-sound N k v no_nodes T ∙ ap (all (λ b. in_data N b && slots_packed (slots_at v b))) (sym deep-nodes);
-          agree = ap (λ (q : Nodes). q.agree) g ∙ nodes-agree N k v no_nodes T ∙ rw depth-1 (sym (and_right _));
-          counted = ap (λ (q : Nodes). q.counts) g ∙ nodes-counts N k v no_nodes T ∙ omega arith;
-          tops = ap (λ (q : Nodes). q.tops) g ∙ nodes-tops N k v no_nodes T ∙ (let z : 0 + length T ≡ length T = omega arith in z) ∙ sym (ap length deep-nodes ∙ length-map T (λ e. e.first));
-          filled = ap (λ (q : Nodes). q.filled) g ∙ all-filled N k v T ∙ sym (ap (all (level_packed v)) deep-levels ∙ and_right _);
+          run = ap (λ (q : NodeTests). q.run) g ∙ nodes-run N k v no_nodes T ∙ ap (over_extents N k no_run) (sym deep-extents);
+          sound = ap (λ (q : NodeTests). q.sound) g ∙ nodes-sound N k v no_nodes T ∙ ap (all (λ b. in_data N b && slots_packed (slots_at v b))) (sym deep-nodes);
+          agree = ap (λ (q : NodeTests). q.agree) g ∙ nodes-agree N k v no_nodes T ∙ rw depth-1 (sym (and_right _));
+          counted = ap (λ (q : NodeTests). q.counts) g ∙ nodes-counts N k v no_nodes T ∙ omega arith;
+          tops = ap (λ (q : NodeTests). q.tops) g ∙ nodes-tops N k v no_nodes T ∙ (let z : 0 + length T ≡ length T = omega arith in z) ∙ sym (ap length deep-nodes ∙ length-map T (λ e. e.first));
+          filled = ap (λ (q : NodeTests). q.filled) g ∙ all-filled N k v T ∙ sym (ap (all (level_packed v)) deep-levels ∙ and_right _);
         }
 
     pub deep-marks : (m m₀ : Marks) → Kept N m [] m₀ (tree_from v 0 (used (slots_in 4 (drop (at + 16) X)))) → Kept N m [] m₀ (file_blocks v i)
@@ -185,9 +185,9 @@ module _ (N k : ℕ) (v : Disk) (i at : ℕ) (X : List ℕ) (lend : X ≡ v (blo
 -- ---- S4 to S6 and S8
 
 -- how many slots of a record are used: of depth 0 one for each extent, of depth 1 one for each node
-module _ (N k : ℕ) (v : Disk) (i at : ℕ) (X : List ℕ) (lend : X ≡ v (block_of_inode i)) (place : at ≡ place_of_inode i) (f : Nodes) (h : Walked N k v (inode_at v i) f) where
+module _ (N k : ℕ) (v : Disk) (i at : ℕ) (X : List ℕ) (lend : X ≡ v (block_of_inode i)) (place : at ≡ place_of_inode i) (f : NodeTests) (h : Walked N k v (inode_at v i) f) where
   walked-extents : f.run.extents ≡ length (extents_of v (inode_at v i))
-  walked-extents = ap (λ (q : Run). q.extents) h.run ∙ over-extents N k no_run _ ∙ omega arith
+  walked-extents = ap (λ (q : ExtentTests). q.extents) h.run ∙ over-extents N k no_run _ ∙ omega arith
 
   pub flat-slots : (inode_at v i).depth ≡ 0 → f.run.extents ≡ length (used (slots_in 4 (drop (at + 16) X)))
   flat-slots d = walked-extents ∙ ap length (flat-extents N k v i at X lend place d ∙ sym (used-at N k v i at X lend place))
@@ -207,14 +207,14 @@ module _ (N k : ℕ) (v : Disk) (i at : ℕ) (X : List ℕ) (lend : X ≡ v (blo
       let n = inode_at v i in
       let E = extents_of v n in
       let p_p : p ≡ slots_packed n.slots = packed-at N k v i at X lend place p ep in
-      let p_i : f.run.inside ≡ all (extent_inside N) E = ap (λ (q : Run). q.inside) h.run ∙ over-inside N k no_run E in
+      let p_i : f.run.inside ≡ all (extent_inside N) E = ap (λ (q : ExtentTests). q.inside) h.run ∙ over-inside N k no_run E in
       let p_w : want ≡ blocks_for n.size = ew ∙ ap blocks_for es in
-      let p_s : f.run.apart ≡ apart E = ap (λ (q : Run). q.apart) h.run ∙ run-apart N k E in
+      let p_s : f.run.apart ≡ apart E = ap (λ (q : ExtentTests). q.apart) h.run ∙ run-apart N k E in
       let p_d : beq (eqb depth 1) (ltb 4 f.run.extents) ≡ beq (eqb n.depth 1) (ltb 4 (length E)) = deep-or depth n.depth _ _ ed (ap (ltb 4) walked-extents) in
       let p_m : m ≡ nodes_for (length E) = em ∙ ap nodes_for walked-extents in
       let p_t : c ≡ tail_zero v n =
       ec ∙ ap (λ (z : ℕ). last_clear v z f.run.tail) es
-      ∙ tail-is v n f.run.tail (rw (← es) most) (ap (λ (q : Run). q.tail) h.run ∙ run-tail N k E ∙ ap (λ (z : ℕ). get_or (blocks_in E) z 0) (ek ∙ ap (λ (z : ℕ). z / 512) es)) in
+      ∙ tail-is v n f.run.tail (rw (← es) most) (ap (λ (q : ExtentTests). q.tail) h.run ∙ run-tail N k E ∙ ap (λ (z : ℕ). get_or (blocks_in E) z 0) (ek ∙ ap (λ (z : ℕ). z / 512) es)) in
       record { answer = rw (p_p, h.sound, p_i, h.agree, h.counted, p_w, p_s, p_d, h.tops, p_m, h.filled, p_t); marks = λ _. g }
 
 -- ---- S2 to S6 and S8

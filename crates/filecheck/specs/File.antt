@@ -7,8 +7,8 @@ use Rattle.spec.specs.Inode.{Inode, inode_at, block_of_inode, slots_at, used, co
 use Rattle.spec.specs.Sound.{slots_packed, extent_inside, counts_agree, apart, level_packed, tail_zero}
 use Rattle.marks.specs.declared.Marks.{Marks}
 use Rattle.marks.specs.Marks.{Kept}
-use Rattle.tree.specs.declared.Nodes.{Nodes}
-use Rattle.tree.specs.Device.{disk_of}
+use Rattle.tree.specs.declared.NodeTests.{NodeTests}
+use Rattle.marks.specs.Device.{disk_of}
 use Rattle.filecheck.specs.declared.table.Record.{Record}
 use Rattle.tree.specs.Runs.{over_extents, no_run}
 
@@ -32,7 +32,7 @@ unfoldable pub file_blocks : Disk → ℕ → List ℕ
 file_blocks v i = data_of v (inode_at v i) ++ nodes_of v (inode_at v i)
 
 -- what a walk over a file's tree finds, on a device of N blocks, where the size ends in block k of the file: the results over its extents, and those over its nodes
-pub record Walked (N k : ℕ) (v : Disk) (n : Inode) (f : Nodes) : Type 0 where
+pub record Walked (N k : ℕ) (v : Disk) (n : Inode) (f : NodeTests) : Type 0 where
   pub run : f.run ≡ over_extents N k no_run (extents_of v n)
   pub sound : f.sound ≡ all (λ b. in_data N b && slots_packed (slots_at v b)) (nodes_of v n)
   pub agree : f.agree ≡ counts_agree v (tree_depth n) (used n.slots)
@@ -47,4 +47,4 @@ pub record Marked (N : ℕ) (r defined : Bool) (m m' : Marks) (bs : List ℕ) : 
 
 -- the block of the table that a record comes with
 abbrev pub Stands : Record → Type 0
-Stands x = exactly 512 x.table.now ≡ disk_of x.device (block_of_inode x.i)
+Stands x = exactly 512 x.table.now ≡ disk_of x.device (block_of_inode x.i.n)

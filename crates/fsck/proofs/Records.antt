@@ -21,7 +21,6 @@ use Rattle.zeros.proofs.Laws.{all_take, all_drop}
 use Rattle.std.specs.Prelude.{Option as Returned, Some, None}
 use Rattle.std.specs.Option as returned
 use Rattle.inode.specs.Records.{bytes_in, record_in, found_of, lowest_to}
-use Rattle.block.proofs.Places.{found-some}
 use Rattle.inode.proofs.Laws.{drop-take, record-at}
 use Rattle.marks.specs.Marks.{Kept, reach_to, block_found}
 use Rattle.marks.proofs.Laws.{kept-start, kept-end, reach-none, reach-end}
@@ -30,7 +29,7 @@ use Rattle.fsck.specs.declared.NameTable.{NameTable}
 use Rattle.fsck.specs.Names.{Told, Passed}
 use Rattle.fsck.proofs.Names.{found-none, told-on}
 use Rattle.fsck.specs.declared.Damage.{Damage}
-use Rattle.fsck.specs.declared.Damage.TheVariants.{Inode as InodeAt, Block as BlockAt}
+use Rattle.fsck.specs.declared.Damage.TheVariants.{Block as BlockAt}
 use Rattle.fsck.specs.Damage.{damage_of, unsound}
 use Rattle.filecheck.specs.File.{file_blocks, Marked}
 
@@ -144,9 +143,6 @@ found_some i h = let z : ◌≡◌ {A = ℕ} 0 1 = cc in absurd (omega arith)
 
 -- what is damaged, by the two searches
 module _ (N : ℕ) (v : Disk) (r : Returned ℕ) (e : r ≡ found_of (inode_fault N v)) where
-  pub inode-damaged : (i : ℕ) → r ≡ Some i → Some (InodeAt i) ≡ damage_of (inode_fault N v) (block_fault N v)
-  inode-damaged i h = rw (found-some (inode_fault N v) i (sym e ∙ h))
-
   module _ (s : Returned DiskBlock) (x : Returned ℕ) (h : r ≡ None) (f : s ≡ block_found x) (g : x ≡ found_of (block_fault N v)) where
     searched : block_found (found_of (block_fault N v)) ≡ s
     searched = sym (f ∙ ap block_found g)

@@ -8,17 +8,16 @@ ghost use Rattle.spec.specs.Inode.{reached_from, reached};
 ghost use Rattle.spec.specs.Sound.{inode_sound, inode_fault, block_fault, volume_sound};
 ghost use Rattle.inode.specs.Records.{found_of, lowest_to};
 ghost use Rattle.marks.specs.Marks.{Kept, reach_to};
-ghost use Rattle.tree.specs.Device.{disk_of};
+ghost use Rattle.marks.specs.Device.{disk_of};
 ghost use Rattle.filecheck.specs.File.{Marked};
 ghost use Rattle.fsck.specs.Names.{Told, Seen, seen_to, Passed};
 ghost use Rattle.fsck.specs.Damage.{damage_of, unsound};
 
 use block::{copy_of, place_in_block};
 use filecheck::{Record, clear_in};
-use inode::{key_at, table_block};
-use marks::Marks;
+use inode::{InodeNumber, key_at, table_block};
+use marks::{Device, Marks};
 use spec::{DiskBlock, Limits};
-use tree::Device;
 use zeros::is_zero;
 
 // Names are told apart by their remainders first.
@@ -39,6 +38,7 @@ struct NameTable {
 }
 
 impl NameTable {
+    // No name yet. A constructor and no Default: its contract says what it makes.
     fn none() -> NameTable
         ensures { result ≡ record { numbers = replicate 128 0; seen = replicate 1021 false } }
     {
@@ -49,49 +49,45 @@ impl NameTable {
     }
 
     // "Names differ pairwise": whether a record before i has this name. The search is needed only where its remainder was seen.
-    fn holds(&self, number: u64, i: usize) -> bool
-        requires { (i < 128) × (length self.now.numbers ≡ 128) × Seen self.now i × (number ≡ 0 → ⊥) }
-        ensures { result ≡ seen_to i number self.now.numbers }
+    fn holds(&self, number: u64, i: InodeNumber) -> bool
+        requires { (length self.now.numbers ≡ 128) × Seen self.now i.n × (number ≡ 0 → ⊥) }
+        ensures { result ≡ seen_to i.n number self.now.numbers }
     {
         let place = (number % REMAINDERS as u64) as usize;
         if !self.seen[place] {
             return false;
         }
-        self.numbers[..i].contains(&number)
+        self.numbers[..i.n].contains(&number)
     }
 
     // The name of record i.
-    fn add(&mut self, i: usize, number: u64)
-        requires { (i < length self.old.numbers) × (length self.old.seen ≡ 1021) }
-        ensures { self.new ≡ record { numbers = slice_set self.old.numbers i number; seen = slice_set self.old.seen (number % 1021) true } }
+    fn add(&mut self, i: InodeNumber, number: u64)
+        requires { (length self.old.numbers ≡ 128) × (length self.old.seen ≡ 1021) }
+        ensures { self.new ≡ record { numbers = slice_set self.old.numbers i.n number; seen = slice_set self.old.seen (number % 1021) true } }
     {
-        self.numbers[i] = number;
+        self.numbers[i.n] = number;
         self.seen[(number % REMAINDERS as u64) as usize] = true;
     }
 }
 
-// S2 to S6 and S8 of a record; `names` has the names before it, and then its own too.
-fn inode_sound(record: &Record, marks: &mut Marks, names: &mut NameTable) -> bool
-    requires { Told (disk_of record.now.device) names.old record.now.i }
-    ensures { Marked record.now.device.blocks result (inode_sound record.now.device.blocks (disk_of record.now.device) record.now.i)
-        marks.new marks.old (reached_from (disk_of record.now.device) record.now.i)
-        × (result ≡ true → Told (disk_of record.now.device) names.new (record.now.i + 1)) }
+// S2 to S6 and S8 of a file; `names` has the names before it, and then its own too.
+fn inode_sound(file: &Record, marks: &mut Marks, names: &mut NameTable) -> bool
+    requires { Told (disk_of file.now.device) names.old file.now.i.n }
+    ensures { Marked file.now.device.blocks result (inode_sound file.now.device.blocks (disk_of file.now.device) file.now.i.n)
+        marks.new marks.old (reached_from (disk_of file.now.device) file.now.i.n)
+        × (result ≡ true → Told (disk_of file.now.device) names.new (file.now.i.n + 1)) }
 {
-    let i = record.i;
-    let number = key_at(record.table, i);
+    let i = file.i;
+    let number = key_at(file.table, i.n);
     if number == 0 {
-        let at = place_in_block(i);
-        return clear_in(
-            record.table,
-            at + Limits::NAME_SIZE,
-            at + Limits::INODE_SIZE,
-        );
+        let at = place_in_block(i.n);
+        return clear_in(file.table, at + Limits::NAME_SIZE, at + Limits::INODE_SIZE);
     }
     if names.holds(number, i) {
         return false;
     }
     names.add(i, number);
-    record.file_sound(marks)
+    file.file_sound(marks)
 }
 
 // The lowest of the 16 records from `first` on, those of one block of the table, that is not sound. If all are, every block that they reach is marked.
@@ -99,22 +95,23 @@ fn records_fault(
     device: &Device,
     marks: &mut Marks,
     names: &mut NameTable,
-    first: usize,
+    first: InodeNumber,
 ) -> Option<usize>
-    requires { (first < 128) × (first % 16 ≡ 0) × Told (disk_of device.now) names.old first }
-    ensures { (result ≡ lowest_to (first + 16) (unsound device.now.blocks (disk_of device.now)) first)
-        × (result ≡ found_of none → Passed device.now.blocks (disk_of device.now) (first + 16) marks.new names.new
-        marks.old (reach_to (disk_of device.now) (first + 16) first)) }
+    requires { (first.n % 16 ≡ 0) × Told (disk_of device.now) names.old first.n }
+    ensures { (result ≡ lowest_to (first.n + 16) (unsound device.now.blocks (disk_of device.now)) first.n)
+        × (result ≡ found_of none → Passed device.now.blocks (disk_of device.now) (first.n + 16) marks.new names.new
+        marks.old (reach_to (disk_of device.now) (first.n + 16) first.n)) }
 {
     let table = copy_of(device.block_at(table_block(first)));
     if is_zero(&table) {
         return None;
     }
-    for i in first..first + Limits::INODES_PER_BLOCK {
+    for i in first.n..first.n + Limits::INODES_PER_BLOCK {
+        let number = InodeNumber { n: i };
         let record = Record {
             device: *device,
             table: &table,
-            i,
+            i: number,
         };
         if !inode_sound(&record, marks, names) {
             return Some(i);
@@ -130,7 +127,9 @@ fn inode_fault(device: &Device, marks: &mut Marks) -> Option<usize>
 {
     let mut names = NameTable::none();
     for k in 0..Limits::INODE_COUNT / Limits::INODES_PER_BLOCK {
-        let first = Limits::INODES_PER_BLOCK * k;
+        let first = InodeNumber {
+            n: Limits::INODES_PER_BLOCK * k,
+        };
         if let Some(i) = records_fault(device, marks, &mut names, first) {
             return Some(i);
         }
@@ -147,7 +146,7 @@ pub fn find_damage(device: &[u8], blocks: usize) -> Option<Damage>
         bytes: device,
         blocks,
     };
-    let mut marks = Marks::none(blocks);
+    let mut marks = Marks::none(&tested);
     if let Some(i) = inode_fault(&tested, &mut marks) {
         return Some(Damage::Inode(i));
     }

@@ -4,65 +4,44 @@
 
 use fsck::{Damage, find_damage, is_sound};
 use std::io;
-
-// One byte, and a number of two bytes.
-fn set(device: &mut [u8; 32768], at: usize, byte: u8) {
-    if at < 32768 {
-        device[at] = byte;
-    }
-}
-
-fn set2(device: &mut [u8; 32768], at: usize, n: u16) {
-    if at < 32767 {
-        device[at] = (n % 256) as u8;
-        device[at + 1] = (n / 256) as u8;
-    }
-}
-
-// A slot: a block number and a count.
-fn slot(device: &mut [u8; 32768], at: usize, first: u16, count: u16) {
-    if at < 32764 {
-        set2(device, at, first);
-        set2(device, at + 2, count);
-    }
-}
+use trial::{put, put_slot};
 
 // An empty store: bits 0 to 41 and from 64 up are 1.
 fn empty(device: &mut [u8; 32768]) {
     device.fill(0);
     device[16896..17408].fill(255);
-    set(device, 16901, 3);
-    set(device, 16902, 0);
-    set(device, 16903, 0);
+    put(device, 16901, &[3]);
+    put(device, 16902, &[0]);
+    put(device, 16903, &[0]);
 }
 
 // Record 0: 700 bytes in blocks 42 and 43. Record 1: no byte. Record 2: 2,560 bytes in blocks 46, 48, .. 54, which node 44 names.
 fn files(device: &mut [u8; 32768]) {
-    set(device, 17408, 1);
-    set2(device, 17416, 700);
-    slot(device, 17424, 42, 2);
-    set(device, 17440, 2);
-    set(device, 17472, 3);
-    set2(device, 17480, 2560);
-    set(device, 17484, 1);
-    slot(device, 17488, 44, 5);
-    slot(device, 22528, 46, 1);
-    slot(device, 22532, 48, 1);
-    slot(device, 22536, 50, 1);
-    slot(device, 22540, 52, 1);
-    slot(device, 22544, 54, 1);
-    set(device, 16901, 95);
-    set(device, 16902, 85);
+    put(device, 17408, &[1]);
+    put(device, 17416, &700u16.to_le_bytes());
+    put_slot(device, 17424, 42, 2);
+    put(device, 17440, &[2]);
+    put(device, 17472, &[3]);
+    put(device, 17480, &2560u16.to_le_bytes());
+    put(device, 17484, &[1]);
+    put_slot(device, 17488, 44, 5);
+    put_slot(device, 22528, 46, 1);
+    put_slot(device, 22532, 48, 1);
+    put_slot(device, 22536, 50, 1);
+    put_slot(device, 22540, 52, 1);
+    put_slot(device, 22544, 54, 1);
+    put(device, 16901, &[95]);
+    put(device, 16902, &[85]);
 }
 
 // The last extent of record 2 taken away: four are left, which would fit the record.
 fn four_extents(device: &mut [u8; 32768]) {
     empty(device);
     files(device);
-    set2(device, 17480, 2048);
-    slot(device, 17488, 44, 4);
-    slot(device, 22544, 0, 0);
-    set(device, 16902, 21);
+    put(device, 17480, &2048u16.to_le_bytes());
+    put_slot(device, 17488, 44, 4);
+    put_slot(device, 22544, 0, 0);
+    put(device, 16902, &[21]);
 }
 
 fn show(rt: &impl Print, name: &[u8], store: &[u8; 32768]) -> io::Result<()> {
@@ -97,8 +76,51 @@ fn broken(
 ) -> io::Result<()> {
     empty(device);
     files(device);
-    set(device, at, byte);
+    put(device, at, &[byte]);
     show(rt, name, device)
+}
+
+// S1: bits outside 42 to N-1.
+fn broken_bits(rt: &impl Print, device: &mut [u8; 32768]) -> io::Result<()> {
+    broken(rt, device, b"S1 bit 3 is 0", 16896, 247)?;
+    broken(rt, device, b"S1 bit 65 is 0", 16904, 253)?;
+    broken(rt, device, b"S1 bit 4095 is 0", 17407, 127)
+}
+
+// S2 and S3: names and the heads of records.
+fn broken_records(rt: &impl Print, device: &mut [u8; 32768]) -> io::Result<()> {
+    broken(rt, device, b"S2 a name twice", 17472, 1)?;
+    broken(rt, device, b"S2 an empty record with a size", 21481, 1)?;
+    broken(rt, device, b"S3 size past the most", 17419, 1)?;
+    broken(rt, device, b"S3 depth 2", 17484, 2)?;
+    broken(rt, device, b"S3 byte 15 of a record", 17423, 1)
+}
+
+// S4 to S6: slots, counts and the shape of trees.
+fn broken_trees(rt: &impl Print, device: &mut [u8; 32768]) -> io::Result<()> {
+    broken(rt, device, b"S4 a slot behind the used ones", 17436, 9)?;
+    broken(
+        rt,
+        device,
+        b"S4 a slot behind the used ones of a node",
+        23036,
+        9,
+    )?;
+    broken(rt, device, b"S4 an extent past the end", 22544, 64)?;
+    broken(rt, device, b"S4 a node in the log", 17488, 20)?;
+    broken(rt, device, b"S5 a count above", 17490, 4)?;
+    broken(rt, device, b"S5 size against count", 17417, 0)?;
+    broken(rt, device, b"S6 extents that touch", 22536, 49)?;
+    four_extents(device);
+    show(rt, b"S6 depth 1 for four extents", device)
+}
+
+// S7 and S8: blocks that files reach, and the bytes in them.
+fn broken_blocks(rt: &impl Print, device: &mut [u8; 32768]) -> io::Result<()> {
+    broken(rt, device, b"S7 a block reached, its bit 0", 16902, 21)?;
+    broken(rt, device, b"S7 a block not reached, its bit 1", 16903, 128)?;
+    broken(rt, device, b"S7 a block reached twice", 22540, 43)?;
+    broken(rt, device, b"S8 a byte after the size", 22204, 1)
 }
 
 fn main(rt: HostRuntime) -> io::Result<()> {
@@ -108,55 +130,8 @@ fn main(rt: HostRuntime) -> io::Result<()> {
     show(&rt, b"empty", &device)?;
     files(&mut device);
     show(&rt, b"three files", &device)?;
-    broken(&rt, &mut device, b"S1 bit 3 is 0", 16896, 247)?;
-    broken(&rt, &mut device, b"S1 bit 65 is 0", 16904, 253)?;
-    broken(&rt, &mut device, b"S1 bit 4095 is 0", 17407, 127)?;
-    broken(&rt, &mut device, b"S2 a name twice", 17472, 1)?;
-    broken(
-        &rt,
-        &mut device,
-        b"S2 an empty record with a size",
-        21481,
-        1,
-    )?;
-    broken(&rt, &mut device, b"S3 size past the most", 17419, 1)?;
-    broken(&rt, &mut device, b"S3 depth 2", 17484, 2)?;
-    broken(&rt, &mut device, b"S3 byte 15 of a record", 17423, 1)?;
-    broken(
-        &rt,
-        &mut device,
-        b"S4 a slot behind the used ones",
-        17436,
-        9,
-    )?;
-    broken(
-        &rt,
-        &mut device,
-        b"S4 a slot behind the used ones of a node",
-        23036,
-        9,
-    )?;
-    broken(&rt, &mut device, b"S4 an extent past the end", 22544, 64)?;
-    broken(&rt, &mut device, b"S4 a node in the log", 17488, 20)?;
-    broken(&rt, &mut device, b"S5 a count above", 17490, 4)?;
-    broken(&rt, &mut device, b"S5 size against count", 17417, 0)?;
-    broken(&rt, &mut device, b"S6 extents that touch", 22536, 49)?;
-    four_extents(&mut device);
-    show(&rt, b"S6 depth 1 for four extents", &device)?;
-    broken(
-        &rt,
-        &mut device,
-        b"S7 a block reached, its bit 0",
-        16902,
-        21,
-    )?;
-    broken(
-        &rt,
-        &mut device,
-        b"S7 a block not reached, its bit 1",
-        16903,
-        128,
-    )?;
-    broken(&rt, &mut device, b"S7 a block reached twice", 22540, 43)?;
-    broken(&rt, &mut device, b"S8 a byte after the size", 22204, 1)
+    broken_bits(&rt, &mut device)?;
+    broken_records(&rt, &mut device)?;
+    broken_trees(&rt, &mut device)?;
+    broken_blocks(&rt, &mut device)
 }

@@ -1,7 +1,7 @@
 -- Targets in ascending order: the first and the last tell of all. Assumes nothing.
 use Prim.Native.Nat.{ℕ, ◌-◌, ◌<◌, ◌≤◌}
 use mathlib.Core.Path.{◌≡◌, refl, sym, ap, ap₂, ◌∙◌}
-use mathlib.Core.Bool.{Bool, true, false, ◌&&◌, and-false, true≢false}
+use mathlib.Core.Bool.{Bool, true, false, ◌&&◌, and-false, and-true, and_self, true≢false}
 use mathlib.Core.List.{List, [], ◌∷◌}
 use native.Mathlib.Omega.{arith}
 use borrow.Author.Tests.{ltb-true, ltb-false, lt-ltb, le-ltb, ne_eqb}
@@ -53,11 +53,7 @@ above-first x (y ∷ ys) e = let p = both_true (ltb x y) (ascends (y ∷ ys)) e 
 -- with both ends targets, all between them are
 ends-all : (N x : ℕ) (xs : List ℕ) → ascends (x ∷ xs) ≡ true → is_target N x && is_target N (last_of x xs) ≡ all (is_target N) (x ∷ xs)
 unfolding ascends
-ends-all N x [] e = same (is_target N x)
-  where
-    same : (a : Bool) → a && a ≡ a && true
-    same true = refl
-    same false = refl
+ends-all N x [] e = and_self (is_target N x) ∙ sym (and-true (is_target N x))
 ends-all N x (y ∷ ys) e =
     let p = both_true (ltb x y) (ascends (y ∷ ys)) e in
     go (is_target N x) refl (is_target N (last_of y ys)) refl (ltb-true x y p.0) (above-first y ys p.1) (ends-all N y ys p.1)
@@ -82,11 +78,7 @@ unfolding are_targets
 can-list-up N [] a b some up ea eb = absurd (some refl)
 can-list-up N (x ∷ xs) a b some up ea eb =
     let n : length (x ∷ xs) - 1 ≡ length xs = omega arith in
-    rw (ea, eb, n, last-at x xs, ends-all N x xs up, ne_eqb (length (x ∷ xs)) 0 some, ← ascends-distinct (x ∷ xs) up) (right (all (is_target N) (x ∷ xs)))
-  where
-    right : (c : Bool) → c ≡ c && true
-    right true = refl
-    right false = refl
+    rw (ea, eb, n, last-at x xs, ends-all N x xs up, ne_eqb (length (x ∷ xs)) 0 some, ← ascends-distinct (x ∷ xs) up) (sym (and-true (all (is_target N) (x ∷ xs))))
 
 pub can-list-other : (N : ℕ) (l : List ℕ) (a d up : Bool) → up ≡ ascends l → up ≡ false → a ≡ all (is_target N) l → d ≡ distinct l → a && d ≡ are_targets N l
 unfolding are_targets ascends

@@ -1,4 +1,5 @@
 pub mod Tables
 pub mod Every
 pub mod Loops
+pub mod Neighbours
 pub mod Ends

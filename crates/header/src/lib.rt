@@ -14,7 +14,7 @@ use spec::{DiskBlock, Limits};
 use std::marker::Model;
 use zeros::is_zero;
 
-// What a log lists: the first `count` cells of `list` are in use.
+// What a log lists: the first `count` cells of `list` are in use. An array and a length, since there is no heap; users see a list.
 #[derive(Drop)]
 pub struct Targets {
     list: [u32; Limits::LOG_LENGTH],
@@ -30,12 +30,14 @@ impl Model for Targets {
 }
 
 impl Targets {
+    // How many there are.
     pub fn len(&self) -> usize
         ensures { (result ≡ length self.now) × (result ≤ 32) }
     {
         self.count
     }
 
+    // The cells in use.
     pub fn as_slice(&self) -> &[u32]
         ensures { (result.now ≡ self.now) × (length result.now ≤ 32) }
     {
@@ -133,11 +135,7 @@ fn are_inside(blocks: usize, l: &[u32]) -> bool
 pub fn is_ascending(l: &[u32]) -> bool
     ensures { result ≡ ascends l.now }
 {
-    let mut up = true;
-    for i in 1..l.len() {
-        up = up & (l[i - 1] < l[i]);
-    }
-    up
+    l.windows(2).all(|w| w[0] < w[1])
 }
 
 // Whether no target is listed twice.

@@ -3,16 +3,16 @@ use Prim.Native.Nat.{ℕ, zero, suc, ◌+◌, ◌*◌, ◌-◌, ◌/◌, ◌%◌
 use mathlib.Core.Path.{◌≡◌, refl, sym, ap, ap₂, ◌∙◌}
 use mathlib.Core.Bool.{Bool, true, false, cond, not, ◌&&◌}
 use mathlib.Core.List.{List, [], ◌∷◌}
-use mathlib.Core.Option.{Option, none, some, some-ne-none, some-injective}
+use mathlib.Core.Option.{Option, none, some}
 use native.Mathlib.Nat.{add-zero}
 use native.Mathlib.Numerals.{add-one}
 use native.Mathlib.Omega.{arith}
 use lib.Dec.{eqb, leb}
-use borrow.Author.Tests.{eqb-true, eq-eqb, ne_eqb, leb-true, le-leb, lt-leb, lt-ltb}
+use borrow.Author.Tests.{eqb-true, eq-eqb, ne_eqb, leb-true, le-leb, lt-leb, lt-ltb, le-ltb}
 use lib.ListN.{length, take, drop, get_or, replicate, length-take, length-drop}
 use lib.Seq.{ext_get_or, get_or-take, get_or-drop, take-take, take-nil, drop-drop}
 use Rattle.spec.specs.Bytes.{exactly, part, number2, number4, same, all_zero, found, place, lowest}
-use Rattle.spec.specs.Disk.{Disk, blocks_of}
+use Rattle.spec.specs.Disk.{Disk, blocks_of, area_of}
 use Rattle.spec.specs.declared.Session.{Session}
 use Rattle.spec.specs.Session.{staged_in}
 use Rattle.spec.specs.Transaction.{view, state_of}
@@ -23,7 +23,6 @@ use Rattle.lists.specs.Lowest as lows
 use Rattle.transaction.specs.Places.{view_in}
 use Rattle.transaction.proofs.Laws.{view-new}
 use Rattle.block.specs.Keys.{key_of, Name}
-use Rattle.block.proofs.Places.{found-some}
 use Rattle.block.proofs.Keys.{eight, same_key}
 use Rattle.std.specs.List.{AllPass}
 use Rattle.lists.specs.Places.{place-lt, place-value}
@@ -134,10 +133,6 @@ module _ (v : Disk) (t : List ℕ) (i : ℕ) (h : exactly 512 t ≡ v (block_of_
   pub empty-at : all_zero (take 8 (record_in t i)) ≡ is_empty v i
   empty-at = ap (λ (x : List ℕ). all_zero (take 8 x)) record-at
 
-  pub named-at : (name : List ℕ) → named t name i ≡ same (name_at v i) name
-  unfolding named
-  named-at name = ap (λ (x : List ℕ). same (take 8 x) name) record-at
-
 -- ---- names
 
 -- where the block reaches so far, bytes at a place of it are a part of it
@@ -236,10 +231,10 @@ module _ (m n : ℕ) (f : ℕ → Bool) (i : ℕ) (low : i ≤ m) (high : m ≤ 
 -- ---- the search over the table
 
 -- a block copied whole has the same names
-pub named-whole : (t x name : List ℕ) (first n : ℕ) → x ≡ exactly 512 t → lowest_to n (named x name) first ≡ lowest_to n (named t name) first
+pub named-whole : (t x name : List ℕ) → x ≡ exactly 512 t → lowest_to 16 (named x name) 0 ≡ lowest_to 16 (named t name) 0
 unfolding named bytes_in
-named-whole t x name first n e =
-    ap (λ (b : List ℕ). lowest_to n (λ i. same (take 8 (part (place_of_inode i) 32 b)) name) first) (ap (exactly 512) e ∙ exactly-all 512 (exactly 512 t) (length-exactly 512 t))
+named-whole t x name e =
+    ap (λ (b : List ℕ). lowest_to 16 (λ i. same (take 8 (part (place_of_inode i) 32 b)) name) 0) (ap (exactly 512) e ∙ exactly-all 512 (exactly 512 t) (length-exactly 512 t))
 
 -- whether record i of a disk has this name
 unfoldable pub named_at : Disk → List ℕ → ℕ → Bool
@@ -253,19 +248,43 @@ pub find-all : (v : Disk) (name : List ℕ) → found_of (find v name) ≡ lowes
 unfolding find named_at
 find-all v name = lowest-all 128 (λ i. same (name_at v i) name)
 
+-- a search from another start on
+abbrev moved : ℕ → Returned ℕ → Returned ℕ
+moved a None = None
+moved a (Some j) = Some (a + j)
+
+lowest-moved : (f g : ℕ → Bool) (a b n : ℕ) → ((k : ℕ) → k < b + n → f (a + k) ≡ g k) → found_of (lowest (a + b) n f) ≡ moved a (found_of (lowest b n g))
+lowest-moved f g a b zero h = refl
+lowest-moved f g a b (suc n) h = rw (h b (omega arith)) (go (g b) (lowest-moved f g a (suc b) n (λ k l. h k (omega arith))))
+  where
+    go : (t : Bool) → found_of (lowest (a + suc b) n f) ≡ moved a (found_of (lowest (suc b) n g))
+        → found_of (cond t (some (a + b)) (lowest (suc (a + b)) n f)) ≡ moved a (found_of (cond t (some b) (lowest (suc b) n g)))
+    go true e = refl
+    go false e = let z : suc (a + b) ≡ a + suc b = omega arith in rw z e
+
 -- the 16 records of one block searched
 module _ (v : Disk) (t name : List ℕ) (first : ℕ) (low : first < 128) (whole : first % 16 ≡ 0) (e : exactly 512 t ≡ v (block_of_inode first)) where
-  in_block : lowest_to (first + 16) (named_at v name) first ≡ lowest_to (first + 16) (named t name) first
-  unfolding named_at
+  named-in : (k : ℕ) → k < 16 → named_at v name (first + k) ≡ named t name k
+  unfolding named_at named
+  named-in k l =
+      let z : (first + k) / 16 ≡ first / 16 = omega arith in
+      let p : place_of_inode (first + k) ≡ place_of_inode k = omega arith in
+      ap (λ (x : List ℕ). same (take 8 x) name) (sym (record-at v t (first + k) (e ∙ ap (λ (b : ℕ). v (34 + b)) (sym z))) ∙ ap (λ (q : ℕ). bytes_in t q 32) p)
+
+  in_block : lowest_to (first + 16) (named_at v name) first ≡ moved first (lowest_to 16 (named t name) 0)
+  unfolding lowest_to
   in_block =
-      lowest-agree (first + 16) (named_at v name) (named t name) first
-      (λ k p h. let z : k / 16 ≡ first / 16 = omega arith in sym (named-at v t k (e ∙ ap (λ (b : ℕ). v (34 + b)) (sym z)) name))
+      let n : first + 16 - first ≡ 16 = omega arith in
+      let s : first + 0 ≡ first = omega arith in
+      ap (λ (k : ℕ). found_of (lowest first k (named_at v name))) n
+      ∙ ap (λ (k : ℕ). found_of (lowest k 16 (named_at v name))) (sym s)
+      ∙ lowest-moved (named_at v name) (named t name) first 0 16 (λ k l. named-in k l)
 
-  pub find-hit : (i : ℕ) → Some i ≡ lowest_to (first + 16) (named t name) first → lowest_to 128 (named_at v name) first ≡ Some i
-  find-hit i h = lowest-in (first + 16) 128 (named_at v name) first (omega arith) (omega arith) i (in_block ∙ sym h)
+  pub find-hit : (k : ℕ) → Some k ≡ lowest_to 16 (named t name) 0 → lowest_to 128 (named_at v name) first ≡ Some (first + k)
+  find-hit k h = lowest-in (first + 16) 128 (named_at v name) first (omega arith) (omega arith) (first + k) (in_block ∙ ap (moved first) (sym h))
 
-  pub find-miss : None ≡ lowest_to (first + 16) (named t name) first → lowest_to 128 (named_at v name) first ≡ lowest_to 128 (named_at v name) (first + 16)
-  find-miss h = lowest-past (first + 16) 128 (named_at v name) first (omega arith) (omega arith) (in_block ∙ sym h)
+  pub find-miss : None ≡ lowest_to 16 (named t name) 0 → lowest_to 128 (named_at v name) first ≡ lowest_to 128 (named_at v name) (first + 16)
+  find-miss h = lowest-past (first + 16) 128 (named_at v name) first (omega arith) (omega arith) (in_block ∙ ap (moved first) (sym h))
 
 lowest-never : (f : ℕ → Bool) (a n : ℕ) → ((k : ℕ) → f k ≡ false) → lowest a n f ≡ none
 lowest-never f a zero h = refl
@@ -300,22 +319,6 @@ view-length s device work b = go (place b (staged_in s))
     go none = block-length device b
     go (some i) = block-length work i
 
-lowest-low : (f : ℕ → Bool) (a n i : ℕ) → lowest a n f ≡ some i → i < a + n
-lowest-low f a zero i h = absurd (some-ne-none i (sym h))
-lowest-low f a (suc n) i h = go (f a) refl (lowest-low f (suc a) n i)
-  where
-    go : (t : Bool) → f a ≡ t → (lowest (suc a) n f ≡ some i → i < suc a + n) → i < a + suc n
-    go true q ih = let z : a ≡ i = some-injective a i (rw q at h) in omega arith
-    go false q ih = let z : i < suc a + n = ih (rw q at h) in omega arith
-
-pub find-low : (v : Disk) (name : List ℕ) (i : ℕ) → found_of (find v name) ≡ Some i → i < 128
-unfolding find
-find-low v name i h = lowest-low (λ k. same (name_at v k) name) 0 128 i (found-some (find v name) i h)
-
-pub find-empty-low : (v : Disk) (i : ℕ) → found_of (find_empty v) ≡ Some i → i < 128
-unfolding find_empty
-find-empty-low v i h = lowest-low (is_empty v) 0 128 i (found-some (find_empty v) i h)
-
 -- ---- the table as it lies on the device
 
 -- a name is looked for in the blocks of the table alone
@@ -325,6 +328,10 @@ find-agree v u name h =
     lows.lowest-agree 0 128 (λ (i : ℕ). same (name_at v i) name) (λ (i : ℕ). same (name_at u i) name)
     (λ k p l. ap (λ (block : List ℕ). same (take 8 (part (place_of_inode k) 32 block)) name) (h (block_of_inode k) (omega arith) (omega arith)))
 
+table-area : (b : ℕ) → 34 ≤ b → b < 42 → is_table b ≡ true
+unfolding area_of
+table-area b p l = rw (le-ltb b 1 (omega arith), le-ltb b 33 (omega arith), le-ltb b 34 (omega arith), lt-ltb b 42 l) refl
+
 -- where none of them is staged
 unstaged : (staged : List ℕ) → AllPass (λ b. not (is_table b)) staged → (b : ℕ) → 34 ≤ b → b < 42 → place b staged ≡ none
 unstaged staged h b p l = go (place b staged) refl
@@ -333,7 +340,7 @@ unstaged staged h b p l = go (place b staged) refl
     go none e = e
     go (some j) e =
         let z : not (is_table b) ≡ true = rw (place-value b j staged e) at (h j 0 (place-lt b j staged e)) in
-        let y : false ≡ true = rw (le-leb 34 b p, lt-ltb b 42 l) at z in
+        let y : false ≡ true = rw (table-area b p l) at z in
         cc
 
 pub find-committed : (staged device work name : List ℕ) → AllPass (λ b. not (is_table b)) staged → find (blocks_of device) name ≡ find (view_in staged device work) name

@@ -166,9 +166,6 @@ module _ {B : Type 0} (F : List Extent → B) (v : Disk) (tb : ℕ) (c : Cursor)
   pub walk-leaf : (e : Extent) (d : Cursor) → Onward v tb c e d → F (e ∷ rest v tb d) ≡ r
   walk-leaf e d s = ap F (sym s.extents) ∙ h
 
-  pub walk-node : (b : ℕ) (d : Cursor) → Inward v tb c b d → F (rest v tb d) ≡ r
-  walk-node b d s = ap F (sym s.extents) ∙ h
-
   pub walk_end : Ended v tb c → F [] ≡ r
   walk_end s = ap F (sym s.extents) ∙ h
 

@@ -1,12 +1,12 @@
 -- The walk over a file's tree: what is left of it at a cursor, and what a step does.
-use Rattle.std.specs.Prelude.{ℕ, ◌+◌, ◌*◌, ◌<◌, ◌≡◌, Bool, cond, not, ◌&&◌, List, [], ◌∷◌, ◌++◌, map, drop, eqb, ltb}
+use Rattle.std.specs.Prelude.{ℕ, ◌+◌, ◌*◌, ◌<◌, ◌≡◌, Bool, cond, not, ◌&&◌, List, [], ◌∷◌, ◌++◌, map, drop, eqb, ltb, Option, Some, None}
 use Rattle.spec.specs.declared.Extent.{Extent}
 use Rattle.spec.specs.Bytes.{number2}
 use Rattle.spec.specs.Disk.{Disk}
 use Rattle.spec.specs.Inode.{extent, slots_in, used, below, block_of_inode, place_of_inode, inode_at}
 use Rattle.inode.specs.declared.Cursor.{Cursor}
 use Rattle.inode.specs.declared.Step.{Step}
-use Rattle.inode.specs.declared.Step.TheVariants.{Leaf, Node, End}
+use Rattle.inode.specs.declared.Step.TheVariants.{Leaf, Node}
 
 -- the slot at a byte of a block
 abbrev pub slot_in : ℕ → List ℕ → Extent
@@ -57,10 +57,10 @@ pub record Ended (v : Disk) (tb : ℕ) (c : Cursor) : Type 0 where
   pub extents : rest v tb c ≡ []
   pub nodes : rest_nodes v tb c ≡ []
 
-abbrev pub Steps : Disk → ℕ → Cursor → Step → Type 0
-Steps v tb c (Leaf e d) = Onward v tb c e d
-Steps v tb c (Node b d) = Inward v tb c b.0 d
-Steps v tb c End = Ended v tb c
+abbrev pub Steps : Disk → ℕ → Cursor → Option (Step × Cursor) → Type 0
+Steps v tb c (Some (Leaf e, d)) = Onward v tb c e d
+Steps v tb c (Some (Node b, d)) = Inward v tb c b.0 d
+Steps v tb c None = Ended v tb c
 
 -- the cursor before the first extent of record i
 unfoldable pub start_of : Disk → ℕ → Cursor

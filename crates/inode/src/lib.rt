@@ -2,18 +2,24 @@
 #![tactic(auto)]
 
 ghost use Rattle.std.specs.List.{AllPass};
-ghost use Rattle.std.specs.Prelude.{◌≡◌, true, not, List, ℕ, ◌+◌, ◌*◌, ◌%◌, ◌<◌, ◌≤◌, length, take, get_or};
+ghost use Rattle.std.specs.Prelude.{◌≡◌, true, not, List, ℕ, ◌+◌, ◌*◌, ◌<◌, ◌≤◌, length, take, get_or, IfSome};
 ghost use Rattle.spec.specs.Bytes.{exactly, all_zero};
 ghost use Rattle.spec.specs.Disk.{Disk, blocks_of};
 ghost use Rattle.spec.specs.Inode.{inode_of, block_of_inode, find, find_empty, blocks_for, nodes_for};
 ghost use Rattle.transaction.specs.Volumes.{working};
 ghost use Rattle.block.specs.Keys.{key_of, Name};
-ghost use Rattle.inode.specs.Records.{record_in, named, found_of, lowest_to, is_table};
+ghost use Rattle.inode.specs.Records.{record_in, named, found_of, lowest_to, number_told, is_table};
 ghost use Rattle.inode.specs.Walk.{slot_in, Slot, live, Steps, start_of};
 
-use block::{copy_of, key_of, load, load4, place_in_block};
-use spec::{DiskBlock, Extent, Limits};
+use block::{area_of, copy_of, key_of, load, load4, place_in_block};
+use spec::{Area, DiskBlock, Extent, Limits};
 use transaction::WorkingCopy;
+
+mod number;
+mod slot_block;
+
+pub use number::InodeNumber;
+pub use slot_block::SlotBlock;
 
 // The bytes of the device that hold the table: blocks 34 to 41.
 const TABLE_START: usize = Limits::BLOCK_SIZE * (Limits::INODE_START as usize);
@@ -23,21 +29,19 @@ const TABLE_END: usize = TABLE_START + Limits::INODE_SIZE * Limits::INODE_COUNT;
 const TABLE_BLOCKS: usize = Limits::INODE_COUNT / Limits::INODES_PER_BLOCK;
 
 // The block of the table that holds record i.
-pub fn table_block(i: usize) -> DiskBlock
-    requires { i < 128 }
-    ensures { result.0 ≡ block_of_inode i }
+pub fn table_block(i: InodeNumber) -> DiskBlock
+    ensures { result.0 ≡ block_of_inode i.n }
 {
-    DiskBlock(Limits::INODE_START + (i / Limits::INODES_PER_BLOCK) as u32)
+    DiskBlock(Limits::INODE_START + (i.n / Limits::INODES_PER_BLOCK) as u32)
 }
 
 // The working copy of the table's block that holds record i; no longer than a block. Where nothing is staged, it lies at its place on the device.
-pub fn inode_block<'a>(copy: &WorkingCopy<'a>, i: usize) -> &'a [u8]
-    requires { i < 128 }
-    ensures { (exactly 512 result.now ≡ working copy.now (block_of_inode i)) × (length result.now ≤ 512) }
+pub fn inode_block<'a>(copy: &WorkingCopy<'a>, i: InodeNumber) -> &'a [u8]
+    ensures { (exactly 512 result.now ≡ working copy.now (block_of_inode i.n)) × (length result.now ≤ 512) }
 {
     let device = copy.device;
     if (copy.staged.len() == 0) & (TABLE_END <= device.len()) {
-        let at = TABLE_START + Limits::BLOCK_SIZE * (i / Limits::INODES_PER_BLOCK);
+        let at = TABLE_START + Limits::BLOCK_SIZE * (i.n / Limits::INODES_PER_BLOCK);
         let end = at + Limits::BLOCK_SIZE;
         return &device[at..end];
     }
@@ -51,6 +55,7 @@ pub fn size_of(table: &[u8], i: usize) -> u32
     load4(table, place_in_block(i) + 8)
 }
 
+// The depth of record i's tree, of a block of the table.
 pub fn depth_of(table: &[u8], i: usize) -> u32
     ensures { (result ≡ (inode_of (record_in table.now i)).depth) × (result < 256) }
 {
@@ -101,87 +106,87 @@ pub fn is_empty(table: &[u8], i: usize) -> bool
     key_at(table, i) == 0
 }
 
-// The lowest of the 16 records from `first` on, which one block of the table holds, that has this name.
-fn find_whole(table: &[u8; Limits::BLOCK_SIZE], first: usize, key: u64) -> Option<usize>
-    requires { (first < 128) × (first % 16 ≡ 0) }
-    ensures { (name : List ℕ) → Name name → key ≡ key_of name → result ≡ lowest_to (first + 16) (named table.now name) first }
+// The lowest of the 16 records of a block of the table that has this name, counted from the block's first.
+fn find_whole(table: &[u8; Limits::BLOCK_SIZE], key: u64) -> Option<usize>
+    ensures { ((name : List ℕ) → Name name → key ≡ key_of name → result ≡ lowest_to 16 (named table.now name) 0) × IfSome result (λ k. k < 16) }
 {
     for k in 0..Limits::INODES_PER_BLOCK {
         let at = Limits::INODE_SIZE * k;
         let end = at + Limits::NAME_SIZE;
         if key_of(&table[at..end]) == key {
-            return Some(first + k);
+            return Some(k);
         }
     }
     None
 }
 
 // The same of a block that ends early, of a copy: in a function of its own, since a function clears its copy where it begins.
-fn find_cut(table: &[u8], first: usize, key: u64) -> Option<usize>
-    requires { (first < 128) × (first % 16 ≡ 0) }
-    ensures { (name : List ℕ) → Name name → key ≡ key_of name → result ≡ lowest_to (first + 16) (named table.now name) first }
+fn find_cut(table: &[u8], key: u64) -> Option<usize>
+    ensures { ((name : List ℕ) → Name name → key ≡ key_of name → result ≡ lowest_to 16 (named table.now name) 0) × IfSome result (λ k. k < 16) }
 {
-    find_whole(&copy_of(table), first, key)
+    find_whole(&copy_of(table), key)
 }
 
 // The same of a block that may end early.
-fn find_in_block(table: &[u8], first: usize, key: u64) -> Option<usize>
-    requires { (first < 128) × (first % 16 ≡ 0) }
-    ensures { (name : List ℕ) → Name name → key ≡ key_of name → result ≡ lowest_to (first + 16) (named table.now name) first }
+fn find_in_block(table: &[u8], key: u64) -> Option<usize>
+    ensures { ((name : List ℕ) → Name name → key ≡ key_of name → result ≡ lowest_to 16 (named table.now name) 0) × IfSome result (λ k. k < 16) }
 {
     match table.first_chunk() {
-        Some(whole) => find_whole(whole, first, key),
-        None => find_cut(table, first, key),
+        Some(whole) => find_whole(whole, key),
+        None => find_cut(table, key),
     }
 }
 
 // The record with this name, block by block.
-fn find_key(copy: &WorkingCopy, key: u64) -> Option<usize>
-    ensures { (name : List ℕ) → Name name → key ≡ key_of name → result ≡ found_of (find (working copy.now) name) }
+fn find_key(copy: &WorkingCopy, key: u64) -> Option<InodeNumber>
+    ensures { (name : List ℕ) → Name name → key ≡ key_of name → number_told result ≡ found_of (find (working copy.now) name) }
 {
     for block in 0..TABLE_BLOCKS {
         let first = Limits::INODES_PER_BLOCK * block;
-        let table = inode_block(copy, first);
-        if let Some(i) = find_in_block(table, first, key) {
-            return Some(i);
+        let table = inode_block(copy, InodeNumber { n: first });
+        if let Some(k) = find_in_block(table, key) {
+            return Some(InodeNumber { n: first + k });
         }
     }
     None
 }
 
 // The same in the table as it lies on the device. One search for both takes 58 ns in place of 50 where no record has the name.
-fn find_committed(device: &[u8], key: u64) -> Option<usize>
+fn find_committed(device: &[u8], key: u64) -> Option<InodeNumber>
     requires { 21504 ≤ length device.now }
-    ensures { (name : List ℕ) → Name name → key ≡ key_of name → result ≡ found_of (find (blocks_of device.now) name) }
+    ensures { (name : List ℕ) → Name name → key ≡ key_of name → number_told result ≡ found_of (find (blocks_of device.now) name) }
 {
     for block in 0..TABLE_BLOCKS {
         let first = Limits::INODES_PER_BLOCK * block;
         let at = TABLE_START + Limits::BLOCK_SIZE * block;
         let end = at + Limits::BLOCK_SIZE;
-        if let Some(i) = find_in_block(&device[at..end], first, key) {
-            return Some(i);
+        if let Some(k) = find_in_block(&device[at..end], key) {
+            return Some(InodeNumber { n: first + k });
         }
     }
     None
 }
 
 // Whether a block is one of the table.
-fn is_table(b: u32) -> bool
-    ensures { result ≡ is_table b }
+fn is_table(b: DiskBlock) -> bool
+    ensures { result ≡ is_table b.0 }
 {
-    Limits::INODE_START <= b && b < Limits::DATA_START
+    match area_of(b) {
+        Area::Header | Area::Log | Area::Bitmap | Area::Data => false,
+        Area::Inodes => true,
+    }
 }
 
 // Whether no block of the table is among these.
 fn is_table_committed(staged: &[u32]) -> bool
     ensures { result ≡ true → AllPass (λ b. not (is_table b)) staged.now }
 {
-    staged.iter().all(|b| !is_table(*b))
+    staged.iter().all(|b| !is_table(DiskBlock(*b)))
 }
 
 // The record with this name.
-pub fn find(copy: &WorkingCopy, name: &[u8]) -> Option<usize>
-    ensures { result ≡ found_of (find (working copy.now) name.now) }
+pub fn find(copy: &WorkingCopy, name: &[u8]) -> Option<InodeNumber>
+    ensures { number_told result ≡ found_of (find (working copy.now) name.now) }
 {
     if name.len() != Limits::NAME_SIZE {
         return None;
@@ -194,8 +199,8 @@ pub fn find(copy: &WorkingCopy, name: &[u8]) -> Option<usize>
 }
 
 // The lowest empty record: the one whose name is all zero.
-pub fn find_empty(copy: &WorkingCopy) -> Option<usize>
-    ensures { result ≡ found_of (find_empty (working copy.now)) }
+pub fn find_empty(copy: &WorkingCopy) -> Option<InodeNumber>
+    ensures { number_told result ≡ found_of (find_empty (working copy.now)) }
 {
     let none = [0u8; 8];
     find(copy, &none)
@@ -211,12 +216,11 @@ pub struct Cursor {
     pub tops: usize,
 }
 
-// What a step of the walk finds.
+// What a step of the walk finds: an extent, or a node, whose extents follow.
 #[derive(Clone, Copy)]
 pub enum Step {
-    Leaf(Extent, Cursor),
-    Node(DiskBlock, Cursor),
-    End,
+    Leaf(Extent),
+    Node(DiskBlock),
 }
 
 // A slot's four bytes.
@@ -230,32 +234,14 @@ fn slot_of(bytes: &[u8]) -> Extent
     }
 }
 
-// The slot at a byte of a block; past the block's end it is unused.
-pub fn slot_in(block: &[u8], at: usize) -> Extent
-    requires { length block.now ≤ 512 }
-    ensures { Slot (exactly 512 block.now) at result }
-{
-    if block.len() <= at {
-        return Extent { first: 0, count: 0 };
-    }
-    let end = at + Limits::SLOT_SIZE;
-    if end <= block.len() {
-        return slot_of(&block[at..end]);
-    }
-    let cut = [
-        load(block, at) as u8,
-        load(block, at + 1) as u8,
-        load(block, at + 2) as u8,
-        load(block, at + 3) as u8,
-    ];
-    slot_of(&cut)
-}
-
 // The slot at a byte of block b.
 fn slot_at(copy: &WorkingCopy, b: DiskBlock, at: usize) -> Extent
     ensures { Slot (working copy.now b.0) at result }
 {
-    slot_in(copy.block(b), at)
+    SlotBlock {
+        bytes: copy.block(b),
+    }
+    .slot(at)
 }
 
 // Whether slots are left and the first of them is used.
@@ -265,57 +251,51 @@ pub fn is_live(n: usize, e: Extent) -> bool
     (0 < n) & !(e.count == 0)
 }
 
-// The next extent or node of a tree whose record stands in block tb.
-pub fn next(copy: &WorkingCopy, tb: DiskBlock, cur: Cursor) -> Step
+// The next extent or node of a tree whose record stands in block tb, and the cursor behind it.
+pub fn next(copy: &WorkingCopy, tb: DiskBlock, cur: Cursor) -> Option<(Step, Cursor)>
     ensures { Steps (working copy.now) tb.0 cur result }
 {
     let at = cur.at;
     let left = cur.left;
     let e = slot_at(copy, DiskBlock(cur.block), at);
     if is_live(left, e) {
-        return Step::Leaf(
-            e,
-            Cursor {
-                at: at + Limits::SLOT_SIZE,
-                left: left - 1,
-                ..cur
-            },
-        );
+        let then = Cursor {
+            at: at + Limits::SLOT_SIZE,
+            left: left - 1,
+            ..cur
+        };
+        return Some((Step::Leaf(e), then));
     }
     let top = cur.top;
     let tops = cur.tops;
     let t = slot_at(copy, tb, top);
-    if is_live(tops, t) {
-        return Step::Node(
-            DiskBlock(t.first),
-            Cursor {
-                block: t.first,
-                at: 0,
-                left: Limits::SLOTS_PER_NODE,
-                top: top + Limits::SLOT_SIZE,
-                tops: tops - 1,
-            },
-        );
+    if !is_live(tops, t) {
+        return None;
     }
-    Step::End
+    let then = Cursor {
+        block: t.first,
+        at: 0,
+        left: Limits::SLOTS_PER_NODE,
+        top: top + Limits::SLOT_SIZE,
+        tops: tops - 1,
+    };
+    Some((Step::Node(DiskBlock(t.first)), then))
 }
 
 // The cursor before the first extent of record i.
-pub fn start(copy: &WorkingCopy, i: usize) -> Cursor
-    requires { i < 128 }
-    ensures { result ≡ start_of (working copy.now) i }
+pub fn start(copy: &WorkingCopy, i: InodeNumber) -> Cursor
+    ensures { result ≡ start_of (working copy.now) i.n }
 {
     start_at(inode_block(copy, i), i)
 }
 
 // The same, of the block of the table that holds record i.
-pub fn start_at(table: &[u8], i: usize) -> Cursor
-    requires { i < 128 }
-    ensures { (v : Disk) → exactly 512 table.now ≡ v (block_of_inode i) → result ≡ start_of v i }
+pub fn start_at(table: &[u8], i: InodeNumber) -> Cursor
+    ensures { (v : Disk) → exactly 512 table.now ≡ v (block_of_inode i.n) → result ≡ start_of v i.n }
 {
     let tb = table_block(i);
-    let slots = place_in_block(i) + 16;
-    let depth = depth_of(table, i);
+    let slots = place_in_block(i.n) + 16;
+    let depth = depth_of(table, i.n);
     if depth == 0 {
         Cursor {
             block: tb.0,

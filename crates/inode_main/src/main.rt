@@ -1,31 +1,17 @@
 // Runs the functions of inode and extents on a small device written by hand: records found, trees walked, blocks and runs of files.
 #![tactic(auto)]
 
-use inode::{Cursor, Step};
+use extents::Stretch;
+use inode::{Cursor, InodeNumber, Step};
 use spec::{DiskBlock, Extent, FileBlock, Limits, Phase, Session};
 use std::io;
 use transaction::{Volume, WorkingCopy};
+use trial::{number, put};
 
 // Where the table begins, and its second block.
 const TABLE: usize = Limits::BLOCK_SIZE * (Limits::INODE_START as usize);
 
 const NEXT_TABLE: usize = TABLE + Limits::BLOCK_SIZE;
-
-fn text(rt: &impl Print, bytes: &[u8]) -> io::Result<()> {
-    rt.write_all(bytes)
-}
-
-fn number(rt: &impl Print, n: u64) -> io::Result<()> {
-    text(rt, b" ")?;
-    rt.print(n)
-}
-
-// Bytes written from a place on, as far as there is room.
-fn put(device: &mut [u8], at: usize, bytes: &[u8]) {
-    let from = device.len().min(at);
-    let n = bytes.len().min(device.len() - from);
-    device[from..from + n].copy_from_slice(&bytes[..n]);
-}
 
 // Record 0: 1,500 bytes in blocks 50, 51 and 60. Record 17: an empty file.
 fn fill_flat(device: &mut [u8]) {
@@ -56,27 +42,27 @@ fn fill_deep(device: &mut [u8]) {
     );
 }
 
-fn show_found(rt: &impl Print, f: Option<usize>) -> io::Result<()> {
+fn show_found(rt: &impl Print, f: Option<InodeNumber>) -> io::Result<()> {
     match f {
         Some(i) => {
-            text(rt, b" record")?;
-            number(rt, i as u64)?;
+            rt.write_all(b" record")?;
+            number(rt, i.n)?;
         }
         None => {
-            text(rt, b" nothing")?;
+            rt.write_all(b" nothing")?;
         }
     }
-    text(rt, b"\n")
+    rt.write_all(b"\n")
 }
 
 fn show_find(rt: &impl Print, copy: &WorkingCopy, name: &[u8]) -> io::Result<()> {
-    text(rt, b"find ")?;
-    text(rt, name)?;
+    rt.write_all(b"find ")?;
+    rt.write_all(name)?;
     show_found(rt, inode::find(copy, name))
 }
 
 fn show_empty(rt: &impl Print, copy: &WorkingCopy) -> io::Result<()> {
-    text(rt, b"empty:")?;
+    rt.write_all(b"empty:")?;
     show_found(rt, inode::find_empty(copy))
 }
 
@@ -84,113 +70,90 @@ fn show_record(rt: &impl Print, copy: &WorkingCopy, i: usize) -> io::Result<()> 
     if 127 < i {
         return Ok(());
     }
-    text(rt, b"record")?;
-    number(rt, i as u64)?;
-    let table = inode::inode_block(copy, i);
-    text(rt, b": size")?;
-    number(rt, inode::size_of(table, i) as u64)?;
-    text(rt, b", depth")?;
-    number(rt, inode::depth_of(table, i) as u64)?;
+    rt.write_all(b"record")?;
+    number(rt, i)?;
+    let table = inode::inode_block(copy, InodeNumber { n: i });
+    rt.write_all(b": size")?;
+    number(rt, inode::size_of(table, i))?;
+    rt.write_all(b", depth")?;
+    number(rt, inode::depth_of(table, i))?;
     if inode::is_empty(table, i) {
-        text(rt, b", empty")?;
+        rt.write_all(b", empty")?;
     }
-    text(rt, b"\n")
+    rt.write_all(b"\n")
 }
 
 fn show_extent(rt: &impl Print, e: Extent) -> io::Result<()> {
-    text(rt, b" extent")?;
-    number(rt, e.first as u64)?;
-    number(rt, e.count as u64)
+    rt.write_all(b" extent")?;
+    number(rt, e.first)?;
+    number(rt, e.count)
 }
 
 fn show_node(rt: &impl Print, b: DiskBlock) -> io::Result<()> {
-    text(rt, b" node")?;
-    number(rt, b.0 as u64)
+    rt.write_all(b" node")?;
+    number(rt, b.0)
 }
 
-// The extents and nodes from a cursor on.
+// The extents and nodes from a cursor on: a loop that holds the cursor, since an iterator over the tree would have to say of each step that its numbers are small, for this program and one search.
 fn walk_from(rt: &impl Print, copy: &WorkingCopy, tb: DiskBlock, cur: Cursor) -> io::Result<()> {
     let mut at = cur;
-    loop {
-        match inode::next(copy, tb, at) {
-            Step::Leaf(e, then) => {
-                show_extent(rt, e)?;
-                at = then;
-            }
-            Step::Node(b, then) => {
-                show_node(rt, b)?;
-                at = then;
-            }
-            Step::End => {
-                return Ok(());
-            }
+    while let Some((step, then)) = inode::next(copy, tb, at) {
+        match step {
+            Step::Leaf(e) => show_extent(rt, e)?,
+            Step::Node(b) => show_node(rt, b)?,
         }
+        at = then;
     }
+    Ok(())
 }
 
 fn walk(rt: &impl Print, copy: &WorkingCopy, i: usize) -> io::Result<()> {
     if 127 < i {
         return Ok(());
     }
-    text(rt, b"walk of")?;
-    number(rt, i as u64)?;
-    text(rt, b":")?;
-    let cur = inode::start(copy, i);
-    walk_from(rt, copy, inode::table_block(i), cur)?;
-    text(rt, b" end\n")
+    rt.write_all(b"walk of")?;
+    number(rt, i)?;
+    rt.write_all(b":")?;
+    let inode = InodeNumber { n: i };
+    let cur = inode::start(copy, inode);
+    walk_from(rt, copy, inode::table_block(inode), cur)?;
+    rt.write_all(b" end\n")
 }
 
 fn show_block(rt: &impl Print, copy: &WorkingCopy, i: usize, place: usize) -> io::Result<()> {
     if 127 < i {
         return Ok(());
     }
-    text(rt, b"block")?;
-    number(rt, place as u64)?;
-    text(rt, b" of")?;
-    number(rt, i as u64)?;
-    text(rt, b":")?;
-    match extents::extent_at(copy, i, FileBlock(place)) {
+    rt.write_all(b"block")?;
+    number(rt, place)?;
+    rt.write_all(b" of")?;
+    number(rt, i)?;
+    rt.write_all(b":")?;
+    match extents::extent_at(copy, InodeNumber { n: i }, FileBlock(place)) {
         Some(found) => {
             show_extent(rt, found.extent)?;
-            text(rt, b" skip")?;
-            number(rt, found.skip as u64)?;
+            rt.write_all(b" skip")?;
+            number(rt, found.skip)?;
         }
         None => {
-            text(rt, b" nothing")?;
+            rt.write_all(b" nothing")?;
         }
     }
-    text(rt, b"\n")
+    rt.write_all(b"\n")
 }
 
-fn show_run(
-    rt: &impl Print,
-    copy: &WorkingCopy,
-    i: usize,
-    from: usize,
-    n: usize,
-    k: usize,
-) -> io::Result<()> {
-    if 127 < i {
-        return Ok(());
-    }
-    match extents::nth_extent(copy, i, FileBlock(from), n, k) {
+fn show_run(rt: &impl Print, copy: &WorkingCopy, stretch: Stretch, k: usize) -> io::Result<()> {
+    match extents::nth_extent(copy, stretch, k) {
         Some(e) => show_extent(rt, e),
-        None => text(rt, b" nothing"),
+        None => rt.write_all(b" nothing"),
     }
 }
 
-fn each_run(
-    rt: &impl Print,
-    copy: &WorkingCopy,
-    i: usize,
-    from: usize,
-    n: usize,
-    many: usize,
-) -> io::Result<()> {
+fn each_run(rt: &impl Print, copy: &WorkingCopy, stretch: Stretch, many: usize) -> io::Result<()> {
     for k in 0..many {
-        show_run(rt, copy, i, from, n, k)?;
+        show_run(rt, copy, stretch, k)?;
     }
-    show_run(rt, copy, i, from, n, many)
+    show_run(rt, copy, stretch, many)
 }
 
 // The runs of n blocks from block `from` on of record i, and one more.
@@ -204,17 +167,22 @@ fn show_runs(
     if 127 < i {
         return Ok(());
     }
-    text(rt, b"stretch")?;
-    number(rt, from as u64)?;
-    number(rt, n as u64)?;
-    text(rt, b" of")?;
-    number(rt, i as u64)?;
-    let many = extents::count_runs(copy, i, FileBlock(from), n);
-    text(rt, b":")?;
-    number(rt, many as u64)?;
-    text(rt, b" runs")?;
-    each_run(rt, copy, i, from, n, many)?;
-    text(rt, b"\n")
+    rt.write_all(b"stretch")?;
+    number(rt, from)?;
+    number(rt, n)?;
+    rt.write_all(b" of")?;
+    number(rt, i)?;
+    let stretch = Stretch {
+        i: InodeNumber { n: i },
+        from: FileBlock(from),
+        n,
+    };
+    let many = extents::count_runs(copy, stretch);
+    rt.write_all(b":")?;
+    number(rt, many)?;
+    rt.write_all(b" runs")?;
+    each_run(rt, copy, stretch, many)?;
+    rt.write_all(b"\n")
 }
 
 fn show_all(rt: &impl Print, copy: &WorkingCopy) -> io::Result<()> {
@@ -260,7 +228,7 @@ fn main(rt: HostRuntime) -> io::Result<()> {
     let copy = WorkingCopy::of_device(&device);
     show_all(&rt, &copy)?;
     show_places(&rt, &copy)?;
-    text(&rt, b"table block 34 staged as zeros\n")?;
+    rt.write_all(b"table block 34 staged as zeros\n")?;
     let session = Session::with_cells(
         64,
         Phase::Ready,

@@ -7,10 +7,6 @@ use spec::{Answered, BlockStored, DiskBlock, Limits, Phase, Refusal, Session};
 use std::io;
 use trial::{number, stage};
 
-fn end_line(rt: &impl Print) -> io::Result<()> {
-    rt.write_all(b"\n")
-}
-
 // ---- headers
 
 // The lowest wrong record, how many targets are listed, and whether a log may list them, on a device of 64 blocks.
@@ -30,7 +26,7 @@ fn show_header(rt: &impl Print, head: &[u8]) -> io::Result<()> {
     if t.are_targets(64) {
         rt.write_all(b" as a log may list")?;
     }
-    end_line(rt)
+    rt.write_all(b"\n")
 }
 
 // A header that lists 40, 33, 63, with another target in record i.
@@ -128,7 +124,7 @@ fn show_device(rt: &impl Print, device: &[u8]) -> io::Result<()> {
     number(rt, block::load(device, Limits::BLOCK_SIZE * 33))?;
     number(rt, block::load(device, Limits::BLOCK_SIZE * 34))?;
     number(rt, block::load(device, Limits::BLOCK_SIZE * 63))?;
-    end_line(rt)
+    rt.write_all(b"\n")
 }
 
 fn idle(session: Session) -> Answered<Option<BlockStored>> {

@@ -27,9 +27,7 @@ use Rattle.spec.specs.Calls.{Outcome, left, open_store}
 use Rattle.spec.specs.Listing.{files_word, free_word, refused_word, recover_word, hexadecimal, extents_text, line_at, opened_text, outcome_text, text_of, listing}
 use Rattle.inode.specs.Records.{record_in}
 use Rattle.inode.proofs.Laws.{record-at, inode-at, empty-at}
-use Rattle.extents.specs.declared.Growing.{Growing}
-use Rattle.extents.specs.Stretches.{rest_runs, runs_in, NextRun}
-use Rattle.extents.proofs.Laws.{BegunIn}
+use Rattle.extents.specs.Stretches.{runs_in}
 use Rattle.text.specs.Written.{number, Written}
 use Rattle.text.proofs.Laws.{laid-front}
 use Rattle.listing.specs.Steps.{span_text, more_text, runs_text, line_text, used_from, lines_text, files_lines, told_text, refused_line, recover_line, opened_lines, device_text, Listed}
@@ -48,13 +46,6 @@ pub more-none : more_text [] ≡ []
 unfolding more_text
 more-none = refl
 
-module _ (v : Disk) (tb : ℕ) (c : Growing) where
-  pub more-run : (e : Extent) (d : Growing) → NextRun v tb c e d → more_text (rest_runs v tb c) ≡ ((44 ∷ []) ++ span_text e) ++ more_text (rest_runs v tb d)
-  more-run e d s = ap more_text s.runs ∙ more-next e (rest_runs v tb d)
-
-  pub more-end : rest_runs v tb c ≡ [] → more_text (rest_runs v tb c) ≡ []
-  more-end s = ap more_text s ∙ more-none
-
 -- no file has more blocks than the stretch
 pub few-blocks : (v : Disk) (i : ℕ) → length (data_of v (inode_at v i)) ≤ 2048
 unfolding data_of
@@ -72,12 +63,13 @@ pub runs_none : (v : Disk) (i : ℕ) → runs (data_of v (inode_at v i)) ≡ [] 
 unfolding runs_text
 runs_none v i h = ap extents_text h
 
-module _ (v : Disk) (i tb : ℕ) (g : Growing) (b : BegunIn v i 0 2048 tb g) where
-  pub text-run : (e : Extent) (d : Growing) → NextRun v tb g e d → span_text e ++ more_text (rest_runs v tb d) ≡ runs_text v i
-  text-run e d n = sym (runs-some v i e (rest_runs v tb d) (sym (all_runs v i) ∙ sym b.runs ∙ n.runs))
+-- where these are all runs of the file
+module _ (v : Disk) (i : ℕ) (all : List Extent) (q : all ≡ runs_in v i 0 2048) where
+  pub text-run : (e : Extent) (es : List Extent) → all ≡ e ∷ es → span_text e ++ more_text es ≡ runs_text v i
+  text-run e es h = sym (runs-some v i e es (sym (all_runs v i) ∙ sym q ∙ h))
 
-  pub text-none : rest_runs v tb g ≡ [] → 45 ∷ [] ≡ runs_text v i
-  text-none n = sym (runs_none v i (sym (all_runs v i) ∙ sym b.runs ∙ n))
+  pub text-none : all ≡ [] → 45 ∷ [] ≡ runs_text v i
+  text-none h = sym (runs_none v i (sym (all_runs v i) ∙ sym q ∙ h))
 
 -- ---- lines
 

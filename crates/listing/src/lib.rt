@@ -1,19 +1,18 @@
 // The listing of a device image: what the program purselist prints.
 #![tactic(auto)]
 
-ghost use Rattle.std.specs.Prelude.{◌≡◌, not, ◌<◌, length};
+ghost use Rattle.std.specs.Prelude.{◌≡◌, not, length};
 ghost use Rattle.spec.specs.Disk.{blocks_of};
 ghost use Rattle.spec.specs.Inode.{is_empty};
 ghost use Rattle.spec.specs.Bitmap.{bits_of, free_bits};
-ghost use Rattle.extents.specs.Stretches.{Fits, rest_runs};
 ghost use Rattle.transaction.specs.Volumes.{working};
 ghost use Rattle.text.specs.Written.{Written, Put};
-ghost use Rattle.listing.specs.Steps.{span_text, more_text, runs_text, line_text, lines_text, files_lines, refused_line, recover_line, opened_lines, device_text, told_text, used_from, Listed};
+ghost use Rattle.listing.specs.Steps.{span_text, runs_text, line_text, lines_text, files_lines, refused_line, recover_line, opened_lines, device_text, told_text, used_from, Listed};
 
 use block::{block_in, copy_of};
-use extents::{Growing, growing_from, next_run, stretch};
+use extents::{Runs, Stretch};
 use header::targets_in;
-use inode::{inode_block, is_empty, name_of, size_of, table_block};
+use inode::{InodeNumber, inode_block, is_empty, name_of, size_of};
 use spec::{DiskBlock, Extent, FileBlock, Limits, Phase, Refusal, Session};
 use store::open_store;
 use text::Writer;
@@ -34,47 +33,38 @@ fn put_extent(w: &mut Writer, e: Extent)
     w.put_number(e.count as usize);
 }
 
-// The runs from `from` on, each behind a comma.
-fn put_more(w: &mut Writer, copy: &WorkingCopy, tb: DiskBlock, from: Growing)
-    requires { Fits from }
-    ensures { Put w.old w.new (more_text (rest_runs (working copy.now) tb.0 from)) }
+// The extents of record i's file, or - for none: the first, and the others each behind a comma.
+fn put_runs(w: &mut Writer, copy: &WorkingCopy, i: InodeNumber)
+    ensures { Put w.old w.new (runs_text (working copy.now) i.n) }
 {
-    let mut run = from;
-    while let Some((e, then)) = next_run(copy, tb, run) {
-        w.put(b',');
-        put_extent(w, e);
-        run = then;
-    }
-}
-
-// The extents of record i's file, or - for none.
-fn put_runs(w: &mut Writer, copy: &WorkingCopy, i: usize)
-    requires { i < 128 }
-    ensures { Put w.old w.new (runs_text (working copy.now) i) }
-{
-    let tb = table_block(i);
-    let scan = stretch(copy, i, FileBlock(0), Limits::MAX_FILE_BLOCKS);
-    let all = growing_from(scan);
-    match next_run(copy, tb, all) {
-        Some((e, then)) => {
-            put_extent(w, e);
-            put_more(w, copy, tb, then);
+    let all = Stretch {
+        i,
+        from: FileBlock(0),
+        n: Limits::MAX_FILE_BLOCKS,
+    };
+    let mut runs = Runs::of(copy, all);
+    match runs.next() {
+        Some(first) => {
+            put_extent(w, first);
+            for e in runs {
+                w.put(b',');
+                put_extent(w, e);
+            }
         }
         None => w.put(b'-'),
     }
 }
 
 // The line of record i's file: name, size, extents. Nothing for an empty record.
-fn put_line(w: &mut Writer, copy: &WorkingCopy, i: usize)
-    requires { i < 128 }
-    ensures { Put w.old w.new (line_text (working copy.now) i) }
+fn put_line(w: &mut Writer, copy: &WorkingCopy, i: InodeNumber)
+    ensures { Put w.old w.new (line_text (working copy.now) i.n) }
 {
     let table = inode_block(copy, i);
-    if is_empty(table, i) {
+    if is_empty(table, i.n) {
         return;
     }
-    let name = name_of(table, i);
-    let size = size_of(table, i);
+    let name = name_of(table, i.n);
+    let size = size_of(table, i.n);
     w.put_hex(&name);
     w.put(b' ');
     w.put_number(size as usize);
@@ -88,16 +78,15 @@ fn put_lines(w: &mut Writer, copy: &WorkingCopy)
     ensures { Put w.old w.new (lines_text (working copy.now) 0) }
 {
     for i in 0..Limits::INODE_COUNT {
-        put_line(w, copy, i);
+        put_line(w, copy, InodeNumber { n: i });
     }
 }
 
 // Whether record i is that of a file.
-fn is_used(copy: &WorkingCopy, i: usize) -> bool
-    requires { i < 128 }
-    ensures { result ≡ not (is_empty (working copy.now) i) }
+fn is_used(copy: &WorkingCopy, i: InodeNumber) -> bool
+    ensures { result ≡ not (is_empty (working copy.now) i.n) }
 {
-    !is_empty(inode_block(copy, i), i)
+    !is_empty(inode_block(copy, i), i.n)
 }
 
 fn count_files(copy: &WorkingCopy) -> usize
@@ -105,7 +94,7 @@ fn count_files(copy: &WorkingCopy) -> usize
 {
     let mut n: usize = 0;
     for i in 0..Limits::INODE_COUNT {
-        n += is_used(copy, i) as usize;
+        n += is_used(copy, InodeNumber { n: i }) as usize;
     }
     n
 }

@@ -4,6 +4,7 @@
 use listing::{LISTING_SIZE, list_image};
 use spec::{Limits, Session};
 use std::io;
+use trial::{put, put_slot};
 
 // The blocks named below: the last of the log, the bitmap, the first of the data.
 const LAST_LOG: u16 = Limits::LOG_LENGTH as u16;
@@ -12,40 +13,9 @@ const BITMAP: u16 = Limits::BITMAP_BLOCK as u16;
 
 const DATA: u16 = Limits::DATA_START as u16;
 
-// One byte, and a number of two bytes.
-fn set(device: &mut [u8; 32768], at: usize, byte: u8) {
-    if at < 32768 {
-        device[at] = byte;
-    }
-}
-
-fn set2(device: &mut [u8; 32768], at: usize, n: u16) {
-    if at < 32767 {
-        device[at] = (n % 256) as u8;
-        device[at + 1] = (n / 256) as u8;
-    }
-}
-
-// A slot: a block number and a count.
-fn slot(device: &mut [u8; 32768], at: usize, first: u16, count: u16) {
-    if at < 32764 {
-        set2(device, at, first);
-        set2(device, at + 2, count);
-    }
-}
-
 // Name A: 01 02 03 04 05 06 07 08.
 fn name_a(device: &mut [u8; 32768], at: usize) {
-    if at < 32760 {
-        set(device, at, 1);
-        set(device, at + 1, 2);
-        set(device, at + 2, 3);
-        set(device, at + 3, 4);
-        set(device, at + 4, 5);
-        set(device, at + 5, 6);
-        set(device, at + 6, 7);
-        set(device, at + 7, 8);
-    }
+    put(device, at, &[1, 2, 3, 4, 5, 6, 7, 8]);
 }
 
 fn empty() -> [u8; 32768] {
@@ -58,9 +28,9 @@ fn empty() -> [u8; 32768] {
 fn e3() -> [u8; 32768] {
     let mut device = empty();
     name_a(&mut device, 17408);
-    set2(&mut device, 17416, 600);
-    slot(&mut device, 17424, DATA, 2);
-    set(&mut device, 16901, 15);
+    put(&mut device, 17416, &600u16.to_le_bytes());
+    put_slot(&mut device, 17424, DATA, 2);
+    put(&mut device, 16901, &[15]);
     device
 }
 
@@ -68,26 +38,26 @@ fn e3() -> [u8; 32768] {
 // Record 17: 513 bytes in blocks 60 and 62.
 fn files() -> [u8; 32768] {
     let mut device = empty();
-    set(&mut device, 17408, 171);
-    set2(&mut device, 17416, 700);
-    slot(&mut device, 17424, DATA, 2);
-    set(&mut device, 17447, 205);
-    set(&mut device, 17472, 3);
-    set2(&mut device, 17480, 2560);
-    set(&mut device, 17484, 1);
-    slot(&mut device, 17488, 44, 5);
-    slot(&mut device, 22528, 46, 1);
-    slot(&mut device, 22532, 48, 1);
-    slot(&mut device, 22536, 50, 1);
-    slot(&mut device, 22540, 52, 1);
-    slot(&mut device, 22544, 54, 1);
-    set(&mut device, 17952, 255);
-    set2(&mut device, 17960, 513);
-    slot(&mut device, 17968, 60, 1);
-    slot(&mut device, 17972, 62, 1);
-    set(&mut device, 16901, 95);
-    set(&mut device, 16902, 85);
-    set(&mut device, 16903, 80);
+    put(&mut device, 17408, &[171]);
+    put(&mut device, 17416, &700u16.to_le_bytes());
+    put_slot(&mut device, 17424, DATA, 2);
+    put(&mut device, 17447, &[205]);
+    put(&mut device, 17472, &[3]);
+    put(&mut device, 17480, &2560u16.to_le_bytes());
+    put(&mut device, 17484, &[1]);
+    put_slot(&mut device, 17488, 44, 5);
+    put_slot(&mut device, 22528, 46, 1);
+    put_slot(&mut device, 22532, 48, 1);
+    put_slot(&mut device, 22536, 50, 1);
+    put_slot(&mut device, 22540, 52, 1);
+    put_slot(&mut device, 22544, 54, 1);
+    put(&mut device, 17952, &[255]);
+    put(&mut device, 17960, &513u16.to_le_bytes());
+    put_slot(&mut device, 17968, 60, 1);
+    put_slot(&mut device, 17972, 62, 1);
+    put(&mut device, 16901, &[95]);
+    put(&mut device, 16902, &[85]);
+    put(&mut device, 16903, &[80]);
     device
 }
 
@@ -118,15 +88,15 @@ fn show_device(rt: &impl Print, title: &[u8], store: &[u8; 32768]) -> io::Result
 // The files with one byte changed.
 fn broken(rt: &impl Print, title: &[u8], at: usize, byte: u8) -> io::Result<()> {
     let mut device = files();
-    set(&mut device, at, byte);
+    put(&mut device, at, &[byte]);
     show_device(rt, title, &device)
 }
 
 // The header lists two targets.
 fn logged(rt: &impl Print, title: &[u8], first: u16, second: u16) -> io::Result<()> {
     let mut device = files();
-    set2(&mut device, 0, first);
-    set2(&mut device, 16, second);
+    put(&mut device, 0, &first.to_le_bytes());
+    put(&mut device, 16, &second.to_le_bytes());
     show_device(rt, title, &device)
 }
 

@@ -2,22 +2,20 @@
 use Prim.Native.Nat.{ℕ}
 use mathlib.Core.Path.{◌≡◌, refl, sym, ap, ap₂, ◌∙◌, subst}
 use mathlib.Core.Bool.{Bool, true, false, cond}
-use mathlib.Core.List.{List, [], ◌∷◌}
-use Rattle.spec.specs.declared.Refusal.{Refusal}
+use mathlib.Core.List.{List}
 use Rattle.spec.specs.declared.Session.{Session}
 use Rattle.std.specs.Prelude.{Option, Some, None, Ok}
 use Rattle.spec.specs.declared.BlockStored.{BlockStored}
-use Rattle.spec.specs.Answers.{refused, refusal_of, refusal_number, stored_of}
+use Rattle.spec.specs.Answers.{stored_of}
 use Rattle.spec.specs.Transaction.{State, state_of}
 use Rattle.block.proofs.Laws.{slice-bytes}
-use Rattle.promises.specs.Ready.{refusal_is}
 use Rattle.mirror.specs.declared.CAdvanced.{CAdvanced}
-use Rattle.mirror.specs.Mirror.{head_in, numbers_of, encode, decode, fault_in, advanced_of, Lent, lent, state_in}
+use Rattle.mirror.specs.Mirror.{head_in, numbers_of, encode, decode, advanced_of, Lent, lent, state_in}
 use Rattle.mirror.proofs.Laws.{decode-encode}
-use Rattle.loader.specs.Load.{LoadAnswer, answered, LoadOutcome, naming, load_step, left_load, leaves_all}
+use Rattle.loader.specs.Load.{LoadAnswer, answered, LoadOutcome, load_step, left_load, leaves_all}
 use Rattle.loader.proofs.Kept.{refused-leaves}
 use Rattle.loadapi.specs.declared.CLoaded.{CLoaded}
-use Rattle.loadapi.specs.Loads.{refused_numbers, stored_numbers, load_numbers, unless_left, StepLeaves, Loads}
+use Rattle.loadapi.specs.Loads.{stored_numbers, load_numbers, unless_left, StepLeaves, Loads}
 
 -- ---- an answer in numbers
 

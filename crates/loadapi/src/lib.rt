@@ -37,7 +37,7 @@ fn numbers_at(next: usize) -> CLoaded
     }
 }
 
-// A step's answer and the place behind it in numbers.
+// A step's answer and the place behind it in numbers. That of crate convertapi tells another answer: the two share nothing but the name and the numbers 20 and 21. These are told to C in these two places alone, and else by the programs that print them.
 #[tactic(auto, unfolding(crate::specs::Loads::load_numbers))]
 fn numbers_of(answer: Result<Loaded, LoadFault>, next: usize) -> CLoaded
     ensures { result ≡ load_numbers (loaded_of answer) next }

@@ -3,7 +3,7 @@ use Prim.Native.Nat.{ℕ, zero, suc, ◌+◌, ◌*◌}
 use mathlib.Core.Path.{◌≡◌, refl, sym, ap, ap₂, ◌∙◌}
 use mathlib.Core.Bool.{Bool, true, false, cond, true≢false}
 use mathlib.Core.List.{List, [], ◌∷◌}
-use Rattle.std.specs.Prelude.{Option, Some, None, Ok, Err}
+use Rattle.std.specs.Prelude.{Option, Some, Ok, Err}
 use Rattle.std.specs.Prelude.{Result as Returned}
 use native.Mathlib.Omega.{arith}
 use borrow.Author.Tests.{ne_eqb}
@@ -18,20 +18,17 @@ use Rattle.spec.specs.Disk.{Slice, slice_of, blocks_of}
 use Rattle.spec.specs.Session.{staged_in}
 use Rattle.spec.specs.Answers.{Answer, refused, done, started, stored, idle, counted, file, no_file, run, no_run, refusal_of, done_of, started_of, is_refused, Result, refuse, accept, require, ◌>>◌}
 use Rattle.spec.specs.Transaction.{State, state_of}
-use Rattle.spec.specs.Calls.{Outcome, outcome, left, settle, lent_ok, ready_ok, is_ready, start_commit, create, write, commit, advance}
+use Rattle.spec.specs.Calls.{Outcome, outcome, left, settle, lent_ok, ready_ok, name_ok, start_commit, create, write, commit, advance}
 use Rattle.promises.specs.Ready.{refusal_is, refused-is}
-use Rattle.promises.specs.Restored.{stored_in, restored, create-keeps, write_keeps}
+use Rattle.promises.specs.Restored.{stored_in, restored, create-keeps, write_keeps, lent-work}
 use Rattle.cardfile.specs.Cards.{amount_bytes}
-use Rattle.cardfile.specs.Lines.{Standing, card, too_long, malformed, nothing, standing, line_at, line_number, name_told}
+use Rattle.cardfile.specs.Lines.{Standing, card, standing, line_at, line_number, name_told}
 use Rattle.cardfile.specs.declared.Line.{Line}
 use Rattle.cardfile.specs.declared.LineFault.{LineFault}
-use Rattle.cardfile.specs.declared.LineFault.TheVariants as line-cases
-use Rattle.cardfile.proofs.Places.{long-at, bad-at, none-at, found_at}
-use Rattle.loader.specs.declared.Loaded.{Loaded}
+use Rattle.cardfile.proofs.Places.{found_at}
 use Rattle.loader.specs.declared.Loaded.TheVariants as loaded-cases
-use Rattle.loader.specs.declared.LoadFault.{LoadFault}
 use Rattle.loader.specs.declared.LoadFault.TheVariants as fault-cases
-use Rattle.loader.specs.Load.{idle_ok, begin, or_back, store_line, answered, none_left, LoadOutcome, loaded, naming, taken_up, take_line, after_begin, advancing, load_in, load_step, loaded_of, left_load}
+use Rattle.loader.specs.Load.{idle_ok, begin, or_back, store_line, answered, LoadOutcome, loaded, naming, taken_up, take_line, after_begin, advancing, load_in, load_step, loaded_of, left_load}
 use Rattle.loader.specs.Parts.{finish_line, take_named}
 
 -- what a call answers that is done, and one that starts stores
@@ -102,20 +99,27 @@ pub nil-of : (xs : List ℕ) → length xs ≡ 0 → xs ≡ []
 nil-of [] h = refl
 nil-of (x ∷ xs) h = absurd (omega arith)
 
-pub idle-says : (s : State) (t : Bool) → idle_ok s ≡ accept t → (staged_in s.session ≡ []) × ((u : Bool) × (accept u ≡ lent_ok s))
-unfolding idle_ok ready_ok
-idle-says s t h = go (lent_ok s) refl (is_ready s.session.phase) (length (staged_in s.session)) refl h
+idle-says : (s : State) (t : Bool) → idle_ok s ≡ accept t → staged_in s.session ≡ []
+unfolding idle_ok
+idle-says s t h = go (ready_ok s) (length (staged_in s.session)) refl h
   where
-    go : (r : Result Bool) → lent_ok s ≡ r → (b : Bool) (k : ℕ) → length (staged_in s.session) ≡ k
-        → ((r >> require b NotReady) >> require (eqb k 0) NotReady) ≡ accept t → (staged_in s.session ≡ []) × ((u : Bool) × (accept u ≡ lent_ok s))
-    go (refuse r) e b k l q = absurd (refuse≢accept q)
-    go (accept u) e false k l q = absurd (refuse≢accept q)
-    go (accept u) e true zero l q = (nil-of (staged_in s.session) l, (u, sym e))
-    go (accept u) e true (suc k) l q =
+    go : (r : Result Bool) (k : ℕ) → length (staged_in s.session) ≡ k → (r >> require (eqb k 0) NotReady) ≡ accept t → staged_in s.session ≡ []
+    go (refuse r) k l q = absurd (refuse≢accept q)
+    go (accept u) zero l q = nil-of (staged_in s.session) l
+    go (accept u) (suc k) l q =
         let z : refuse NotReady ≡ accept t = rw (ne_eqb (suc k) 0 (λ (n : suc k ≡ 0). omega arith)) at q in
         absurd (refuse≢accept z)
 
 -- ---- a line
+
+-- what was done is behind its first test
+first-test : (s : State) (r m : Result Bool) (f : Result Outcome) → is_refused (settle (outcome s) ((r >> m) >> f)).answer ≡ false → (u : Bool) × (accept u ≡ r)
+first-test s (refuse r) m f q = absurd (true≢false (sym (refused-is r) ∙ q))
+first-test s (accept u) m f q = (u, refl)
+
+created-lent : (s : State) (name : List ℕ) → is_refused (create s name).answer ≡ false → (u : Bool) × (accept u ≡ lent_ok s)
+unfolding create name_ok
+created-lent s name h = first-test s (lent_ok s) _ _ h
 
 -- a refused line's state is the one that it began with
 kept-work : (s : State) (name : List ℕ) → is_refused (create s name).answer ≡ true → (create s name).after ≡ s
@@ -145,6 +149,12 @@ module _ (s t : Session) (d w x name amount : List ℕ) (a : Done) (eq : left t 
       let same : slice_of x ≡ slice_of w = ap (λ (u : State). u.work) (after_is ∙ kept-work (state_of s d w) name g) in
       stops (left s d x (refusal_of r))
       (ap₂ (λ (u : Slice) (b : Answer). outcome (record { session = s; device = slice_of d; work = u }) b) same f) g
+
+  -- a create that was done had its work space lent
+  pub line-lent : a ≡ Ok tt → length w ≡ 16384
+  line-lent h =
+      let l = created-lent (state_of s d w) name (ap is_refused (sym answer-is) ∙ ap (λ (y : Done). is_refused (done_of y)) h) in
+      lent-work s d w l.0 l.1
 
   pub line-goes-on : a ≡ (Ok tt) → staged_in s ≡ [] → (kept : List ℕ) → kept ≡ blocks_of w 0 → (o : Outcome)
       → o ≡ finish_line (state_of t d x) s kept name amount → o ≡ store_line (state_of s d w) name amount
@@ -229,7 +239,7 @@ module _ (s : State) (text : List ℕ) (at : ℕ) where
       let i = idle-is s done e refl in
       h ∙ ap (after_begin s text at) (sym i.1)
 
-  pub may-begin : outcome s done ≡ begin s → (staged_in s.session ≡ []) × ((u : Bool) × (accept u ≡ lent_ok s))
+  pub may-begin : outcome s done ≡ begin s → staged_in s.session ≡ []
   may-begin e = let i = idle-is s done e refl in idle-says s i.0 i.1
 
 module _ (s : State) (text : List ℕ) (at : ℕ) (o : LoadOutcome) where

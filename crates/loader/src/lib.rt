@@ -1,5 +1,5 @@
 // Loads the lines of a text into a store, step by step. A load is a place in the text and nothing else. The store is known by the promises of its
-// calls alone: what a line does to it is create, write and commit.
+// calls alone: what a line does to it is create, write and commit. Device, work space and session are parameters as they are of these calls.
 #![tactic(auto)]
 
 ghost use Rattle.std.specs.Prelude.{◌≡◌, [], length};
@@ -14,11 +14,14 @@ ghost use Rattle.cardfile.specs.Cards.{amount_bytes};
 ghost use Rattle.loader.specs.Parts.{finish_line, take_named};
 ghost use Rattle.loader.specs.Load.{begin, store_line, take_line, after_begin, idle_ok, load_step, left_load, loaded_of};
 
+mod idle;
+
 use cardfile::{Line, LineFault, amount_bytes, line_at, line_number, name_of};
+use idle::Unstaged;
 use spec::{Answered, BlockStored, ByteOffset, Limits, Phase, Refusal, Session};
 use store::{advance, commit, create, write};
 
-// What a step has done: loaded_of in specs/Load.antt.
+// What a step has done: loaded_of in specs/Load.antt. Three cases, of which two have values of their own: no Option or Result says them plainer.
 #[derive(Clone, Copy)]
 pub enum Loaded {
     Started(usize),
@@ -26,7 +29,7 @@ pub enum Loaded {
     NoneLeft,
 }
 
-// Why it is refused. A line is named by its number, counted from 1.
+// Why it is refused, in four cases. A line is named by its number, counted from 1.
 #[derive(Clone, Copy)]
 pub enum LoadFault {
     Refused(Refusal),
@@ -57,14 +60,14 @@ pub fn begin(device: &[u8], work: &[u8], session: Session) -> Result<(), Refusal
     Ok(())
 }
 
-// The first image of the work space.
+// The first image of the work space, of one that is no shorter.
 fn first_image(work: &[u8]) -> [u8; Limits::BLOCK_SIZE]
-    requires { length work.now ≡ 16384 }
-    ensures { result ≡ blocks_of work.now 0 }
+    ensures { length work.now ≡ 16384 → result ≡ blocks_of work.now 0 }
 {
-    let mut image = [0; Limits::BLOCK_SIZE];
-    image.copy_from_slice(&work[..Limits::BLOCK_SIZE]);
-    image
+    match work.first_chunk() {
+        Some(image) => *image,
+        None => [0; Limits::BLOCK_SIZE],
+    }
 }
 
 // It becomes this one.
@@ -105,14 +108,14 @@ fn finish_line(
 fn store_line(
     device: &[u8],
     work: &mut [u8],
-    session: Session,
+    idle: Unstaged,
     name: &[u8],
     amount: &[u8],
 ) -> Answered<usize>
-    requires { (staged_in session ≡ []) × (length work.old ≡ 16384) }
     ensures { left result.session device.now work.new (started_of result.answer)
-        ≡ store_line (state_of session device.now work.old) name.now amount.now }
+        ≡ store_line (state_of idle.session device.now work.old) name.now amount.now }
 {
+    let session = idle.session;
     let kept = first_image(work);
     let made = create(device, work, session, name);
     if let Err(why) = made.answer {
@@ -129,20 +132,19 @@ fn store_line(
 fn take_card(
     device: &[u8],
     work: &mut [u8],
-    session: Session,
+    idle: Unstaged,
     text: &[u8],
     at: usize,
     line: Line,
 ) -> LoadStep
-    requires { (staged_in session ≡ []) × (length work.old ≡ 16384) }
     ensures { left_load result.session device.now work.new result.next (loaded_of result.answer)
-        ≡ take_named (state_of session device.now work.old) at (line_number text.now at) line.next
+        ≡ take_named (state_of idle.session device.now work.old) at (line_number text.now at) line.next
         (name_told line.card.serial.bytes line.card.serial.number) (amount_bytes line.card.amount) }
 {
     let card = line.card;
     let name = name_of(card);
     let amount = amount_bytes(card.amount);
-    let c = store_line(device, work, session, &name, &amount);
+    let c = store_line(device, work, idle, &name, &amount);
     let after = c.session;
     let (answer, next) = match c.answer {
         Ok(n) => (Ok(Loaded::Started(n)), line.next),
@@ -156,19 +158,18 @@ fn take_card(
 }
 
 // What stands at the place, taken up.
-fn take_line(device: &[u8], work: &mut [u8], session: Session, text: &[u8], at: usize) -> LoadStep
-    requires { (staged_in session ≡ []) × (length work.old ≡ 16384) }
+fn take_line(device: &[u8], work: &mut [u8], idle: Unstaged, text: &[u8], at: usize) -> LoadStep
     ensures { left_load result.session device.now work.new result.next (loaded_of result.answer)
-        ≡ take_line (state_of session device.now work.old) at (line_number text.now at) (standing text.now at) }
+        ≡ take_line (state_of idle.session device.now work.old) at (line_number text.now at) (standing text.now at) }
 {
     let answer = match line_at(text, at) {
-        Ok(Some(line)) => return take_card(device, work, session, text, at, line),
+        Ok(Some(line)) => return take_card(device, work, idle, text, at, line),
         Ok(None) => Ok(Loaded::NoneLeft),
         Err(LineFault::TooLong) => Err(LoadFault::TooLong(line_number(text, at))),
         Err(LineFault::BadForm) => Err(LoadFault::Malformed(line_number(text, at))),
     };
     LoadStep {
-        session,
+        session: idle.session,
         answer,
         next: at,
     }
@@ -186,7 +187,8 @@ fn next_line(device: &[u8], work: &mut [u8], session: Session, text: &[u8], at: 
             next: at,
         };
     }
-    take_line(device, work, session, text, at)
+    let idle = Unstaged { session };
+    take_line(device, work, idle, text, at)
 }
 
 // One step of a load: an advance while a commit is under way, else the next line.

@@ -4,46 +4,38 @@
 use loader::{LoadFault, LoadStep, Loaded, begin, step};
 use spec::{BlockStored, Limits, Phase, Refusal, Session};
 use std::io;
+use trial::number;
 
 // ---- text
 
-fn say(rt: &impl Print, text: &[u8]) -> io::Result<()> {
-    rt.write_all(text)
-}
-
-fn number(rt: &impl Print, n: usize) -> io::Result<()> {
-    say(rt, b" ")?;
-    rt.print(n)
-}
-
 fn refused(rt: &impl Print, n: u32) -> io::Result<()> {
-    say(rt, b" refused")?;
-    number(rt, n as usize)
+    rt.write_all(b" refused")?;
+    number(rt, n)
 }
 
 fn line_refused(rt: &impl Print, n: u32, line: usize) -> io::Result<()> {
     refused(rt, n)?;
-    say(rt, b", line")?;
+    rt.write_all(b", line")?;
     number(rt, line)
 }
 
 // The block stored.
 fn stored(rt: &impl Print, stored: Option<BlockStored>) -> io::Result<()> {
     match stored {
-        Some(stored) => number(rt, stored.block.0 as usize),
-        None => say(rt, b" idle"),
+        Some(stored) => number(rt, stored.block.0),
+        None => rt.write_all(b" idle"),
     }
 }
 
 fn told(rt: &impl Print, answer: Result<Loaded, LoadFault>) -> io::Result<()> {
     match answer {
         Ok(Loaded::Started(n)) => {
-            say(rt, b" started")?;
+            rt.write_all(b" started")?;
             number(rt, n)?;
-            say(rt, b":")
+            rt.write_all(b":")
         }
         Ok(Loaded::Advanced(block)) => stored(rt, block),
-        Ok(Loaded::NoneLeft) => say(rt, b" none left"),
+        Ok(Loaded::NoneLeft) => rt.write_all(b" none left"),
         Err(LoadFault::Refused(why)) => refused(rt, why.number()),
         Err(LoadFault::LineRefused(line, why)) => line_refused(rt, why.number(), line),
         Err(LoadFault::TooLong(line)) => line_refused(rt, 20, line),
@@ -52,12 +44,12 @@ fn told(rt: &impl Print, answer: Result<Loaded, LoadFault>) -> io::Result<()> {
 }
 
 fn may_begin<'a>(rt: &impl Print, device: &'a [u8], work: &'a [u8], s: Session) -> io::Result<()> {
-    say(rt, b" begin")?;
+    rt.write_all(b" begin")?;
     match begin(device, work, s) {
-        Ok(()) => say(rt, b" done")?,
+        Ok(()) => rt.write_all(b" done")?,
         Err(why) => refused(rt, why.number())?,
     }
-    say(rt, b",")
+    rt.write_all(b",")
 }
 
 // ---- steps
@@ -146,20 +138,20 @@ impl Till {
         let mut work = self.work;
         let r = step(&mut device, &mut work, s, text, at);
         told(rt, r.answer)?;
-        say(rt, b", next")?;
+        rt.write_all(b", next")?;
         number(rt, r.next)?;
-        say(rt, b"\n")?;
+        rt.write_all(b"\n")?;
         Ok(work)
     }
 
     // With the work space before and behind it compared.
     fn step_kept(self, rt: &impl Print, text: &[u8], at: usize) -> io::Result<()> {
         let work = self.step(rt, self.session, text, at)?;
-        say(rt, b"its work space:")?;
+        rt.write_all(b"its work space:")?;
         if work == self.work {
-            return say(rt, b" kept\n");
+            return rt.write_all(b" kept\n");
         }
-        say(rt, b" changed\n")
+        rt.write_all(b" changed\n")
     }
 
     // With a file of this size, committed.
@@ -177,11 +169,11 @@ impl Till {
 
     // A line that is refused, twice, and the place behind it.
     fn third(self, rt: &impl Print, text: &[u8], at: usize) -> io::Result<()> {
-        say(rt, b"the third:")?;
+        rt.write_all(b"the third:")?;
         self.step(rt, self.session, text, at)?;
-        say(rt, b"and again:")?;
+        rt.write_all(b"and again:")?;
         self.step(rt, self.session, text, at)?;
-        say(rt, b"behind the last:")?;
+        rt.write_all(b"behind the last:")?;
         self.step(rt, self.session, text, text.len())?;
         Ok(())
     }
@@ -191,7 +183,7 @@ impl Till {
         let mut device = self.device;
         let mut work = self.work;
         let c = store::commit(&device, &work, self.session);
-        say(rt, b"its commit under way:")?;
+        rt.write_all(b"its commit under way:")?;
         self.begin(rt, c.session)?;
         go_on(rt, &mut device, &mut work, c.session, text)
     }
@@ -212,16 +204,16 @@ fn two_lines(
     text: &[u8],
 ) -> io::Result<LoadStep> {
     let a = steps(rt, device, work, s, text, 0, 9)?;
-    say(rt, b"\nthe second:")?;
+    rt.write_all(b"\nthe second:")?;
     let b = steps(rt, device, work, a.session, text, a.next, 9)?;
-    say(rt, b"\n")?;
+    rt.write_all(b"\n")?;
     Ok(b)
 }
 
 fn three_lines(rt: &impl Print, t: Till, text: &[u8]) -> io::Result<()> {
     let mut device = t.device;
     let mut work = t.work;
-    say(rt, b"three lines:")?;
+    rt.write_all(b"three lines:")?;
     t.begin(rt, t.session)?;
     let r = two_lines(rt, &mut device, &mut work, t.session, text)?;
     let s = r.session;
@@ -235,19 +227,19 @@ fn three_lines(rt: &impl Print, t: Till, text: &[u8]) -> io::Result<()> {
 
 // 12 comes before any line, also where none is left.
 fn closed(rt: &impl Print, t: Till, text: &[u8]) -> io::Result<()> {
-    say(rt, b"never opened:")?;
+    rt.write_all(b"never opened:")?;
     t.begin(rt, Session::never_opened())?;
     t.step(rt, Session::never_opened(), text, 0)?;
-    say(rt, b"closed:")?;
+    rt.write_all(b"closed:")?;
     t.begin(rt, Session::closed_on(64))?;
     t.step(rt, Session::closed_on(64), text, 0)?;
     Ok(())
 }
 
 fn recovering(rt: &impl Print, t: Till, text: &[u8]) -> io::Result<()> {
-    say(rt, b"closed, no line left:")?;
+    rt.write_all(b"closed, no line left:")?;
     t.step(rt, Session::closed_on(64), text, 16)?;
-    say(rt, b"recovering:")?;
+    rt.write_all(b"recovering:")?;
     t.begin(rt, Session::opened(64, Phase::Recovering(0)))?;
     t.step(rt, Session::opened(64, Phase::Recovering(0)), text, 0)?;
     Ok(())
@@ -262,13 +254,13 @@ fn go_on(
     text: &[u8],
 ) -> io::Result<()> {
     let a = steps(rt, device, work, s, text, 0, 4)?;
-    say(rt, b", next")?;
+    rt.write_all(b", next")?;
     number(rt, a.next)?;
-    say(rt, b", then")?;
+    rt.write_all(b", then")?;
     let b = steps(rt, device, work, a.session, text, a.next, 9)?;
-    say(rt, b", next")?;
+    rt.write_all(b", next")?;
     number(rt, b.next)?;
-    say(rt, b"\n")
+    rt.write_all(b"\n")
 }
 
 // A file made by the caller: staged, then its commit under way.
@@ -281,30 +273,30 @@ fn foreign(rt: &impl Print, t: Till, text: &[u8]) -> io::Result<()> {
         work,
         session: s,
     };
-    say(rt, b"staged:")?;
+    rt.write_all(b"staged:")?;
     u.begin(rt, s)?;
     u.step(rt, s, text, 0)?;
     u.under_way(rt, text)
 }
 
 fn no_lines(rt: &impl Print, t: Till) -> io::Result<()> {
-    say(rt, b"empty file:")?;
+    rt.write_all(b"empty file:")?;
     t.step(rt, t.session, b"", 0)?;
-    say(rt, b"one feed:")?;
+    rt.write_all(b"one feed:")?;
     t.step(rt, t.session, b"\n", 0)?;
     Ok(())
 }
 
 fn bad_lines(rt: &impl Print, t: Till) -> io::Result<()> {
-    say(rt, b"small letters:")?;
+    rt.write_all(b"small letters:")?;
     t.step(rt, t.session, b"04A1B2C3;H;1\n04a1b2c3;H;1\n", 13)?;
-    say(rt, b"no feed:")?;
+    rt.write_all(b"no feed:")?;
     t.step(rt, t.session, b"04A1B2C3;H;1\n04A1B2C4;H;1", 13)?;
     Ok(())
 }
 
 fn long_line(rt: &impl Print, t: Till) -> io::Result<()> {
-    say(rt, b"65 bytes:")?;
+    rt.write_all(b"65 bytes:")?;
     t.step(
         rt,
         t.session,
@@ -317,10 +309,10 @@ fn long_line(rt: &impl Print, t: Till) -> io::Result<()> {
 // 22 data blocks, all in one file.
 fn no_room(rt: &impl Print, t: Till) -> io::Result<()> {
     let u = t.file(b"ABCDEFGH", 10752);
-    say(rt, b"one block free:")?;
+    rt.write_all(b"one block free:")?;
     u.step(rt, u.session, b"04A1B2C3;H;1250\n", 0)?;
     let v = t.file(b"ABCDEFGH", 11264);
-    say(rt, b"no block free:")?;
+    rt.write_all(b"no block free:")?;
     v.step_kept(rt, b"\n04A1B2C3;H;1250\n", 1)
 }
 
@@ -336,7 +328,7 @@ fn create_all(device: &[u8], work: &mut [u8], s: Session, n: u8) -> Session {
 }
 
 fn all_records(rt: &impl Print, t: Till) -> io::Result<()> {
-    say(rt, b"128 records:")?;
+    rt.write_all(b"128 records:")?;
     let mut device = t.device;
     let mut work = t.work;
     let r = create_all(&device, &mut work, t.session, 128);

@@ -1,12 +1,10 @@
 -- The cases of a look-up. Assumes nothing.
-use Prim.Native.Nat.{ℕ, ◌*◌, ◌-◌, ◌<◌, ◌≤◌, min}
-use native.Mathlib.Omega.{arith}
+use Prim.Native.Nat.{ℕ, ◌-◌, ◌≤◌, min}
 use mathlib.Core.Path.{◌≡◌, refl, sym, ap, ◌∙◌}
 use mathlib.Core.Bool.{Bool, true, false, not, true≢false}
 use mathlib.Core.Option.{Option, none, some}
-use mathlib.Core.List.{List, []}
+use mathlib.Core.List.{List}
 use lib.ListN.{length, take, drop}
-use lib.Seq.{take_all}
 use Rattle.spec.specs.Disk.{Disk}
 use Rattle.spec.specs.Inode.{is_name, find, find_empty}
 use Rattle.spec.specs.declared.Phase.{Phase}
@@ -21,14 +19,14 @@ use Rattle.transaction.specs.Volumes.{working, Shows}
 use Rattle.transaction.specs.declared.volume.Volume.{Volume}
 use Rattle.transaction.proofs.Laws.{staged-lent, staged-parts, cells-lent, shows-view}
 use Rattle.spec.specs.Calls.{lent_ok, name_ok, size_fits, is_ready, is_taken, known, empty_inode, file_ok, sized_ok}
-use Rattle.checks.specs.Checks.{Of, Seen, names_ok, name_size_ok}
-use Rattle.checks.proofs.Laws.{accept≢refuse, lent_says, then-passed, require-passed, named-says, names-say, sized-says}
-use Rattle.inode.specs.Records.{found_of}
-use Rattle.inode.proofs.Laws.{find-low, find-empty-low}
-use Rattle.std.specs.Prelude.{Option as Returned, Some, ok_or}
+use Rattle.checks.specs.Checks.{Seen, names_ok, name_size_ok}
+use Rattle.checks.proofs.Laws.{accept≢refuse, then-passed, require-passed, named-says, names-say, sized-says}
+use Rattle.inode.specs.Records.{found_of, number_told}
+use Rattle.inode.specs.declared.number.InodeNumber.{InodeNumber}
+use Rattle.std.specs.Prelude.{Option as Returned, Some, None, ok_or}
 use Rattle.std.specs.Prelude.{is_some as given}
 use Rattle.spec.specs.Bytes.{found, is_some}
-use Rattle.lookup.specs.Looks.{looked_of, InTable, new_ok, unless_taken, rename_ok}
+use Rattle.lookup.specs.Looks.{looked_of, new_ok, unless_taken, rename_ok}
 
 then-assoc : {A B C : Type 0} (a : Result A) (b : Result B) (x : Result C) → (a >> b) >> x ≡ a >> (b >> x)
 then-assoc (refuse r) b x = refl
@@ -46,41 +44,40 @@ seen-cells blocks phase cells count n h e =
 -- ---- 13, 14 and 15
 
 -- what a search tells, as a record or a refusal
-module _ (o : Option ℕ) (r : Refusal) where
-  looked-found : looked_of (ok_or (found_of o) r) ≡ found o (refuse r) accept
-  looked-found = go o
-    where
-      go : (x : Option ℕ) → looked_of (ok_or (found_of x) r) ≡ found x (refuse r) accept
-      go none = refl
-      go (some i) = refl
+abbrev told : Returned ℕ → Refusal → Result ℕ
+told None r = refuse r
+told (Some i) r = accept i
 
-  looked_low : ((i : ℕ) → found_of o ≡ Some i → i < 128) → InTable (ok_or (found_of o) r)
-  looked_low = go o
-    where
-      go : (x : Option ℕ) → ((i : ℕ) → found_of x ≡ Some i → i < 128) → InTable (ok_or (found_of x) r)
-      go none h = tt
-      go (some i) h = h i refl
+told-found : (o : Option ℕ) (r : Refusal) → told (found_of o) r ≡ found o (refuse r) accept
+told-found none r = refl
+told-found (some i) r = refl
 
 some-found : (o : Option ℕ) → given (found_of o) ≡ is_some o
 some-found none = refl
 some-found (some i) = refl
 
-module _ (v : Volume) (name : List ℕ) (r : Returned ℕ) (f : r ≡ found_of (find (working v.copy) name)) where
-  pub known_is : (s : State) → Shows v s → looked_of (ok_or r Unknown) ≡ known s name
-  known_is s e = rw f (looked-found (find (working v.copy) name) Unknown ∙ ap (λ (d : Disk). found (find d name) (refuse Unknown) accept) (shows-view v s e))
+looked-told : (x : Returned InodeNumber) (r : Refusal) → looked_of (ok_or x r) ≡ told (number_told x) r
+looked-told None r = refl
+looked-told (Some i) r = refl
 
-  pub known-low : InTable (ok_or r Unknown)
-  known-low = rw f (looked_low (find (working v.copy) name) Unknown (find-low (working v.copy) name))
+some-told : (x : Returned InodeNumber) → given x ≡ given (number_told x)
+some-told None = refl
+some-told (Some i) = refl
+
+module _ (v : Volume) (name : List ℕ) (r : Returned InodeNumber) (f : number_told r ≡ found_of (find (working v.copy) name)) where
+  pub known_is : (s : State) → Shows v s → looked_of (ok_or r Unknown) ≡ known s name
+  known_is s e =
+      looked-told r Unknown
+      ∙ rw f (told-found (find (working v.copy) name) Unknown ∙ ap (λ (d : Disk). found (find d name) (refuse Unknown) accept) (shows-view v s e))
 
   pub taken_is : (s : State) (t : Bool) → Shows v s → t ≡ given r → is_taken s name ≡ t
-  taken_is s t e q = sym (q ∙ rw f (some-found (find (working v.copy) name) ∙ ap (λ (d : Disk). is_some (find d name)) (shows-view v s e)))
+  taken_is s t e q = sym (q ∙ some-told r ∙ rw f (some-found (find (working v.copy) name) ∙ ap (λ (d : Disk). is_some (find d name)) (shows-view v s e)))
 
-module _ (v : Volume) (r : Returned ℕ) (f : r ≡ found_of (find_empty (working v.copy))) where
+module _ (v : Volume) (r : Returned InodeNumber) (f : number_told r ≡ found_of (find_empty (working v.copy))) where
   pub empty_is : (s : State) → Shows v s → looked_of (ok_or r NoInode) ≡ empty_inode s
-  empty_is s e = rw f (looked-found (find_empty (working v.copy)) NoInode ∙ ap (λ (d : Disk). found (find_empty d) (refuse NoInode) accept) (shows-view v s e))
-
-  pub empty-low : InTable (ok_or r NoInode)
-  empty-low = rw f (looked_low (find_empty (working v.copy)) NoInode (find-empty-low (working v.copy)))
+  empty_is s e =
+      looked-told r NoInode
+      ∙ rw f (told-found (find_empty (working v.copy)) NoInode ∙ ap (λ (d : Disk). found (find_empty d) (refuse NoInode) accept) (shows-view v s e))
 
 module _ (s : State) (name : List ℕ) where
   -- ---- a file and a size

@@ -1,5 +1,5 @@
 -- The answers of a look-up, for the contracts of this crate.
-use Rattle.std.specs.Prelude.{ℕ, ◌<◌, not, List, Ok, Err}
+use Rattle.std.specs.Prelude.{ℕ, not, List, Ok, Err}
 use Rattle.std.specs.Prelude.{Result as Returned}
 use Rattle.spec.specs.declared.Refusal.{Refusal}
 use Rattle.spec.specs.declared.Refusal.TheVariants.{Taken}
@@ -7,16 +7,12 @@ use Rattle.spec.specs.Answers.{Result, refuse, accept, require, ◌>>=◌, ◌>>
 use Rattle.spec.specs.Transaction.{State}
 use Rattle.spec.specs.Calls.{name_ok, known, is_taken, empty_inode}
 use Rattle.checks.specs.Checks.{names_ok}
+use Rattle.inode.specs.declared.number.InodeNumber.{InodeNumber}
 
 -- the record of the file, or the first test that failed
-abbrev pub looked_of : Returned ℕ Refusal → Result ℕ
-looked_of (Ok i) = accept i
+abbrev pub looked_of : Returned InodeNumber Refusal → Result ℕ
+looked_of (Ok i) = accept i.n
 looked_of (Err r) = refuse r
-
--- a record that was found is one of the table
-abbrev pub InTable : Returned ℕ Refusal → Type 0
-InTable (Ok i) = i < 128
-InTable (Err r) = Unit {0}
 
 -- 1, 2, 3, 12, 14 and 15: the record that create takes
 unfoldable pub new_ok : State → List ℕ → Result ℕ

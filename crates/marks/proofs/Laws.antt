@@ -8,12 +8,12 @@ use mathlib.Core.Option.{none}
 use native.Mathlib.Nat.{zero-div, eq-or-lt_of_le}
 use native.Mathlib.Numerals.{add-one}
 use native.Mathlib.Omega.{arith}
-use borrow.Author.Tests.{le-leb, lt-leb, eqb-true, eqb-false, eq-eqb, ne_eqb, ltb-true, ltb-false, lt-ltb, le-ltb, not-true}
+use borrow.Author.Tests.{le-leb, lt-leb, eqb-true, eq-eqb, ne_eqb, ltb-true, ltb-false, lt-ltb, le-ltb, not-true}
 use lib.Dec.{eqb, leb, ltb}
 use lib.Bits.{bit_and, bit_or, and_step, or_step, and_shr, or_shr}
 use lib.ListN.{length, get_or, set, replicate, length-replicate, length-set, get_or-eq_default}
 use lib.Seq.{get_or-set_same, get_or-set_other}
-use Rattle.spec.specs.Bytes.{exactly, all, occurs, up_from, concat, lowest}
+use Rattle.spec.specs.Bytes.{exactly, same, all, all_zero, occurs, up_from, concat, lowest}
 use Rattle.spec.specs.Bitmap.{bits_of}
 use Rattle.spec.specs.Disk.{Disk, is_data_area, area_of, in_data}
 use Rattle.spec.specs.declared.Area.TheVariants.{Header, Log, Bitmap, Inodes, Data}
@@ -27,8 +27,9 @@ use Rattle.std.specs.Prelude.{Option, None}
 use Rattle.inode.specs.Records.{found_of, lowest_to}
 use Rattle.inode.proofs.Laws.{lowest-agree}
 use Rattle.mkfs.specs.Table.{Cleared}
+use Rattle.zeros.proofs.Laws.{zero-at}
 use Rattle.marks.specs.declared.Marks.{Marks}
-use Rattle.marks.specs.Marks.{bit, counted, Kept, reach_to, wrong, right_to}
+use Rattle.marks.specs.Marks.{bit, counted, Kept, reach_to, wrong}
 
 -- ---- within 42 to N-1
 
@@ -59,10 +60,17 @@ bit-lt : (t : List ℕ) (x : ℕ) → bit t x < 2
 unfolding bit
 bit-lt t x = bits-binary t x
 
--- a bit as the code reads it
-pub bit-read : (t : List ℕ) (b : ℕ) → length t ≡ 512 → b < 4096 → eqb (get_or t (b / 8) 0 / 2 ^ (b % 8) % 2) 1 ≡ eqb (bit t b) 1
+bit_past : (t : List ℕ) (x : ℕ) → length t ≡ 512 → 4096 ≤ x → bit t x ≡ 0
 unfolding bit
-bit-read t b l h = ap (λ (x : ℕ). eqb x 1) (sym (bit_at t b 0 (omega arith)))
+bit_past t x l h = get_or-eq_default (bits_of t) 0 (omega (arith, length-bits t))
+
+-- a bit as the code reads it
+pub bit-read : (t : List ℕ) (b : ℕ) → length t ≡ 512 → get_or t (b / 8) 0 / 2 ^ (b % 8) % 2 ≡ bit t b
+unfolding bit
+bit-read t b l = ⊎_elim
+    (λ h. sym (bit_at t b 0 (omega arith)))
+    (λ h. ap (λ (x : ℕ). x / 2 ^ (b % 8) % 2) (get_or-eq_default t 0 (omega arith)) ∙ ap (λ (x : ℕ). x % 2) (zero-div (2 ^ (b % 8))) ∙ sym (bit_past t b l h))
+    (lt-or-le b 4096)
 
 bit-same : (t u : List ℕ) (b : ℕ) → length t ≡ 512 → length u ≡ 512 → b < 4096 → get_or t (b / 8) 0 ≡ get_or u (b / 8) 0 → bit t b ≡ bit u b
 unfolding bit
@@ -71,10 +79,6 @@ bit-same t u b l m h e = bit_at t b 0 (omega arith) ∙ ap (λ (x : ℕ). x / 2 
 bit-zero : (t : List ℕ) (b : ℕ) → length t ≡ 512 → b < 4096 → get_or t (b / 8) 0 ≡ 0 → bit t b ≡ 0
 unfolding bit
 bit-zero t b l h e = bit_at t b 0 (omega arith) ∙ ap (λ (x : ℕ). x / 2 ^ (b % 8) % 2) e ∙ ap (λ (x : ℕ). x % 2) (zero-div (2 ^ (b % 8)))
-
-bit_past : (t : List ℕ) (x : ℕ) → length t ≡ 512 → 4096 ≤ x → bit t x ≡ 0
-unfolding bit
-bit_past t x l h = get_or-eq_default (bits_of t) 0 (omega (arith, length-bits t))
 
 -- bits of the or and the and of two numbers
 odd : (z d : ℕ) → d < 2 → (z * 2 + d) % 2 ≡ d
@@ -369,41 +373,23 @@ found-off : (m i : ℕ) → lowest_to m (λ k. false) i ≡ None
 unfolding lowest_to
 found-off m i = ap found_of (lowest-off i (m - i))
 
--- whole bytes compared
+-- whole tables compared
+same-says : (xs ys : List ℕ) (k : ℕ) → same xs ys ≡ true → get_or xs k 0 ≡ get_or ys k 0
+same-says [] [] k h = refl
+same-says [] (y ∷ ys) k h = absurd (true≢false (sym h))
+same-says (x ∷ xs) [] k h = absurd (true≢false (sym h))
+same-says (x ∷ xs) (y ∷ ys) zero h = eqb-true x y (and-true (eqb x y) (same xs ys) h).0
+same-says (x ∷ xs) (y ∷ ys) (suc k) h = same-says xs ys k (and-true (eqb x y) (same xs ys) h).1
+
 module _ (m : Marks) (bits : List ℕ) where
-  pub right-none : (r : Bool) → r ≡ true → r ≡ right_to 0 m bits
-  unfolding right_to
-  right-none r e = e
-
-  pub right-more : (k : ℕ) (r : Bool) → r ≡ right_to k m bits → r && (eqb (get_or m.once k 0) (get_or bits k 0) && eqb (get_or m.twice k 0) 0) ≡ right_to (k + 1) m bits
-  unfolding right_to
-  right-more k r e = rw (add-one k, e)
-
-  pub right_end : (k : ℕ) (r : Bool) → r ≡ right_to k m bits → k ≡ 512 → r ≡ right_to 512 m bits
-  right_end k r e h = rw (← h) e
-
-  right-says : (n k : ℕ) → k < n → right_to n m bits ≡ true → (get_or m.once k 0 ≡ get_or bits k 0) × (get_or m.twice k 0 ≡ 0)
-  unfolding right_to
-  right-says zero k h e = absurd (omega arith)
-  right-says (suc n) k h e = go (eqb k n) refl (right-says n k)
-    where
-      p : (right_to n m bits ≡ true) × (eqb (get_or m.once n 0) (get_or bits n 0) && eqb (get_or m.twice n 0) 0 ≡ true)
-      p = and-true (right_to n m bits) (eqb (get_or m.once n 0) (get_or bits n 0) && eqb (get_or m.twice n 0) 0) e
-
-      go : (d : Bool) → eqb k n ≡ d → (k < n → right_to n m bits ≡ true → (get_or m.once k 0 ≡ get_or bits k 0) × (get_or m.twice k 0 ≡ 0)) → (get_or m.once k 0 ≡ get_or bits k 0) × (get_or m.twice k 0 ≡ 0)
-      go true q ih =
-          let r = and-true (eqb (get_or m.once n 0) (get_or bits n 0)) (eqb (get_or m.twice n 0) 0) p.1 in
-          rw (eqb-true k n q) (eqb-true (get_or m.once n 0) (get_or bits n 0) r.0, eqb-true (get_or m.twice n 0) 0 r.1)
-      go false q ih = let ne = eqb-false k n q in ih (omega arith) p.0
-
   module _ (lo : length m.once ≡ 512) (lt : length m.twice ≡ 512) (lb : length bits ≡ 512) where
-    right-bit : right_to 512 m bits ≡ true → (b : ℕ) → b < 4096 → wrong m bits b ≡ false
+    right-bit : same m.once bits && all_zero m.twice ≡ true → (b : ℕ) → b < 4096 → wrong m bits b ≡ false
     unfolding wrong
     right-bit h b l =
-        let p = right-says 512 (b / 8) (omega arith) h in
-        rw (bit-same m.once bits b lo lb l p.0, bit-zero m.twice b lt l p.1, beq_same (eqb (bit bits b) 1))
+        let p = and-true (same m.once bits) (all_zero m.twice) h in
+        rw (bit-same m.once bits b lo lb l (same-says m.once bits (b / 8) p.0), bit-zero m.twice b lt l (zero-at m.twice (b / 8) p.1), beq_same (eqb (bit bits b) 1))
 
-    pub all_right : right_to 512 m bits ≡ true → lowest_to 4096 (wrong m bits) 0 ≡ None
+    pub all_right : same m.once bits && all_zero m.twice ≡ true → lowest_to 4096 (wrong m bits) 0 ≡ None
     all_right h = lowest-agree 4096 (wrong m bits) (λ k. false) 0 (λ k a l. right-bit h k l) ∙ found-off 4096 0
 
 -- ---- the marks of all records and the bitmap

@@ -1,5 +1,5 @@
 -- Marks in two tables, and the bit of a block by these marks.
-use Rattle.std.specs.Prelude.{ℕ, zero, suc, ◌+◌, ◌-◌, min, ◌≡◌, Bool, true, cond, not, ◌&&◌, ◌||◌, List, map, get_or, eqb, Option, Some, None}
+use Rattle.std.specs.Prelude.{ℕ, ◌+◌, ◌-◌, min, ◌≡◌, Bool, cond, not, ◌||◌, List, map, get_or, eqb, Option, Some, None}
 use Rattle.std.specs.Bool.{beq}
 use Rattle.spec.specs.Bytes.{occurs, up_from, concat}
 use Rattle.spec.specs.Bitmap.{bits_of}
@@ -28,11 +28,6 @@ reach_to v e i = concat (map (reached_from v) (up_from i (e - i)))
 -- whether the bit of block b is wrong, where `once` began with ones outside 42 to N-1
 unfoldable pub wrong : Marks → List ℕ → ℕ → Bool
 wrong m bits b = eqb (bit m.twice b) 1 || not (beq (eqb (bit m.once b) 1) (eqb (bit bits b) 1))
-
--- whether the first n bytes tell that their bits are right
-unfoldable pub right_to : ℕ → Marks → List ℕ → Bool
-right_to zero m bits = true
-right_to (suc n) m bits = right_to n m bits && (eqb (get_or m.once n 0) (get_or bits n 0) && eqb (get_or m.twice n 0) 0)
 
 -- a number that was looked for, as a block
 abbrev pub block_found : Option ℕ → Option DiskBlock

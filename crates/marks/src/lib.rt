@@ -1,41 +1,43 @@
 // S1 and S7: the blocks that files reach are marked in two tables, one bit to a block, and compared with the bitmap.
 #![tactic(auto)]
 
-ghost use Rattle.std.specs.Prelude.{◌≡◌, [], ◌∷◌, ℕ, ◌+◌, ◌%◌, ◌≤◌, ◌<◌, max, eqb, replicate};
-ghost use Rattle.spec.specs.Bytes.{up_from};
+ghost use Rattle.std.specs.Prelude.{◌≡◌, [], ◌∷◌, ℕ, ◌+◌, ◌%◌, ◌≤◌, ◌<◌, ◌&&◌, max, eqb, replicate};
+ghost use Rattle.spec.specs.Bytes.{all_zero, same, up_from};
 ghost use Rattle.mkfs.specs.Table.{Cleared};
 ghost use Rattle.inode.specs.Records.{lowest_to};
-ghost use Rattle.marks.specs.Marks.{bit, Kept, wrong, right_to, block_found};
+ghost use Rattle.marks.specs.Marks.{bit, Kept, wrong, block_found};
+
+mod tested;
 
 use bitmap::known;
-use block::in_data;
+use block::{in_data, load};
 use mkfs::empty_table;
 use spec::{DiskBlock, Limits};
+pub use tested::Device;
+use zeros::is_zero;
 
 // Two tables, one bit to a block: `once` has those reached, and `twice` those reached more than once.
+// Two tables and no table of pairs: `once` is compared with the bitmap as a whole.
 #[derive(Clone, Copy)]
 pub struct Marks {
     pub once: [u8; Limits::BLOCK_SIZE],
     pub twice: [u8; Limits::BLOCK_SIZE],
 }
 
-// Whether the bit of block b is 1.
+// Whether the bit of block b is 1; a block past the table has none.
 fn bit_is(t: &[u8; Limits::BLOCK_SIZE], b: DiskBlock) -> bool
-    requires { b.0 < 4096 }
     ensures { result ≡ eqb (bit t.now b.0) 1 }
 {
     known(*t);
-    let i = (b.0 / 8) as usize;
-    (t[i] >> (b.0 % 8)) % 2 == 1
+    (load(t, (b.0 / 8) as usize) >> (b.0 % 8)) % 2 == 1
 }
 
 impl Marks {
     // No block marked yet: ones outside 42 to N-1, where the bitmap has them.
-    pub fn none(blocks: usize) -> Marks
-        requires { blocks ≤ 4096 }
-        ensures { Cleared result.once (max 42 blocks) × (result.twice ≡ replicate 512 0) }
+    pub fn none(device: &Device) -> Marks
+        ensures { Cleared result.once (max 42 device.now.blocks) × (result.twice ≡ replicate 512 0) }
     {
-        let first = (blocks as u32).max(Limits::DATA_START);
+        let first = (device.blocks as u32).max(Limits::DATA_START);
         Marks {
             once: empty_table(first),
             twice: [0u8; Limits::BLOCK_SIZE],
@@ -57,23 +59,21 @@ impl Marks {
     }
 
     // Block b reached. A block outside 42 to N-1 does not count.
-    pub fn mark(&mut self, blocks: usize, b: DiskBlock)
-        requires { blocks ≤ 4096 }
-        ensures { Kept blocks self.new [] self.old (b.0 ∷ []) }
+    pub fn mark(&mut self, device: &Device, b: DiskBlock)
+        ensures { Kept device.now.blocks self.new [] self.old (b.0 ∷ []) }
     {
-        if !in_data(blocks, b) {
+        if !in_data(device.blocks, b) {
             return;
         }
         self.mark_byte(b, 1);
     }
 
     // `count` blocks from `first` on reached: those within 42 to N-1, byte by byte of the tables.
-    pub fn mark_run(&mut self, blocks: usize, first: DiskBlock, count: u32)
-        requires { (blocks ≤ 4096) × (first.0 < 65536) × (count < 65536) }
-        ensures { Kept blocks self.new [] self.old (up_from first.0 count) }
+    pub fn mark_run(&mut self, device: &Device, first: DiskBlock, count: u32)
+        ensures { Kept device.now.blocks self.new [] self.old (up_from first.0 count) }
     {
         let from = first.0.max(Limits::DATA_START);
-        let end = (first.0 + count).min(blocks as u32);
+        let end = (first.0 as usize + count as usize).min(device.blocks) as u32;
         if end <= from {
             return;
         }
@@ -87,25 +87,16 @@ impl Marks {
 
     // Whether the bit of block b is wrong, by the marks.
     fn is_wrong(&self, bitmap: &[u8; Limits::BLOCK_SIZE], b: DiskBlock) -> bool
-        requires { b.0 < 4096 }
         ensures { result ≡ wrong self.now bitmap.now b.0 }
     {
         bit_is(&self.twice, b) | (bit_is(&self.once, b) != bit_is(bitmap, b))
     }
 
-    // Whether all bits are right, told by whole bytes. No byte ends the loop early, so it compiles to vector code.
+    // Whether all bits are right, told by whole tables.
     fn are_right(&self, bitmap: &[u8; Limits::BLOCK_SIZE]) -> bool
-        ensures { result ≡ right_to 512 self.now bitmap.now }
+        ensures { result ≡ (same self.now.once bitmap.now && all_zero self.now.twice) }
     {
-        // A slice made of an array tells the proof its length.
-        let o: &[u8] = &self.once;
-        let t: &[u8] = &self.twice;
-        let bits: &[u8] = bitmap;
-        let mut right = true;
-        for k in 0..Limits::BLOCK_SIZE {
-            right &= (o[k] == bits[k]) & (t[k] == 0);
-        }
-        right
+        (self.once == *bitmap) && is_zero(&self.twice)
     }
 
     // The lowest block whose bit is wrong.

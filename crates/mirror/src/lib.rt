@@ -136,6 +136,7 @@ pub fn encode(s: Session) -> Head
     head_of(s.blocks as u64, phase, s.count as u64)
 }
 
+// Answers become structs by functions that are named for the answer, not by From: so the clause that says which numbers stands at the function.
 pub fn finished(answer: Result<(), Refusal>) -> CFinished
     ensures { result ≡ finished_of (done_of answer) }
 {
@@ -148,6 +149,7 @@ pub fn finished(answer: Result<(), Refusal>) -> CFinished
     }
 }
 
+// It differs from `counted` by the struct alone, which C declares.
 pub fn committed(answer: Result<usize, Refusal>) -> CCommitted
     ensures { result ≡ committed_of (started_of answer) }
 {
@@ -163,6 +165,7 @@ pub fn committed(answer: Result<usize, Refusal>) -> CCommitted
     }
 }
 
+// A block stored, all 0 where none was.
 pub fn advanced(answer: Result<Option<BlockStored>, Refusal>) -> CAdvanced
     ensures { result ≡ advanced_of (stored_of answer) }
 {
@@ -181,6 +184,7 @@ pub fn advanced(answer: Result<Option<BlockStored>, Refusal>) -> CAdvanced
     }
 }
 
+// A count, 0 where it is refused.
 pub fn counted(answer: Result<usize, Refusal>) -> CCounted
     ensures { result ≡ counted_of (answer_of answer) }
 {
@@ -224,6 +228,7 @@ pub fn recorded(
     }
 }
 
+// An extent, 0 and 0 where there is none.
 pub fn run(answer: Result<Option<Extent>, Refusal>) -> CRun
     ensures { result ≡ run_of (extent_of answer) }
 {

@@ -4,9 +4,9 @@ use mathlib.Core.Path.{◌≡◌, refl, sym, ap, ap₂, ◌∙◌, fun_ext}
 use mathlib.Core.List.{List, ◌∷◌, ◌++◌}
 use native.Mathlib.Omega.{arith}
 use mathlib.Core.Logic.{⊎_elim}
-use native.Mathlib.Nat.{sub-zero, zero-sub, suc-sub-suc, zero-div, eq-or-lt_of_le}
-use lib.ListN.{length, take, drop, get_or, set, replicate, length-append, length-take, length-drop, length-replicate, replicate-append-replicate, get_or-replicate, get_or-append}
-use lib.Seq.{ext_get_or, get_or-set_same, get_or-set_other, get_or-append-add, get_or-take, get_or-drop}
+use native.Mathlib.Nat.{sub-zero, zero-sub, suc-sub-suc, zero-div}
+use lib.ListN.{length, take, drop, get_or, replicate, length-append, length-take, length-drop, length-replicate, replicate-append-replicate, get_or-replicate, get_or-append}
+use lib.Seq.{ext_get_or, get_or-append-add, get_or-take, get_or-drop}
 use Rattle.std.proofs.lemmas.List.{get_or-append_right}
 use Rattle.spec.specs.Bytes.{zeros, exactly}
 use Rattle.spec.specs.Disk.{Disk, blocks_of, slice_of, with_block}
@@ -54,24 +54,6 @@ cleared-start = record { full = length-replicate {A = ℕ} 512 255; low = λ x h
   where
     one : (x : ℕ) → x < 4096 → get_or (bits_of (replicate 512 255)) x 0 ≡ 1
     one x h = ap (λ (l : List ℕ). get_or l x 0) (ones 512) ∙ get_or-replicate 4096 x 1 0 h
-
-pub cleared-on : (t : List ℕ) (a b : ℕ) → Cleared t a → a ≡ b → Cleared t b
-cleared-on t a b c e = rw (← e) c
-
--- one more bit
-pub cleared-bit : (t u : List ℕ) (b : ℕ) → Cleared t b → 42 ≤ b → b < 4096 → length u ≡ 512 → bits_of u ≡ set (bits_of t) b 0 → Cleared u (b + 1)
-cleared-bit t u b c l h full e = record {
-  full = full;
-  low = λ x k. other x (λ z. omega arith) ∙ c.low x k;
-  zero_bit = λ x k m. ⊎_elim (λ q. rw q here) (λ q. other x (λ z. omega arith) ∙ c.zero_bit x k q) (eq-or-lt_of_le (omega arith));
-  high = λ x k m n. other x (λ z. omega arith) ∙ c.high x k (omega arith) n;
-}
-  where
-    here : get_or (bits_of u) b 0 ≡ 0
-    here = ap (λ (l : List ℕ). get_or l b 0) e ∙ get_or-set_same (bits_of t) b 0 0 (omega (arith, length-bits t, c.full))
-
-    other : (x : ℕ) → (x ≡ b → ⊥) → get_or (bits_of u) x 0 ≡ get_or (bits_of t) x 0
-    other x ne = ap (λ (l : List ℕ). get_or l x 0) e ∙ get_or-set_other (bits_of t) b x 0 0 ne
 
 -- whole bytes from a up to e, which are zero now
 module _ (t zs : List ℕ) (a e : ℕ) (c : Cleared t (8 * a)) (l : 6 ≤ a) (h : a ≤ e) (m : e ≤ 512) (z : zs ≡ replicate (length (take (e - a) (drop a t))) 0) where

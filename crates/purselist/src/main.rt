@@ -7,13 +7,13 @@ use listing::{LISTING_SIZE, list_image};
 use std::io;
 use std::io::Read;
 
-// Reads until the buffer is full or the input ends, and answers how many bytes that are. The loop goes on by what each read gives; std's read_exact
-// takes the input's end for an error, and its read_to_end needs a heap.
+// Reads until the buffer is full or the input ends, and answers how many bytes that are.
 fn read_full(rt: &impl Input, buffer: &mut [u8]) -> io::Result<usize>
     ensures { IfOk result (λ n. n ≤ length buffer.new) }
 {
     let mut input = rt.reader();
     let mut n: usize = 0;
+    // It goes on by what each read gives; std's read_exact takes the input's end for an error, and its read_to_end needs a heap.
     while n < buffer.len() {
         let more = input.read(&mut buffer[n..])?;
         if more == 0 {

@@ -13,13 +13,15 @@ ghost use Rattle.query.specs.Records.{record_told};
 use bitmap::free_in;
 use block::{copy_of, key_of, place_in_block};
 use checks::ready;
+use extents::Stretch;
 use file::read_file;
-use inode::{inode_block, size_of};
+use inode::{InodeNumber, inode_block, size_of};
 use lookup::look_up;
 use spec::{ByteOffset, DiskBlock, Extent, FileBlock, FileRecord, Limits, Refusal, Session};
 use transaction::Volume;
 
-// Each call stands twice: of a session by value, and, with `_in`, of a volume as such calls see it, which the C interface makes of a session's parts.
+// Each call stands twice: of a session by value, with the parameters of the specification, and, with `_in`, of a volume as such calls see it, which the
+// C interface makes of a session's parts. The one by value is one line; a generic of them would take a closure in its place and promise less.
 
 // Bytes of a file from byte x on, as many as the buffer takes and the file has; how many.
 pub fn read_in(
@@ -34,6 +36,7 @@ pub fn read_in(
     Ok(read_file(&volume.copy, i, x, buffer))
 }
 
+// The same of a session.
 pub fn read<'a>(
     device: &'a [u8],
     work: &'a [u8],
@@ -54,9 +57,10 @@ pub fn size_in(volume: &Volume, name: &[u8]) -> Result<usize, Refusal>
 {
     let i = look_up(volume, name)?;
     let table = inode_block(&volume.copy, i);
-    Ok(size_of(table, i) as usize)
+    Ok(size_of(table, i.n) as usize)
 }
 
+// The same of a session.
 pub fn size<'a>(
     device: &'a [u8],
     work: &'a [u8],
@@ -95,6 +99,7 @@ pub fn free_count_in(volume: &Volume) -> Result<usize, Refusal>
     Ok(free_of(table))
 }
 
+// The same of a session.
 pub fn free_count<'a>(device: &'a [u8], work: &'a [u8], session: Session) -> Result<usize, Refusal>
     ensures { left session device.now work.now (counted_of result)
         ≡ free_count (state_of session device.now work.now) }
@@ -135,13 +140,14 @@ pub fn record_in(volume: &Volume, i: usize) -> Result<Option<FileRecord>, Refusa
     if Limits::INODE_COUNT <= i {
         return Ok(None);
     }
-    let table = inode_block(&volume.copy, i);
+    let table = inode_block(&volume.copy, InodeNumber { n: i });
     if table.len() == Limits::BLOCK_SIZE {
         return Ok(record_of(table, i));
     }
     Ok(record_of_copy(table, i))
 }
 
+// The same of a session.
 pub fn record_at<'a>(
     device: &'a [u8],
     work: &'a [u8],
@@ -165,9 +171,10 @@ pub fn nth_extent_in(
     ensures { (s : State) → Shows volume.now s → outcome s (run_of result) ≡ nth_extent s name.now from.0 n k }
 {
     let i = look_up(volume, name)?;
-    Ok(extents::nth_extent(&volume.copy, i, from, n, k))
+    Ok(extents::nth_extent(&volume.copy, Stretch { i, from, n }, k))
 }
 
+// The same of a session.
 pub fn nth_extent<'a>(
     device: &'a [u8],
     work: &'a [u8],

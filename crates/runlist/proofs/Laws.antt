@@ -1,16 +1,18 @@
 -- The list as it is filled, and the call's cases. Assumes nothing.
-use Prim.Native.Nat.{ℕ, ◌+◌, ◌-◌, ◌<◌, ◌≤◌, zero-le}
+use Prim.Native.Nat.{ℕ, zero, suc, ◌+◌, ◌-◌, ◌<◌, ◌≤◌, zero-le}
 use native.Mathlib.Omega.{arith}
 use mathlib.Core.Path.{◌≡◌, refl, sym, ap, ◌∙◌}
 use mathlib.Core.List.{List, [], ◌∷◌, ◌++◌}
-use lib.ListN.{length, take, drop, set, get_or, length-take, length-drop}
-use lib.Seq.{take_all, take-length}
+use lib.ListN.{length, take, drop, set, get_or, get_elem?, length-set}
+use lib.Seq.{take-length, take_all}
 use borrow.Author.Tests.{le-leb, lt-leb, leb-true}
-use Rattle.std.proofs.lemmas.List.{drop_more, take_more, take_more_set}
+use Rattle.std.proofs.lemmas.List.{take_more, take_more_set}
 use Rattle.spec.specs.declared.Extent.{Extent}
 use Rattle.spec.specs.declared.Refusal.TheVariants.{ListShort}
 use Rattle.spec.specs.Inode.{extent}
-use Rattle.std.specs.Prelude.{Ok, Err}
+use Rattle.std.specs.Prelude.{Ok, Err, Some, None, Option as Maybe}
+use Rattle.std.specs.Option.{is_some}
+use Rattle.extents.specs.Stretches.{run_of}
 use Rattle.std.specs.Prelude.{Result as Returned}
 use Rattle.spec.specs.declared.Refusal.{Refusal}
 use lib.Dec.{leb}
@@ -20,24 +22,42 @@ use Rattle.spec.specs.Answers.{counted, counted_of, refusal_of, Result, refuse, 
 use Rattle.spec.specs.Transaction.{State}
 use Rattle.spec.specs.Calls.{Outcome, with_list, list_into, settle, file_ok, runs_of, run_list}
 
--- one run more in its place: es are the runs, xs the list, r those behind the run
-pub record Placed (es xs : List Extent) (k : ℕ) (e : Extent) (r : List Extent) : Type 0 where
-  pub rest : r ≡ drop (k + 1) es
-  pub front : take (k + 1) (set xs k e) ≡ take (k + 1) es
+-- k of the runs es are in their places of the list
+pub record Filling (es list : List Extent) (k : ℕ) : Type 0 where
+  pub size : length list ≡ length es
+  pub front : take k list ≡ take k es
 
-pub place-next : (es xs : List Extent) (k : ℕ) (e : Extent) (r : List Extent) → drop k es ≡ e ∷ r → k < length xs → length xs ≤ length es → take k xs ≡ take k es
-    → Placed es xs k e r
-place-next es xs k e r q h l p =
-    let d = drop_more es k (extent 0 0) (omega arith) in
-    let a : e ≡ get_or es k (extent 0 0) = cc in
-    record {
-      rest = cc;
-      front = take_more_set xs k e h ∙ rw (p, a) (sym (take_more es k (extent 0 0) (omega arith)));
-    }
+pub fill_start : (es list : List Extent) → length list ≡ length es → Filling es list 0
+fill_start es list h = record { size = h; front = refl }
 
--- a run is left where places are
-pub run-left : (es : List Extent) (k : ℕ) → k < length es → drop k es ≡ [] → ⊥
-run-left es k h q = omega (arith, length-drop k es, ap length q)
+-- the run that an answer names is that of its place
+run_at : (es : List Extent) (k : ℕ) (e : Extent) → Some e ≡ run_of (get_elem? es k) → e ≡ get_or es k (extent 0 0)
+run_at [] k e q = cc
+run_at (x ∷ xs) zero e q = cc
+run_at (x ∷ xs) (suc k) e q = run_at xs k e q
+
+-- and there is one at each place
+run_there : (es : List Extent) (k : ℕ) → k < length es → None ≡ run_of (get_elem? es k) → ⊥
+run_there [] k h q = absurd (omega arith)
+run_there (x ∷ xs) zero h q = cc
+run_there (x ∷ xs) (suc k) h q = run_there xs k (omega arith) q
+
+module _ (es list : List Extent) (k : ℕ) (f : Filling es list k) (l : k < length list) where
+  pub fill_more : (e : Extent) → Some e ≡ run_of (get_elem? es k) → Filling es (set list k e) (k + 1)
+  fill_more e q =
+      let a = run_at es k e q in
+      record {
+        size = length-set list k e ∙ f.size;
+        front = take_more_set list k e l ∙ rw (f.front, a) (sym (take_more es k (extent 0 0) (omega (arith, f.size))));
+      }
+
+  pub fill_there : (o : Maybe Extent) → o ≡ run_of (get_elem? es k) → is_some o ≡ true
+  fill_there (Some e) q = refl
+  fill_there None q = absurd (run_there es k (omega (arith, f.size)) q)
+
+-- every place is filled
+pub fill_end : (es list : List Extent) (k : ℕ) → Filling es list k → length list ≤ k → list ≡ es
+fill_end es list k f h = sym (take_all k list h) ∙ f.front ∙ take_all k es (omega (arith, f.size))
 
 -- the call, where the record is found and `es` are the runs
 module _ (s : State) (name : List ℕ) (from n i : ℕ) (list es : List Extent) (e : accept i ≡ file_ok s name) (q : es ≡ runs_of s i from n) where
@@ -45,14 +65,12 @@ module _ (s : State) (name : List ℕ) (from n i : ℕ) (list es : List Extent) 
   unfolding run_list
   list-short h = rw (← e, ← q, lt-leb (length es) (length list) h)
 
-  pub list-filled : (count : ℕ) (part : List Extent) → count ≡ length es → count ≤ length list → part ≡ take (length (take (count - 0) list)) es
+  pub list-filled : (count : ℕ) (part : List Extent) → count ≡ length es → count ≤ length list → part ≡ es
       → with_list s (counted count) (part ++ drop (count - 0) list) ≡ run_list s name from n list
   unfolding run_list
   list-filled count part c h p =
       let z : count - 0 ≡ length es = omega arith in
-      let l : length (take (length es) list) ≡ length es = simp length-take (omega arith) in
-      let whole : part ≡ es = p ∙ rw (z, l) (take_all (length es) es (omega arith)) in
-      rw (← e, ← q, le-leb (length es) (length list) (omega arith), z, whole, c)
+      rw (← e, ← q, le-leb (length es) (length list) (omega arith), z, p, c)
 
 -- the first none of the runs are no list, and all of them are
 filled_none : (es list : List Extent) → filled es 0 list ≡ list

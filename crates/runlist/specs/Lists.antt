@@ -7,8 +7,11 @@ use Rattle.spec.specs.declared.Refusal.TheVariants.{ListShort}
 use Rattle.spec.specs.Answers.{Result, refuse, accept, require, ◌>>=◌, ◌>>◌}
 use Rattle.spec.specs.Transaction.{State}
 use Rattle.spec.specs.Calls.{file_ok, runs_of}
+
 -- how many runs, or the first test that failed
-pub use Rattle.lookup.specs.Looks.{looked_of as counts_of}
+abbrev pub counts_of : Returned ℕ Refusal → Result ℕ
+counts_of (Ok n) = accept n
+counts_of (Err r) = refuse r
 
 -- 1, 2, 3, 12, 13, and 19: "Lent list shorter than the run list", of a list of `room` places
 unfoldable pub count_ok : State → List ℕ → ℕ → ℕ → ℕ → Result ℕ

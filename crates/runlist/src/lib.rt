@@ -1,28 +1,25 @@
 // The public call that puts the run list of a stretch into a lent list of extents.
 #![tactic(auto)]
 
-ghost use Rattle.std.specs.Prelude.{◌≡◌, ◌<◌, ◌≤◌, length, take};
+ghost use Rattle.std.specs.Prelude.{◌≡◌, length};
 ghost use Rattle.spec.specs.Answers.{counted_of};
 ghost use Rattle.spec.specs.Transaction.{state_of};
 ghost use Rattle.spec.specs.Calls.{left_list, run_list};
 ghost use Rattle.transaction.specs.Volumes.{working};
 ghost use Rattle.extents.specs.Stretches.{runs_in};
 
-use extents::{Runs, count_runs};
+use extents::{Stretch, count_runs, nth_extent};
 use lookup::look_up;
 use spec::{Extent, FileBlock, Refusal, Session};
 use transaction::{Volume, WorkingCopy};
 
-// The first runs of the stretch, as many as the list has places.
-fn fill(copy: &WorkingCopy, i: usize, from: FileBlock, n: usize, list: &mut [Extent])
-    requires { (i < 128) × (length list.old ≤ length (runs_in (working copy.now) i from.0 n)) }
-    ensures { list.new ≡ take (length list.old) (runs_in (working copy.now) i from.0 n) }
+// The runs of a stretch, into as many places. The specification names this form, one function over the n-th extent; C's run list, in crate capi, goes over the runs in one walk.
+fn fill(copy: &WorkingCopy, stretch: Stretch, list: &mut [Extent])
+    requires { length list.old ≡ length (runs_in (working copy.now) stretch.i.n stretch.from.0 stretch.n) }
+    ensures { list.new ≡ runs_in (working copy.now) stretch.i.n stretch.from.0 stretch.n }
 {
-    let mut runs = Runs::of(copy, i, from, n);
-    for place in list {
-        if let Some(run) = runs.next() {
-            *place = run;
-        }
+    for (k, place) in list.iter_mut().enumerate() {
+        *place = nth_extent(copy, stretch, k).unwrap();
     }
 }
 
@@ -41,10 +38,11 @@ pub fn run_list<'a>(
 {
     let volume = Volume::of(device, work, &session);
     let i = look_up(&volume, name)?;
-    let count = count_runs(&volume.copy, i, from, n);
+    let stretch = Stretch { i, from, n };
+    let count = count_runs(&volume.copy, stretch);
     if list.len() < count {
         return Err(Refusal::ListShort);
     }
-    fill(&volume.copy, i, from, n, &mut list[0..count]);
+    fill(&volume.copy, stretch, &mut list[0..count]);
     Ok(count)
 }

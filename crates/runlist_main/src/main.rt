@@ -5,32 +5,24 @@
 use spec::{Extent, FileBlock, Limits, Refusal, Session};
 use std::io;
 use store::run_list;
+use trial::number;
 
 // ---- text
-
-fn say(rt: &impl Print, text: &[u8]) -> io::Result<()> {
-    rt.write_all(text)
-}
-
-fn number(rt: &impl Print, n: usize) -> io::Result<()> {
-    say(rt, b" ")?;
-    rt.print(n)
-}
 
 fn answered(rt: &impl Print, a: Result<usize, Refusal>) -> io::Result<()> {
     match a {
         Ok(n) => number(rt, n),
         Err(why) => {
-            say(rt, b" refused")?;
-            number(rt, why.number() as usize)
+            rt.write_all(b" refused")?;
+            number(rt, why.number())
         }
     }
 }
 
 fn extent(rt: &impl Print, e: Extent) -> io::Result<()> {
-    say(rt, b" ")?;
+    rt.write_all(b" ")?;
     rt.print(e.first)?;
-    say(rt, b"+")?;
+    rt.write_all(b"+")?;
     rt.print(e.count)
 }
 
@@ -61,17 +53,17 @@ fn show<'a>(
     let file = name(k);
     let mut list = [Extent { first: 7, count: 9 }; 8];
     let a = run_list(device, work, s, &file, FileBlock(from), n, &mut list);
-    say(rt, b"file")?;
-    number(rt, k as usize)?;
-    say(rt, b" from")?;
+    rt.write_all(b"file")?;
+    number(rt, k)?;
+    rt.write_all(b" from")?;
     number(rt, from)?;
-    say(rt, b" count")?;
+    rt.write_all(b" count")?;
     number(rt, n)?;
-    say(rt, b":")?;
+    rt.write_all(b":")?;
     answered(rt, a)?;
-    say(rt, b" of")?;
+    rt.write_all(b" of")?;
     places(rt, list)?;
-    say(rt, b"\n")
+    rt.write_all(b"\n")
 }
 
 // ---- the files

@@ -7,7 +7,12 @@ ghost use Rattle.runs.specs.Push.{Pushed, last_count, no_extents};
 
 use spec::{DiskBlock, Extent, Limits};
 
-// A file's first 512 extents, the number of all of them, and the block after the last one.
+// Which data block of a file: one of fewer than 2^32, so that its bytes can be counted.
+#[derive(Clone, Copy)]
+pub struct DataBlock(pub u32);
+
+// A file's first 512 extents, the number of all of them, and the block after the last one. An array and a number: there is no heap, and the number
+// counts the extents that the array does not hold.
 #[derive(Clone, Copy)]
 pub struct ExtentList {
     pub cells: [Extent; Limits::MAX_EXTENTS],
@@ -15,7 +20,7 @@ pub struct ExtentList {
     pub next: usize,
 }
 
-// The extent blocks of a file: the first `len` of four.
+// The extent blocks of a file: the first `len` of four. An array and a length: there is no heap.
 #[derive(Clone, Copy)]
 pub struct Nodes {
     pub node: [u32; 4],

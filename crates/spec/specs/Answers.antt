@@ -57,22 +57,23 @@ refusal_number no_file = 0
 refusal_number (run e) = 0
 refusal_number no_run = 0
 
+-- the value that goes with a refusal
+abbrev pub value_told : Answer → Option ℕ
+value_told (refused n []) = None
+value_told (refused n (v ∷ vs)) = Some v
+value_told done = None
+value_told (started n) = None
+value_told (stored b l n) = None
+value_told idle = None
+value_told (counted n) = None
+value_told (file x n) = None
+value_told no_file = None
+value_told (run e) = None
+value_told no_run = None
+
 -- the wrong record that refusal 10 names
 abbrev pub fault_told : Refusal → Option ℕ
-fault_told DeviceSize = None
-fault_told WorkSize = None
-fault_told BadName = None
-fault_told TooLarge = None
-fault_told (BadHeader i) = Some i
-fault_told Unsound = None
-fault_told NotReady = None
-fault_told Unknown = None
-fault_told Taken = None
-fault_told NoInode = None
-fault_told NoSpace = None
-fault_told TooManyExtents = None
-fault_told TooManyStaged = None
-fault_told ListShort = None
+fault_told r = value_told (refusal_of r)
 
 -- "When an answer is an enum, a definition tells you this paper's number and values for each of its cases."
 abbrev pub done_of : Returned (Unit {0}) Refusal → Answer

@@ -92,7 +92,8 @@ pub enum Phase {
     Recovering(usize),
 }
 
-// "It also holds N and the staged block numbers": the first `count` cells of `staged` are in use.
+// "It also holds N and the staged block numbers": the first `count` cells of `staged` are in use. Array and count stand side by side, since there is no
+// heap, and the C interface lends them so.
 #[derive(Clone, Copy)]
 pub struct Session {
     pub blocks: usize,
@@ -114,6 +115,7 @@ impl Session {
         }
     }
 
+    // Closed, on a device of so many blocks.
     pub fn closed_on(blocks: usize) -> Session
         ensures { result ≡ closed_on blocks }
     {
@@ -127,7 +129,7 @@ impl Session {
         Session::closed_on(0)
     }
 
-    // Of these parts: the first `count` of the cells are in use.
+    // Of these parts: the first `count` of the cells are in use. Four fields with a promise, which calls of a session by value end with.
     pub fn with_cells(
         blocks: usize,
         phase: Phase,
@@ -144,6 +146,7 @@ impl Session {
         }
     }
 
+    // The same in another phase.
     pub fn in_phase(self, phase: Phase) -> Session
         ensures { result ≡ in_phase self phase }
     {
@@ -172,7 +175,7 @@ pub enum Refusal {
 }
 
 impl Refusal {
-    // "Refusals from the input", "Refusals from the state": the number of each.
+    // "Refusals from the input", "Refusals from the state": the number of each. The one place that tells them: a discriminant cannot, since 10 has a value.
     pub fn number(self) -> u32
         ensures { result ≡ refusal_number (refusal_of self) }
     {

@@ -1,4 +1,5 @@
 // The public calls of the purse store. Each promise is one equation: what is answered and left is the call's outcome at what was given.
+// Device, work space and session are not gathered in a struct here, since the specification has each call take them by themselves.
 #![tactic(auto)]
 
 ghost use Rattle.std.specs.Prelude.{◌≡◌, List, ℕ};

@@ -4,8 +4,8 @@ use mathlib.Core.Path.{◌≡◌, refl, sym, ap, ◌∙◌}
 use mathlib.Core.List.{List, [], ◌∷◌, ◌++◌}
 use native.Mathlib.Omega.{arith}
 use lib.ListN.{length, set, take, drop, get_or, length-append}
-use borrow.Author.Tests.{lt-ltb, le-ltb}
-use Rattle.spec.specs.Listing.{digits, hex_digit}
+use borrow.Author.Tests.{le-ltb}
+use Rattle.spec.specs.Listing.{digits}
 use Rattle.text.specs.declared.Writer.{Writer}
 use Rattle.text.specs.Written.{laid, Written, Put}
 
@@ -137,25 +137,12 @@ module _ (most n : ℕ) where
   pub digits-none : most ≡ 0 → [] ≡ digits most n
   digits-none e = rw e
 
-  pub digits_last : (most ≡ 0 → ⊥) → n < 10 → (48 + n) ∷ [] ≡ digits most n
-  digits_last e h = go most e
-    where
-      go : (k : ℕ) → (k ≡ 0 → ⊥) → (48 + n) ∷ [] ≡ digits k n
-      go zero e = absurd (e refl)
-      go (suc k) e = rw (lt-ltb n 10 h)
-
   pub digits_more : (most ≡ 0 → ⊥) → 10 ≤ n → digits (most - 1) (n / 10) ++ ((48 + n % 10) ∷ []) ≡ digits most n
   digits_more e h = go most e
     where
       go : (k : ℕ) → (k ≡ 0 → ⊥) → digits (k - 1) (n / 10) ++ ((48 + n % 10) ∷ []) ≡ digits k n
       go zero e = absurd (e refl)
       go (suc k) e = let z : suc k - 1 ≡ k = omega arith in rw (le-ltb n 10 h, z)
-
-pub hex-low : (n r : ℕ) → n < 10 → r ≡ 48 + n → r ≡ hex_digit n
-hex-low n r h e = rw (lt-ltb n 10 h) e
-
-pub hex-high : (n r : ℕ) → 10 ≤ n → r ≡ 55 + n → r ≡ hex_digit n
-hex-high n r h e = rw (le-ltb n 10 h) e
 
 -- the next of some bytes
 pub next-byte : (xs : List ℕ) (k : ℕ) → k < length xs → drop k xs ≡ get_or xs k 0 ∷ drop (k + 1) xs

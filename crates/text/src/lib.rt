@@ -39,6 +39,7 @@ impl<'a> Writer<'a> {
         }
     }
 
+    // Some bytes in their order.
     pub fn put_bytes(&mut self, bytes: &[u8])
         ensures { Put self.old self.new bytes.now }
     {

@@ -4,14 +4,14 @@ use mathlib.Core.Path.{◌≡◌, refl, sym, ap, ap₂, ◌∙◌, fun_ext}
 use mathlib.Core.Bool.{Bool, true, false}
 use mathlib.Core.List.{List, [], ◌∷◌, ◌++◌}
 use mathlib.Core.Option.{Option, none, some}
-use lib.ListN.{length, take, drop, get_or, set, length-append, length-take, length-drop, take-append-drop}
+use lib.ListN.{length, take, drop, get_or, set, length-append, length-take, take-append-drop}
 use lib.Seq.{take-append_seam, take_all, set_split, append_snoc, drop-append-add, drop-drop}
 use lib.Dec.{eqb}
 use native.Mathlib.Decide.{dec_lt}
 use native.Mathlib.Numerals.{add-one}
 use native.Mathlib.Omega.{arith}
 use borrow.Author.Tests.{eqb-true, eqb-false, eq-eqb, ne_eqb}
-use Rattle.spec.specs.Bytes.{found, place, distinct, all}
+use Rattle.spec.specs.Bytes.{exactly, found, place, distinct, all}
 use Rattle.spec.specs.Disk.{Disk, Slice, blocks_of, slice_of, is_target, with_block}
 use Rattle.spec.specs.declared.Phase.{Phase}
 use Rattle.spec.specs.declared.Phase.TheVariants.{Closed}
@@ -19,10 +19,13 @@ use Rattle.spec.specs.declared.Session.{Session}
 use Rattle.spec.specs.Session.{opened, staged_in, with_staged}
 use Rattle.spec.specs.Transaction.{State, state_of, view, BlockStore, put, Staged, stage, staged_of, with_staging}
 use Rattle.block.specs.Stores.{stored_in}
-use Rattle.block.proofs.Laws.{block-length}
+use Rattle.block.proofs.Laws.{block-length, block_read}
 use Rattle.lists.specs.Places.{place-lt, place-value, place-new, place_other, no_place, distinct_snoc, all_append}
 use Rattle.transaction.specs.Places.{found_at, spot, blocks_with, session_of, view_in}
 use Rattle.transaction.specs.Volumes.{working, Shows}
+use Rattle.transaction.specs.LentSessions.{session_lent, Kept, Held}
+use Rattle.transaction.specs.declared.lent_session.LentSession.{LentSession}
+use Rattle.transaction.specs.declared.staging.Staging.{Staging}
 use Rattle.transaction.specs.declared.volume.Volume.{Volume}
 use Rattle.transaction.specs.declared.working_copy.WorkingCopy.{WorkingCopy}
 use Rattle.std.specs.Prelude.{Some, None}
@@ -174,9 +177,10 @@ module _ (s : Session) (h : length s.staged ≡ 32) where
   pub staged-lent : (n : ℕ) → n ≡ length (staged_in s) → take (n - 0) (drop 0 s.staged) ≡ staged_in s
   staged-lent n e = let z : n - 0 ≡ n = omega arith in rw z (sym (staged-is n e))
 
--- a place among the numbers lent
-pub spot-among : (s : Session) (b n i : ℕ) → length s.staged ≡ 32 → n ≡ length (staged_in s) → i ≡ spot (take (n - 0) (drop 0 s.staged)) b → i ≡ spot (staged_in s) b
-spot-among s b n i h e q = q ∙ ap (λ (l : List ℕ). spot l b) (staged-lent s h n e)
+pub settled_is : (s : Session) (n : ℕ) → length s.staged ≡ 32 → n ≡ length (staged_in s)
+    → record { blocks = s.blocks; phase = s.phase; staged = s.staged; count = n } ≡ with_staged s (staged_in s)
+unfolding with_staged
+settled_is s n h e = rw (← e, staged-is s h n e, take-append-drop n s.staged)
 
 -- the cells in use, of every session with these
 module _ (cells : List ℕ) (count : ℕ) where
@@ -235,19 +239,7 @@ pub view-lent : (s : Session) (device work : List ℕ) (n : ℕ) → length s.st
     → view_in (take (n - 0) (drop 0 s.staged)) device work ≡ view (state_of s device work)
 view-lent s device work n h e = view_of s device work _ (sym (staged-lent s h n e))
 
--- fewer than 33 are lent
-pub lent-few : (s : Session) (n : ℕ) → length s.staged ≡ 32 → n ≤ 32 → length (take (n - 0) (drop 0 s.staged)) ≤ 32
-lent-few s n h k = simp (length-take, length-drop) (omega arith)
-
 module _ (l : List ℕ) (b : ℕ) where
-  pub spot-at : (i : ℕ) → found_at (place b l) ≡ Some i → i ≡ spot l b
-  unfolding spot
-  spot-at i e = sym (rw (found-some (place b l) i e))
-
-  pub spot-new : found_at (place b l) ≡ None → length l ≡ spot l b
-  unfolding spot
-  spot-new e = sym (rw (found-none (place b l) e))
-
   -- as the code finds it
   pub spot-is : unwrap_or (found_at (place b l)) (length l) ≡ spot l b
   unfolding spot
@@ -281,6 +273,30 @@ module _ (l : List ℕ) (b : ℕ) where
       go : (o : Option ℕ) → place b l ≡ o → found_at (place b l) ≡ None
       go none e = rw e
       go (some i) e = let z : length l ≤ i = rw e at h in absurd (omega (arith, place-lt b i l e))
+
+-- a block stored once more over itself
+with-self : (k : ℕ) (d : Disk) → with_block k (d k) d ≡ d
+with-self k d = fun_ext (λ c. go c (eqb c k) refl)
+  where
+    go : (c : ℕ) (t : Bool) → eqb c k ≡ t → with_block k (d k) d c ≡ d c
+    go c true h = rw h (ap d (sym (eqb-true c k h)))
+    go c false h = rw h
+
+-- where these are staged, the image of block b at its place k
+module _ (l device work : List ℕ) (b k : ℕ) (at : k ≡ spot l b) where
+  -- it is the working copy where the block is among them
+  pub image-held : k < length l → slice_of work ≡ stored_in (slice_of work) k (view_in l device work b)
+  image-held h =
+      let e : found_at (place b l) ≡ Some k = rw at (spot-found l b (omega (arith, at))) in
+      ap (λ (d : Disk). record { size = length work; block = d }) (sym (with-self k (blocks_of work)))
+      ∙ ap (λ (x : List ℕ). stored_in (slice_of work) k x) (sym (view-at l device work b k e))
+
+  -- else the block is the device's
+  pub image-new : (left from : List ℕ) → length l ≤ k → from ≡ take 512 (drop (512 * b) device)
+      → slice_of left ≡ stored_in (slice_of work) k (exactly 512 from) → slice_of left ≡ stored_in (slice_of work) k (view_in l device work b)
+  image-new left from h ef is =
+      let e : found_at (place b l) ≡ None = spot-absent l b (omega (arith, at)) in
+      is ∙ ap (λ (x : List ℕ). stored_in (slice_of work) k x) (block_read device from (exactly 512 from) b ef refl ∙ sym (view-new l device work b e))
 
 module _ (s : Session) (b : ℕ) where
   -- the session's cells after staging: all as they were, or one more in use
@@ -349,3 +365,29 @@ module _ (v : Volume) (s : State) (e : Shows v s) where
 
   pub shows-all : s ≡ state_of s.session v.copy.device.now v.copy.work.now
   shows-all = ap₂ (λ (d w : Slice). record { session = s.session; device = d; work = w }) e.device e.work
+
+-- ---- a session lent
+
+-- made of these parts
+pub lent-is : (l : LentSession) (s : Session) → l.blocks ≡ s.blocks → l.phase ≡ s.phase → l.cells.now ≡ s.staged → l.count ≡ s.count → session_lent l ≡ s
+lent-is l s b p c n = rw (b, p, c, n)
+
+-- and given back with others of its cells in use
+pub lent-back : (l m : LentSession) (s q : Session) (cells : List ℕ) → session_lent l ≡ s → Kept l m → cells ≡ m.cells.now
+    → q ≡ session_of s.blocks s.phase cells m.count → (bs : List ℕ) → session_lent m ≡ with_staged (session_lent l) bs → q ≡ with_staged s bs
+lent-back l m s q cells e k c is bs h =
+    let b : m.blocks ≡ s.blocks = k.blocks ∙ ap (λ (x : Session). x.blocks) e in
+    let p : m.phase ≡ s.phase = k.phase ∙ ap (λ (x : Session). x.phase) e in
+    is ∙ rw (c, ← b, ← p) refl ∙ h ∙ ap (λ (x : Session). with_staged x bs) e
+
+-- two changes, one after the other
+kept_then : (l m n : LentSession) → Kept l m → Kept m n → Kept l n
+kept_then l m n a b =
+    record { work = b.work ∙ a.work; cells = b.cells ∙ a.cells; device = b.device ∙ a.device; blocks = b.blocks ∙ a.blocks; phase = b.phase ∙ a.phase }
+
+pub held_then : (s t u : Staging) → Held s t → Held t u → Held s u
+held_then s t u a b = record { lent = b.lent ∙ a.lent; parts = kept_then _ _ _ a.parts b.parts }
+
+-- at most 32 are staged
+pub few-lent : (l : LentSession) → length (staged_in (session_lent l)) ≤ 32
+few-lent l = omega (arith, length-staged (session_lent l) l.full)

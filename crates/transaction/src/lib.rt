@@ -3,20 +3,26 @@
 
 ghost use Rattle.std.specs.Prelude.{◌≡◌, ◌==◌, List, ℕ, ◌≤◌, ◌<◌, min, length, take, position};
 ghost use Rattle.spec.specs.Bytes.{exactly, place};
-ghost use Rattle.spec.specs.Disk.{blocks_of};
+ghost use Rattle.spec.specs.Disk.{blocks_of, slice_of};
 ghost use Rattle.spec.specs.declared.Phase.{Phase};
 ghost use Rattle.spec.specs.Session.{staged_in, with_staged};
-ghost use Rattle.spec.specs.Transaction.{state_of, put, stage, staged_of, with_staging};
+ghost use Rattle.spec.specs.Transaction.{state_of, view, put, stage, staged_of, with_staging};
 ghost use Rattle.block.specs.Places.{found_at};
+ghost use Rattle.block.specs.Stores.{stored_in};
 ghost use Rattle.transaction.specs.Places.{spot, blocks_with, session_of};
 ghost use Rattle.transaction.specs.Volumes.{working, Shows};
+ghost use Rattle.transaction.specs.LentSessions.{session_lent, numbers_lent, state_lent, Kept, Held};
 
-use block::{block_in, store_block};
+use block::{block_in, store_block, store_copy};
 use spec::{DiskBlock, Limits, Phase, Session};
 
+mod lent_session;
+mod staging;
 mod volume;
 mod working_copy;
 
+pub use lent_session::LentSession;
+pub use staging::Staging;
 pub use volume::Volume;
 pub use working_copy::WorkingCopy;
 
@@ -34,7 +40,7 @@ pub fn staged_count(s: Session) -> usize
     staged_in(s.count)
 }
 
-// The first cell that holds this number.
+// The first cell that holds this number. It stands alone: in the function below, whose number is a field's, the proof of `position` does not close.
 fn first_place(cells: &[u32], want: u32) -> Option<usize>
     ensures { result ≡ position (λ x. x == want) cells.now }
 {
@@ -48,6 +54,7 @@ pub fn place_in(staged: &[u32], b: DiskBlock) -> Option<usize>
     first_place(staged, b.0)
 }
 
+// Where block b stands among the staged blocks of a session.
 pub fn staged_at(s: Session, b: DiskBlock) -> Option<usize>
     ensures { result ≡ found_at (place b.0 (staged_in s)) }
 {
@@ -84,7 +91,7 @@ impl<'a> Volume<'a> {
     pub fn of(device: &'a [u8], work: &'a [u8], session: &'a Session) -> Volume<'a>
         ensures { Shows result (state_of session.now device.now work.now) }
     {
-        Volume::with_cells(
+        Volume::of_parts(
             device,
             work,
             session.blocks,
@@ -95,7 +102,7 @@ impl<'a> Volume<'a> {
     }
 
     // Of a session's parts: the C interface holds them, and a session made of them would copy its cells at each call.
-    pub fn with_cells(
+    pub fn of_parts(
         device: &'a [u8],
         work: &'a [u8],
         blocks: usize,
@@ -119,30 +126,114 @@ impl<'a> Volume<'a> {
     }
 }
 
-// The place among the images that block b has or gets, where these are staged.
-pub fn spot(staged: &[u32], b: DiskBlock) -> usize
-    ensures { result ≡ spot staged.now b.0 }
-{
-    place_in(staged, b).unwrap_or(staged.len())
+impl<'a> LentSession<'a> {
+    // Of a session's parts, which stay where the caller holds them.
+    pub fn new(
+        device: &'a [u8],
+        work: &'a mut [u8],
+        blocks: usize,
+        phase: Phase,
+        cells: &'a mut [u32; Limits::LOG_LENGTH],
+        count: usize,
+    ) -> LentSession<'a>
+        ensures bytes { result.work.ghost_name ≡ work.entry.ghost_name }
+        ensures numbers { result.cells.ghost_name ≡ cells.entry.ghost_name }
+        ensures parts { (result.device.now ≡ device.now) × (result.work.now ≡ work.old) × (result.blocks ≡ blocks) × (result.phase ≡ phase)
+            × (result.cells.now ≡ cells.old) × (result.count ≡ count) }
+    {
+        LentSession {
+            device,
+            work,
+            blocks,
+            phase,
+            cells,
+            count,
+        }
+    }
+
+    // The numbers of the staged blocks.
+    pub fn staged(&self) -> &[u32]
+        ensures { (result.now ≡ numbers_lent self.now) × (length result.now ≤ 32) }
+    {
+        let cells: &[u32] = self.cells;
+        &cells[..staged_in(self.count)]
+    }
+
+    // Its working copy.
+    pub fn copy(&self) -> WorkingCopy<'_>
+        ensures { working result ≡ view (state_lent self.now) }
+    {
+        WorkingCopy {
+            device: self.device,
+            work: self.work,
+            staged: self.staged(),
+        }
+    }
+
+    // All of it that is read before the first change.
+    pub fn volume(&self) -> Volume<'_>
+        ensures { Shows result (state_lent self.now) }
+    {
+        Volume::of_parts(
+            self.device,
+            self.work,
+            self.blocks,
+            self.phase,
+            self.cells,
+            self.count,
+        )
+    }
+
+    // The place among the images that block b has or gets.
+    pub fn spot(&self, b: DiskBlock) -> usize
+        ensures { result ≡ spot (numbers_lent self.now) b.0 }
+    {
+        let staged = self.staged();
+        place_in(staged, b).unwrap_or(staged.len())
+    }
+
+    // Block b among the staged ones, at its place i.
+    pub fn add(&mut self, b: DiskBlock, i: usize)
+        requires { (i ≡ spot (numbers_lent self.old) b.0) × (i < 32) }
+        ensures parts { Kept self.old self.new }
+        ensures bytes { self.new.work.now ≡ self.old.work.now }
+        ensures numbers { session_lent self.new ≡ with_staged (session_lent self.old) (blocks_with (numbers_lent self.old) b.0) }
+    {
+        let n = staged_in(self.count);
+        if i < n {
+            self.count = n;
+            return;
+        }
+        self.cells[n] = b.0;
+        self.count = n + 1;
+    }
+
+    // A count past the cells becomes that of all cells, as staging leaves it.
+    pub fn settle(&mut self)
+        ensures parts { Kept self.old self.new }
+        ensures bytes { self.new.work.now ≡ self.old.work.now }
+        ensures numbers { session_lent self.new ≡ with_staged (session_lent self.old) (numbers_lent self.old) }
+    {
+        self.count = staged_in(self.count);
+    }
 }
 
-// Block b among the staged ones, at its place i: how many cells are in use then. Of every session with these cells.
-pub fn with_block(
-    cells: &mut [u32; Limits::LOG_LENGTH],
-    count: usize,
-    b: DiskBlock,
-    i: usize,
-) -> usize
-    requires { (length cells.old ≡ 32) × (i ≡ spot (take count cells.old) b.0) × (i < 32) }
-    ensures { ((N : ℕ) (p : Phase) → session_of N p cells.new result
-        ≡ with_staged (session_of N p cells.old count) (blocks_with (take count cells.old) b.0)) × (length cells.new ≡ 32) }
-{
-    let n = staged_in(count);
-    if i < n {
-        return n;
+impl Staging<'_, '_> {
+    // The image of block b, whose place is k, becomes its working copy: it is that already where b is staged.
+    pub fn load(&mut self, b: DiskBlock, k: usize)
+        requires { (k ≡ spot (numbers_lent self.old.lent.now) b.0) × (k < 32) }
+        ensures parts { Held self.old self.new }
+        ensures numbers { session_lent self.new.lent.now ≡ session_lent self.old.lent.now }
+        ensures bytes { slice_of self.new.lent.now.work.now ≡ stored_in (slice_of self.old.lent.now.work.now) k (view (state_lent self.old.lent.now) b.0) }
+    {
+        let lent = &mut *self.lent;
+        if k < staged_in(lent.count) {
+            return;
+        }
+        let from = block_in(lent.device, b);
+        let work = &mut *lent.work;
+        store_copy(work, DiskBlock(k as u32), from);
     }
-    cells[n] = b.0;
-    n + 1
 }
 
 // Block b staged with content x: appended, or its image overwritten; the rest of the work space is unchanged.
@@ -153,9 +244,11 @@ pub fn stage(work: &mut [u8], s: Session, b: DiskBlock, x: &[u8; Limits::BLOCK_S
 {
     let phase = s.phase;
     let mut cells = s.staged;
-    let n = staged_count(s);
-    let i = spot(&cells[0..n], b);
+    let i = staged_at(s, b).unwrap_or(staged_count(s));
     store_block(work, DiskBlock(i as u32), x);
-    let count = with_block(&mut cells, s.count, b, i);
+    let device: &[u8] = &[];
+    let mut lent = LentSession::new(device, work, s.blocks, phase, &mut cells, s.count);
+    lent.add(b, i);
+    let count = lent.count;
     Session::with_cells(s.blocks, phase, cells, count)
 }

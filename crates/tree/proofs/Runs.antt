@@ -1,24 +1,20 @@
 -- Running results over extents and nodes, and what they say of the whole list. Assumes nothing.
 use Prim.Native.Nat.{ℕ, zero, suc, ◌+◌, ◌-◌, ◌<◌, ◌≤◌}
 use mathlib.Core.Path.{◌≡◌, refl, sym, ap, ◌∙◌}
-use mathlib.Core.Bool.{Bool, true, false, not, ◌&&◌, true≢false}
+use mathlib.Core.Bool.{Bool, true, false, not, ◌&&◌}
 use mathlib.Core.List.{List, [], ◌∷◌, ◌++◌, map}
 use native.Mathlib.Omega.{arith}
-use borrow.Author.Tests.{leb-true, ltb-true, ltb-false, lt-ltb, le-leb, lt-leb}
-use lib.Dec.{eqb, leb, ltb}
+use borrow.Author.Tests.{ltb-true, ltb-false, lt-ltb, le-ltb, le-leb, lt-leb}
+use lib.Dec.{eqb, ltb}
 use lib.ListN.{length, take, get_or}
 use Rattle.spec.specs.declared.Extent.{Extent}
 use Rattle.spec.specs.Bytes.{all, up_from}
 use Rattle.spec.specs.Disk.{Disk, in_data}
 use Rattle.spec.specs.Inode.{slots_at, used, below, blocks_in, counts}
 use Rattle.spec.specs.Sound.{slots_packed, extent_inside, apart, level_packed}
-use Rattle.tree.specs.declared.Run.{Run}
-use Rattle.tree.specs.declared.Nodes.{Nodes}
+use Rattle.tree.specs.declared.ExtentTests.{ExtentTests}
+use Rattle.tree.specs.declared.NodeTests.{NodeTests}
 use Rattle.tree.specs.Runs.{tail_at, with_extent, over_extents, no_run, with_node, over_nodes, no_nodes}
-
-and-true : (a b : Bool) → a && b ≡ true → (a ≡ true) × (b ≡ true)
-and-true true b h = (refl, h)
-and-true false b h = absurd (true≢false (sym h))
 
 pub and_assoc : (a b c : Bool) → (a && b) && c ≡ a && (b && c)
 and_assoc true b c = refl
@@ -31,22 +27,22 @@ and_right false = refl
 -- ---- over extents
 
 module _ (N k : ℕ) where
-  pub over-append : (r : Run) (es fs : List Extent) → over_extents N k r (es ++ fs) ≡ over_extents N k (over_extents N k r es) fs
+  pub over-append : (r : ExtentTests) (es fs : List Extent) → over_extents N k r (es ++ fs) ≡ over_extents N k (over_extents N k r es) fs
   unfolding over_extents
   over-append r [] fs = refl
   over-append r (e ∷ es) fs = over-append (with_extent N k r e) es fs
 
-  pub over-inside : (r : Run) (es : List Extent) → (over_extents N k r es).inside ≡ r.inside && all (extent_inside N) es
+  pub over-inside : (r : ExtentTests) (es : List Extent) → (over_extents N k r es).inside ≡ r.inside && all (extent_inside N) es
   unfolding over_extents with_extent
   over-inside r [] = sym (and_right r.inside)
   over-inside r (e ∷ es) = over-inside (with_extent N k r e) es ∙ and_assoc r.inside (extent_inside N e) (all (extent_inside N) es)
 
-  pub over-extents : (r : Run) (es : List Extent) → (over_extents N k r es).extents ≡ r.extents + length es
+  pub over-extents : (r : ExtentTests) (es : List Extent) → (over_extents N k r es).extents ≡ r.extents + length es
   unfolding over_extents with_extent
   over-extents r [] = omega arith
   over-extents r (e ∷ es) = over-extents (with_extent N k r e) es ∙ omega arith
 
-  pub over-blocks : (r : Run) (es : List Extent) → (over_extents N k r es).blocks ≡ r.blocks + counts es
+  pub over-blocks : (r : ExtentTests) (es : List Extent) → (over_extents N k r es).blocks ≡ r.blocks + counts es
   unfolding over_extents with_extent
   over-blocks r [] = omega arith
   over-blocks r (e ∷ es) = over-blocks (with_extent N k r e) es ∙ omega arith
@@ -65,7 +61,7 @@ apart_from_lem end [] = refl
 apart_from_lem end (e ∷ es) = apart_more e es
 
 module _ (N k : ℕ) where
-  over-apart : (r : Run) (es : List Extent) → (over_extents N k r es).apart ≡ r.apart && apart_from (ltb 0 r.extents) r.end es
+  over-apart : (r : ExtentTests) (es : List Extent) → (over_extents N k r es).apart ≡ r.apart && apart_from (ltb 0 r.extents) r.end es
   unfolding over_extents with_extent
   over-apart r [] = sym (and_right r.apart)
   over-apart r (e ∷ es) =
@@ -88,31 +84,28 @@ get_or-behind a zero k ys h = let z : k - 0 ≡ k = omega arith in rw z
 get_or-behind a (suc n) zero ys h = absurd (omega arith)
 get_or-behind a (suc n) (suc k) ys h = let z : suc k - suc n ≡ k - n = omega arith in rw z (get_or-behind (suc a) n k ys (omega arith))
 
-pub tail_within : (b k n : ℕ) → leb b k && ltb k (b + n) ≡ true → (b ≤ k) × (k < b + n)
-tail_within b k n h = let p = and-true (leb b k) (ltb k (b + n)) h in (leb-true b k p.0, ltb-true k (b + n) p.1)
-
--- the tail after one more extent: that extent holds block k, or lies below it, or it was found before
-module _ (k : ℕ) (r : Run) (e : Extent) where
-  pub tail-in : (t : Bool) → t ≡ leb r.blocks k && ltb k (r.blocks + e.count) → t ≡ true → e.first + (k - r.blocks) ≡ tail_at k r e
+-- the tail after one more extent: that extent holds block k, or it was found before, or lies behind
+module _ (k : ℕ) (r : ExtentTests) (e : Extent) where
+  pub tail-in : r.blocks ≤ k → k < r.blocks + e.count → e.first + (k - r.blocks) ≡ tail_at k r e
   unfolding tail_at
-  tail-in t q h = let z : (leb r.blocks k && ltb k (r.blocks + e.count)) ≡ true = sym q ∙ h in rw z
+  tail-in l h = rw (le-leb r.blocks k l, lt-ltb k (r.blocks + e.count) h)
 
-  pub tail-out : (t : Bool) → t ≡ leb r.blocks k && ltb k (r.blocks + e.count) → t ≡ false → r.tail ≡ tail_at k r e
+  pub tail-before : k < r.blocks → r.tail ≡ tail_at k r e
   unfolding tail_at
-  tail-out t q h = let z : (leb r.blocks k && ltb k (r.blocks + e.count)) ≡ false = sym q ∙ h in rw z
+  tail-before h = rw (lt-leb r.blocks k h)
 
-and-off : (a : Bool) → (a && false) ≡ false
-and-off true = refl
-and-off false = refl
+  pub tail-behind : r.blocks ≤ k → r.blocks + e.count ≤ k → r.tail ≡ tail_at k r e
+  unfolding tail_at
+  tail-behind l h = rw (le-leb r.blocks k l, le-ltb k (r.blocks + e.count) h)
 
 module _ (N k : ℕ) where
-  tail-kept : (r : Run) (es : List Extent) → k < r.blocks → (over_extents N k r es).tail ≡ r.tail
+  tail-kept : (r : ExtentTests) (es : List Extent) → k < r.blocks → (over_extents N k r es).tail ≡ r.tail
   unfolding over_extents with_extent
   tail-kept r [] h = refl
   tail-kept r (e ∷ es) h =
-      tail-kept (with_extent N k r e) es (omega arith) ∙ sym (tail-out k r e _ refl (rw (lt-leb r.blocks k h)))
+      tail-kept (with_extent N k r e) es (omega arith) ∙ sym (tail-before k r e h)
 
-  over-tail : (r : Run) (es : List Extent) → r.blocks ≤ k → r.tail ≡ 0 → (over_extents N k r es).tail ≡ get_or (blocks_in es) (k - r.blocks) 0
+  over-tail : (r : ExtentTests) (es : List Extent) → r.blocks ≤ k → r.tail ≡ 0 → (over_extents N k r es).tail ≡ get_or (blocks_in es) (k - r.blocks) 0
   unfolding over_extents with_extent blocks_in
   over-tail r [] l z = z
   over-tail r (e ∷ es) l z = go (ltb k (r.blocks + e.count)) refl (over-tail (with_extent N k r e) es)
@@ -122,12 +115,12 @@ module _ (N k : ℕ) where
           → (over_extents N k (with_extent N k r e) es).tail ≡ get_or (up_from e.first e.count ++ blocks_in es) (k - r.blocks) 0
       go true q ih =
           tail-kept (with_extent N k r e) es (ltb-true k (r.blocks + e.count) q)
-          ∙ sym (tail-in k r e _ refl (rw (le-leb r.blocks k l, q)))
+          ∙ sym (tail-in k r e l (ltb-true k (r.blocks + e.count) q))
           ∙ sym (get_or-run e.first e.count (k - r.blocks) (blocks_in es) (omega (arith, ltb-true k (r.blocks + e.count) q)))
       go false q ih =
           let m = ltb-false k (r.blocks + e.count) q in
           let w : k - (r.blocks + e.count) ≡ k - r.blocks - e.count = omega arith in
-          ih m (sym (tail-out k r e _ refl (rw q (and-off (leb r.blocks k)))) ∙ z)
+          ih m (sym (tail-behind k r e l m) ∙ z)
           ∙ ap (λ (j : ℕ). get_or (blocks_in es) j 0) w
           ∙ sym (get_or-behind e.first e.count (k - r.blocks) (blocks_in es) (omega arith))
 
@@ -156,22 +149,22 @@ full_is v [] = refl
 full_is v (t ∷ ts) = let z : suc (length (firsts ts)) - 1 ≡ length (firsts ts) = omega arith in rw z (full-more v t ts)
 
 module _ (N k : ℕ) (v : Disk) where
-  pub nodes-run : (f : Nodes) (ts : List Extent) → (over_nodes N k v f ts).run ≡ over_extents N k f.run (below v ts)
+  pub nodes-run : (f : NodeTests) (ts : List Extent) → (over_nodes N k v f ts).run ≡ over_extents N k f.run (below v ts)
   unfolding over_nodes over_extents with_node
   nodes-run f [] = refl
   nodes-run f (t ∷ ts) = nodes-run (with_node N k v f t) ts ∙ sym (over-append N k f.run (used (slots_at v t.first)) (below v ts))
 
-  pub nodes-sound : (f : Nodes) (ts : List Extent) → (over_nodes N k v f ts).sound ≡ f.sound && all (λ b. in_data N b && slots_packed (slots_at v b)) (firsts ts)
+  pub nodes-sound : (f : NodeTests) (ts : List Extent) → (over_nodes N k v f ts).sound ≡ f.sound && all (λ b. in_data N b && slots_packed (slots_at v b)) (firsts ts)
   unfolding over_nodes with_node
   nodes-sound f [] = sym (and_right f.sound)
   nodes-sound f (t ∷ ts) = nodes-sound (with_node N k v f t) ts ∙ and_assoc f.sound _ _
 
-  pub nodes-agree : (f : Nodes) (ts : List Extent) → (over_nodes N k v f ts).agree ≡ f.agree && all (λ e. eqb e.count (counts (used (slots_at v e.first)))) ts
+  pub nodes-agree : (f : NodeTests) (ts : List Extent) → (over_nodes N k v f ts).agree ≡ f.agree && all (λ e. eqb e.count (counts (used (slots_at v e.first)))) ts
   unfolding over_nodes with_node
   nodes-agree f [] = sym (and_right f.agree)
   nodes-agree f (t ∷ ts) = nodes-agree (with_node N k v f t) ts ∙ and_assoc f.agree _ _
 
-  nodes-filled : (f : Nodes) (ts : List Extent) → (over_nodes N k v f ts).filled ≡ f.filled && full_from v f.full ts
+  nodes-filled : (f : NodeTests) (ts : List Extent) → (over_nodes N k v f ts).filled ≡ f.filled && full_from v f.full ts
   unfolding over_nodes with_node
   nodes-filled f [] = sym (and_right f.filled)
   nodes-filled f (t ∷ ts) = nodes-filled (with_node N k v f t) ts ∙ and_assoc f.filled _ _
@@ -179,17 +172,17 @@ module _ (N k : ℕ) (v : Disk) where
   pub all-filled : (ts : List Extent) → (over_nodes N k v no_nodes ts).filled ≡ level_packed v (firsts ts)
   all-filled ts = nodes-filled no_nodes ts ∙ full_is v ts
 
-  pub nodes-append : (f : Nodes) (ss ts : List Extent) → over_nodes N k v f (ss ++ ts) ≡ over_nodes N k v (over_nodes N k v f ss) ts
+  pub nodes-append : (f : NodeTests) (ss ts : List Extent) → over_nodes N k v f (ss ++ ts) ≡ over_nodes N k v (over_nodes N k v f ss) ts
   unfolding over_nodes
   nodes-append f [] ts = refl
   nodes-append f (s ∷ ss) ts = nodes-append (with_node N k v f s) ss ts
 
-  pub nodes-tops : (f : Nodes) (ts : List Extent) → (over_nodes N k v f ts).tops ≡ f.tops + length ts
+  pub nodes-tops : (f : NodeTests) (ts : List Extent) → (over_nodes N k v f ts).tops ≡ f.tops + length ts
   unfolding over_nodes with_node
   nodes-tops f [] = omega arith
   nodes-tops f (t ∷ ts) = nodes-tops (with_node N k v f t) ts ∙ omega arith
 
-  pub nodes-counts : (f : Nodes) (ts : List Extent) → (over_nodes N k v f ts).counts ≡ f.counts + counts ts
+  pub nodes-counts : (f : NodeTests) (ts : List Extent) → (over_nodes N k v f ts).counts ≡ f.counts + counts ts
   unfolding over_nodes with_node
   nodes-counts f [] = omega arith
   nodes-counts f (t ∷ ts) = nodes-counts (with_node N k v f t) ts ∙ omega arith

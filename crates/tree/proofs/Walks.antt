@@ -18,8 +18,8 @@ use Rattle.inode.specs.Walk.{slot_in}
 use Rattle.marks.specs.declared.Marks.{Marks}
 use Rattle.marks.specs.Marks.{Kept}
 use Rattle.marks.proofs.Laws.{Split, kept-start, kept_on, kept-end}
-use Rattle.tree.specs.declared.Run.{Run}
-use Rattle.tree.specs.declared.Nodes.{Nodes}
+use Rattle.tree.specs.declared.ExtentTests.{ExtentTests}
+use Rattle.tree.specs.declared.NodeTests.{NodeTests}
 use Rattle.tree.specs.Runs.{with_extent, over_extents, with_node, over_nodes, no_nodes}
 use Rattle.tree.specs.Reached.{blocks_from, tree_from}
 use Rattle.tree.proofs.Runs.{over-extents, over-blocks, nodes-run, nodes-tops, nodes-counts}
@@ -98,40 +98,32 @@ node-marked N v n e us m₂ m₁ m q a b =
 -- ---- the loop over extents
 
 -- at place p of a block X with so many slots left, all before them used, q so far: with what is left it comes to what all the slots make of r, and so do the marks
-pub record Going (N k : ℕ) (X : List ℕ) (m : Marks) (q : Run) (p left : ℕ) (m₀ : Marks) (r : Run) (slots : List Extent) (n : ℕ) : Type 0 where
+pub record Going (N k : ℕ) (X : List ℕ) (m : Marks) (q : ExtentTests) (p left : ℕ) (m₀ : Marks) (r : ExtentTests) (slots : List Extent) (n : ℕ) : Type 0 where
   pub whole : over_extents N k q (used (slots_in left (drop p X))) ≡ over_extents N k r (used slots)
   pub marks : Kept N m (blocks_from q.blocks (used (slots_in left (drop p X)))) m₀ (blocks_from r.blocks (used slots))
   pub few : q.extents + left ≤ r.extents + n
   pub small : q.blocks + 65536 * left ≤ r.blocks + 65536 * n
 
 -- what the loop leaves
-abbrev Gone : ℕ → ℕ → Marks → Run → Marks → Run → List Extent → ℕ → Type 0
+abbrev Gone : ℕ → ℕ → Marks → ExtentTests → Marks → ExtentTests → List Extent → ℕ → Type 0
 Gone N k m q m₀ r slots n =
     (q ≡ over_extents N k r (used slots)) × (q.extents ≤ r.extents + n) × (q.blocks ≤ r.blocks + 65536 * n)
     × Kept N m [] m₀ (blocks_from r.blocks (used slots))
 
 module _ (N k : ℕ) (X : List ℕ) where
-  pub going_start : (p at left n : ℕ) (m : Marks) (r : Run) → p ≡ at → left ≡ n → Going N k X m r p left m r (slots_in n (drop at X)) n
-  going_start p at left n m r e f = rw (e, f) (record {
-    whole = refl;
-    marks = kept-start N m (blocks_from r.blocks (used (slots_in n (drop at X)))) (blocks_from r.blocks (used (slots_in n (drop at X)))) refl;
-    few = omega arith;
-    small = omega arith;
-  })
-
-  module _ (m : Marks) (q : Run) (p left : ℕ) (m₀ : Marks) (r : Run) (slots : List Extent) (n : ℕ) (g : Going N k X m q p left m₀ r slots n) where
-    pub going_more : (p' left' : ℕ) (e : Extent) (u : Run) (m₁ : Marks) → p' ≡ p + 4 → left' ≡ left - 1 → 0 < left → e ≡ slot_in p X → 0 < e.count → e.count < 65536 → u ≡ with_extent N k q e
+  module _ (m : Marks) (q : ExtentTests) (p left : ℕ) (m₀ : Marks) (r : ExtentTests) (slots : List Extent) (n : ℕ) (g : Going N k X m q p left m₀ r slots n) where
+    pub going_more : (p' left' : ℕ) (e : Extent) (u : ExtentTests) (m₁ : Marks) → p' ≡ p + 4 → left' ≡ left - 1 → 0 < left → e ≡ slot_in p X → 0 < e.count → e.count < 65536 → u ≡ with_extent N k q e
         → Kept N m₁ [] m (blocks_from q.blocks (e ∷ [])) → Going N k X m₁ u p' left' m₀ r slots n
     unfolding over_extents
     going_more p' left' e u m₁ ep el l ie some c iu h =
         let es = slots_in (left - 1) (drop (p + 4) X) in
         let i : slots_in left (drop p X) ≡ e ∷ es = slots_next X p left e l ie in
         let j : used (slots_in left (drop p X)) ≡ e ∷ used es = ap used i ∙ used-first e es some in
-        let x : u.extents ≡ q.extents + 1 = ap (λ (z : Run). z.extents) iu ∙ over-extents N k q (e ∷ []) in
-        let y : u.blocks ≡ q.blocks + counts (e ∷ []) = ap (λ (z : Run). z.blocks) iu ∙ over-blocks N k q (e ∷ []) in
+        let x : u.extents ≡ q.extents + 1 = ap (λ (z : ExtentTests). z.extents) iu ∙ over-extents N k q (e ∷ []) in
+        let y : u.blocks ≡ q.blocks + counts (e ∷ []) = ap (λ (z : ExtentTests). z.blocks) iu ∙ over-blocks N k q (e ∷ []) in
         let f = g.few in let s = g.small in
         rw (ep, el) (record {
-          whole = ap (λ (z : Run). over_extents N k z (used es)) iu ∙ ap (over_extents N k q) (sym j) ∙ g.whole;
+          whole = ap (λ (z : ExtentTests). over_extents N k z (used es)) iu ∙ ap (over_extents N k q) (sym j) ∙ g.whole;
           marks = kept_on N m (blocks_from q.blocks (used (slots_in left (drop p X)))) m₀ (blocks_from r.blocks (used slots)) g.marks m₁
               (blocks_from q.blocks (e ∷ [])) (blocks_from u.blocks (used es)) (rw j (blocks-split q.blocks u.blocks (e ∷ []) (used es) y)) h;
           few = omega arith;
@@ -158,17 +150,17 @@ module _ (N k : ℕ) (X : List ℕ) where
 
 -- ---- one node
 
-module _ (N k : ℕ) (v : Disk) (f : Nodes) (e : Extent) (r : Run) (X : List ℕ) (i : X ≡ v e.first)
+module _ (N k : ℕ) (v : Disk) (f : NodeTests) (e : Extent) (r : ExtentTests) (X : List ℕ) (i : X ≡ v e.first)
     (h : r ≡ over_extents N k f.run (used (slots_in 128 (drop 0 X)))) where
   pub node-slots : slots_in 128 (drop 0 X) ≡ slots_at v e.first
   unfolding slots_at
   node-slots = ap (slots_in 128) i
 
   pub node-used : r.extents ≡ f.run.extents + length (used (slots_at v e.first))
-  node-used = ap (λ (z : Run). z.extents) h ∙ over-extents N k f.run _ ∙ ap (λ (es : List Extent). f.run.extents + length (used es)) node-slots
+  node-used = ap (λ (z : ExtentTests). z.extents) h ∙ over-extents N k f.run _ ∙ ap (λ (es : List Extent). f.run.extents + length (used es)) node-slots
 
   pub node-count : r.blocks ≡ f.run.blocks + counts (used (slots_at v e.first))
-  node-count = ap (λ (z : Run). z.blocks) h ∙ over-blocks N k f.run _ ∙ ap (λ (es : List Extent). f.run.blocks + counts (used es)) node-slots
+  node-count = ap (λ (z : ExtentTests). z.blocks) h ∙ over-blocks N k f.run _ ∙ ap (λ (es : List Extent). f.run.blocks + counts (used es)) node-slots
 
   -- of the slots themselves
   pub node-many : r.extents - f.run.extents ≡ length (used (slots_in 128 (drop 0 X)))
@@ -200,7 +192,7 @@ module _ (N k : ℕ) (v : Disk) (f : Nodes) (e : Extent) (r : Run) (X : List ℕ
 
 -- ---- the loop over nodes
 
-pub record Noding (N k : ℕ) (v : Disk) (X : List ℕ) (m : Marks) (f : Nodes) (p left : ℕ) (m₀ : Marks) (slots : List Extent) : Type 0 where
+pub record Noding (N k : ℕ) (v : Disk) (X : List ℕ) (m : Marks) (f : NodeTests) (p left : ℕ) (m₀ : Marks) (slots : List Extent) : Type 0 where
   pub whole : over_nodes N k v f (used (slots_in left (drop p X))) ≡ over_nodes N k v no_nodes (used slots)
   pub marks : Kept N m (tree_from v f.run.blocks (used (slots_in left (drop p X)))) m₀ (tree_from v 0 (used slots))
   pub few : f.run.extents + 128 * left ≤ 512
@@ -208,27 +200,12 @@ pub record Noding (N k : ℕ) (v : Disk) (X : List ℕ) (m : Marks) (f : Nodes) 
   pub tops : f.tops + left ≤ 4
   pub counts : f.counts + 65536 * left ≤ 262144
 
-abbrev NodingEnd : ℕ → ℕ → Disk → Marks → Nodes → Marks → List Extent → Type 0
+abbrev NodingEnd : ℕ → ℕ → Disk → Marks → NodeTests → Marks → List Extent → Type 0
 NodingEnd N k v m f m₀ slots = (f ≡ over_nodes N k v no_nodes (used slots)) × Kept N m [] m₀ (tree_from v 0 (used slots))
 
 module _ (N k : ℕ) (v : Disk) (X : List ℕ) where
-  pub noding-start : (p at : ℕ) (m : Marks) (f : Nodes) → p ≡ at → f ≡ no_nodes → Noding N k v X m f p 4 m (slots_in 4 (drop at X))
-  noding-start p at m f q e =
-      let x : f.run.extents ≡ 0 = ap (λ (z : Nodes). z.run.extents) e in
-      let y : f.run.blocks ≡ 0 = ap (λ (z : Nodes). z.run.blocks) e in
-      let z : f.tops ≡ 0 = ap (λ (z : Nodes). z.tops) e in
-      let w : f.counts ≡ 0 = ap (λ (z : Nodes). z.counts) e in
-      rw q (record {
-        whole = ap (λ (z : Nodes). over_nodes N k v z (used (slots_in 4 (drop at X)))) e;
-        marks = kept-start N m _ _ (ap (λ (n : ℕ). tree_from v n (used (slots_in 4 (drop at X)))) y);
-        few = omega arith;
-        small = omega arith;
-        tops = omega arith;
-        counts = omega arith;
-      })
-
-  module _ (m : Marks) (f : Nodes) (p left : ℕ) (m₀ : Marks) (slots : List Extent) (g : Noding N k v X m f p left m₀ slots) where
-    pub noding-more : (p' left' : ℕ) (e : Extent) (u : Nodes) (m₁ : Marks) → p' ≡ p + 4 → left' ≡ left - 1 → 0 < left → e ≡ slot_in p X → 0 < e.count → e.count < 65536
+  module _ (m : Marks) (f : NodeTests) (p left : ℕ) (m₀ : Marks) (slots : List Extent) (g : Noding N k v X m f p left m₀ slots) where
+    pub noding-more : (p' left' : ℕ) (e : Extent) (u : NodeTests) (m₁ : Marks) → p' ≡ p + 4 → left' ≡ left - 1 → 0 < left → e ≡ slot_in p X → 0 < e.count → e.count < 65536
         → u ≡ with_node N k v f e → u.run.extents ≤ f.run.extents + 128 → u.run.blocks ≤ f.run.blocks + 8388608
         → Kept N m₁ [] m (tree_from v f.run.blocks (e ∷ [])) → Noding N k v X m₁ u p' left' m₀ slots
     unfolding over_nodes
@@ -238,12 +215,12 @@ module _ (N k : ℕ) (v : Disk) (X : List ℕ) where
         let i : slots_in left (drop p X) ≡ e ∷ es = slots_next X p left e l ie in
         let j : used (slots_in left (drop p X)) ≡ e ∷ used es = ap used i ∙ used-first e es some in
         let y : u.run.blocks ≡ f.run.blocks + counts (below v A) =
-        ap (λ (z : Nodes). z.run.blocks) iu ∙ ap (λ (z : Run). z.blocks) (nodes-run N k v f A) ∙ over-blocks N k f.run (below v A) in
-        let w : u.tops ≡ f.tops + length A = ap (λ (z : Nodes). z.tops) iu ∙ nodes-tops N k v f A in
-        let x : u.counts ≡ f.counts + counts A = ap (λ (z : Nodes). z.counts) iu ∙ nodes-counts N k v f A in
+        ap (λ (z : NodeTests). z.run.blocks) iu ∙ ap (λ (z : ExtentTests). z.blocks) (nodes-run N k v f A) ∙ over-blocks N k f.run (below v A) in
+        let w : u.tops ≡ f.tops + length A = ap (λ (z : NodeTests). z.tops) iu ∙ nodes-tops N k v f A in
+        let x : u.counts ≡ f.counts + counts A = ap (λ (z : NodeTests). z.counts) iu ∙ nodes-counts N k v f A in
         let gf = g.few in let gs = g.small in let gt = g.tops in let gc = g.counts in
         rw (ep, el) (record {
-          whole = ap (λ (z : Nodes). over_nodes N k v z (used es)) iu ∙ ap (over_nodes N k v f) (sym j) ∙ g.whole;
+          whole = ap (λ (z : NodeTests). over_nodes N k v z (used es)) iu ∙ ap (over_nodes N k v f) (sym j) ∙ g.whole;
           marks = kept_on N m (tree_from v f.run.blocks (used (slots_in left (drop p X)))) m₀ (tree_from v 0 (used slots)) g.marks m₁
               (tree_from v f.run.blocks A) (tree_from v u.run.blocks (used es)) (rw j (tree-split v f.run.blocks u.run.blocks A (used es) y)) h;
           few = omega arith;

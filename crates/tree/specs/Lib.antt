@@ -1,3 +1,2 @@
 pub mod Runs
 pub mod Reached
-pub mod Device

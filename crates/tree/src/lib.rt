@@ -5,23 +5,22 @@ ghost use Rattle.std.specs.Prelude.{◌≡◌, [], ◌∷◌, ◌+◌, ◌*◌, 
 ghost use Rattle.spec.specs.Bytes.{exactly};
 ghost use Rattle.spec.specs.Inode.{slots_in, used};
 ghost use Rattle.spec.specs.Sound.{slots_packed, extent_inside};
-ghost use Rattle.inode.specs.Walk.{slot_in};
 ghost use Rattle.marks.specs.Marks.{Kept};
-ghost use Rattle.tree.specs.Device.{disk_of};
+ghost use Rattle.marks.specs.Device.{disk_of};
 ghost use Rattle.tree.specs.Runs.{tail_at, with_extent, over_extents, flat, with_node, over_nodes, no_run, no_nodes};
 ghost use Rattle.tree.specs.Reached.{blocks_from, tree_from};
 
-mod tested;
+mod read;
 
-use block::{in_data, load2};
-use marks::Marks;
-use spec::{DiskBlock, Extent, FileBlock, Limits};
-pub use tested::Device;
+use block::in_data;
+use marks::{Device, Marks};
+use read::Slot;
+use spec::{DiskBlock, FileBlock, Limits};
 
 // What a walk over the extents of a file has found so far: whether they all lie within 42 to N-1, and apart; where the last one ends;
 // how many there are, and blocks in them; and the file's last block, where its size ends within it.
 #[derive(Clone, Copy)]
-pub struct Run {
+pub struct ExtentTests {
     pub inside: bool,
     pub apart: bool,
     pub end: u32,
@@ -33,8 +32,8 @@ pub struct Run {
 // And over its nodes: whether they all lie within 42 to N-1 and are packed, count as the slots above tell, and are full but for the last;
 // how many slots there are above, and blocks that they count.
 #[derive(Clone, Copy)]
-pub struct Nodes {
-    pub run: Run,
+pub struct NodeTests {
+    pub run: ExtentTests,
     pub sound: bool,
     pub agree: bool,
     pub filled: bool,
@@ -50,17 +49,6 @@ pub struct Walk<'a> {
     pub last: FileBlock,
 }
 
-// The slot at a byte of a block.
-fn slot_in(block: &[u8], at: usize) -> Extent
-    requires { at + 4 ≤ 512 }
-    ensures { (result ≡ slot_in at (exactly 512 block.now)) × (result.first < 65536) × (result.count < 65536) }
-{
-    Extent {
-        first: load2(block, at),
-        count: load2(block, at + 2),
-    }
-}
-
 // S4. "the others are zero": of n slots, the first so many of which are the used ones.
 pub fn are_packed(block: &[u8], at: usize, n: usize, many: usize) -> bool
     requires { (at + 4 * n ≤ 512) × (many ≡ length (used (slots_in n (drop at (exactly 512 block.now))))) }
@@ -68,7 +56,7 @@ pub fn are_packed(block: &[u8], at: usize, n: usize, many: usize) -> bool
 {
     let mut unused = true;
     for j in many..n {
-        let e = slot_in(block, at + Limits::SLOT_SIZE * j);
+        let e = Slot::in_block(block, at + Limits::SLOT_SIZE * j).extent;
         unused &= (e.first == 0) & (e.count == 0);
     }
     unused
@@ -78,18 +66,15 @@ pub fn are_packed(block: &[u8], at: usize, n: usize, many: usize) -> bool
 fn to_mark(count: u32, before: usize) -> u32
     ensures { result ≡ min count (2048 - before) }
 {
-    if Limits::MAX_FILE_BLOCKS <= before {
-        return 0;
-    }
-    count.min((Limits::MAX_FILE_BLOCKS - before) as u32)
+    count.min(Limits::MAX_FILE_BLOCKS.saturating_sub(before) as u32)
 }
 
-impl Run {
+impl ExtentTests {
     // No extent yet.
-    pub fn none() -> Run
+    pub fn none() -> ExtentTests
         ensures { result ≡ no_run }
     {
-        Run {
+        ExtentTests {
             inside: true,
             apart: true,
             end: 0,
@@ -100,25 +85,24 @@ impl Run {
     }
 
     // Block k of the file, if it lies in this extent; else what was found before.
-    fn tail_at(self, k: FileBlock, e: Extent) -> DiskBlock
-        requires { (e.first < 65536) × (e.count < 65536) × (self.blocks < 4294967296) }
-        ensures { result.0 ≡ tail_at k.0 self e }
+    fn tail_at(self, k: FileBlock, slot: Slot) -> DiskBlock
+        ensures { result.0 ≡ tail_at k.0 self slot.extent }
     {
+        let e = slot.extent;
         let from = self.blocks;
-        let count = e.count as usize;
-        if (from <= k.0) & (k.0 < from + count) {
+        if from <= k.0 && k.0 - from < e.count as usize {
             return DiskBlock(e.first + (k.0 - from) as u32);
         }
         DiskBlock(self.tail)
     }
 }
 
-impl Nodes {
+impl NodeTests {
     // Of a file whose extents stand in its record: no node.
-    pub fn flat(run: Run) -> Nodes
+    pub fn flat(run: ExtentTests) -> NodeTests
         ensures { result ≡ flat run }
     {
-        Nodes {
+        NodeTests {
             run,
             sound: true,
             agree: true,
@@ -132,23 +116,24 @@ impl Nodes {
 
 impl<'a> Walk<'a> {
     // "Extents stay within 42 to N-1."
-    fn holds(&self, e: Extent) -> bool
-        requires { (e.first < 65536) × (0 < e.count) × (e.count < 65536) }
-        ensures { result ≡ extent_inside self.now.device.blocks e }
+    fn is_inside(&self, slot: Slot) -> bool
+        ensures { result ≡ extent_inside self.now.device.blocks slot.extent }
     {
-        let last = e.first + (e.count - 1);
+        let e = slot.extent;
+        let last = e.first + e.count.saturating_sub(1);
         let n = self.device.blocks;
         in_data(n, DiskBlock(e.first)) & in_data(n, DiskBlock(last))
     }
 
     // One more extent.
-    fn with_extent(&self, r: Run, e: Extent) -> Run
-        requires { (e.first < 65536) × (0 < e.count) × (e.count < 65536) × (r.blocks < 4294967296) × (r.extents < 65536) }
-        ensures { result ≡ with_extent self.now.device.blocks self.now.last.0 r e }
+    fn with_extent(&self, r: ExtentTests, slot: Slot) -> ExtentTests
+        requires { (r.blocks < 4294967296) × (r.extents < 65536) }
+        ensures { result ≡ with_extent self.now.device.blocks self.now.last.0 r slot.extent }
     {
-        let inside = self.holds(e);
-        let tail = r.tail_at(self.last, e);
-        Run {
+        let e = slot.extent;
+        let inside = self.is_inside(slot);
+        let tail = r.tail_at(self.last, slot);
+        ExtentTests {
             inside: r.inside & inside,
             apart: r.apart & !((0 < r.extents) & (e.first == r.end)),
             end: e.first + e.count,
@@ -159,17 +144,26 @@ impl<'a> Walk<'a> {
     }
 
     // One more extent, its blocks marked.
-    fn take_extent(&self, marks: &mut Marks, r: Run, e: Extent) -> Run
-        requires { (e.first < 65536) × (0 < e.count) × (e.count < 65536) × (r.blocks < 4294967296) × (r.extents < 65536) }
-        ensures { (result ≡ with_extent self.now.device.blocks self.now.last.0 r e) × Kept self.now.device.blocks marks.new [] marks.old (blocks_from r.blocks (e ∷ [])) }
+    fn test_extent(&self, marks: &mut Marks, r: ExtentTests, slot: Slot) -> ExtentTests
+        requires { (r.blocks < 4294967296) × (r.extents < 65536) }
+        ensures { (result ≡ with_extent self.now.device.blocks self.now.last.0 r slot.extent)
+            × Kept self.now.device.blocks marks.new [] marks.old (blocks_from r.blocks (slot.extent ∷ [])) }
     {
+        let e = slot.extent;
         let count = to_mark(e.count, r.blocks);
-        marks.mark_run(self.device.blocks, DiskBlock(e.first), count);
-        self.with_extent(r, e)
+        marks.mark_run(&self.device, DiskBlock(e.first), count);
+        self.with_extent(r, slot)
     }
 
     // The used ones of n slots as further extents, their blocks marked.
-    pub fn extents_over(&self, marks: &mut Marks, block: &[u8], at: usize, n: usize, r: Run) -> Run
+    pub fn extents_over(
+        &self,
+        marks: &mut Marks,
+        block: &[u8],
+        at: usize,
+        n: usize,
+        r: ExtentTests,
+    ) -> ExtentTests
         requires { (at + 4 * n ≤ 512) × (r.extents ≤ 512) × (r.blocks ≤ 33554432) }
         ensures { (result ≡ over_extents self.now.device.blocks self.now.last.0 r (used (slots_in n (drop at (exactly 512 block.now)))))
             × (result.extents ≤ r.extents + n) × (result.blocks ≤ r.blocks + 65536 * n)
@@ -177,32 +171,33 @@ impl<'a> Walk<'a> {
     {
         let mut q = r;
         for j in 0..n {
-            let e = slot_in(block, at + Limits::SLOT_SIZE * j);
-            if e.count == 0 {
+            let slot = Slot::in_block(block, at + Limits::SLOT_SIZE * j);
+            if slot.extent.count == 0 {
                 return q;
             }
-            q = self.take_extent(marks, q, e);
+            q = self.test_extent(marks, q, slot);
         }
         q
     }
 
     // One more node, which a slot names, it and the blocks below it marked.
-    fn take_node(&self, marks: &mut Marks, f: Nodes, e: Extent) -> Nodes
-        requires { (e.count < 65536) × (f.run.extents ≤ 384) × (f.run.blocks ≤ 25165824) × (f.tops ≤ 3) × (f.counts ≤ 196608) }
-        ensures { (result ≡ with_node self.now.device.blocks self.now.last.0 (disk_of self.now.device) f e)
+    fn test_node(&self, marks: &mut Marks, f: NodeTests, slot: Slot) -> NodeTests
+        requires { (f.run.extents ≤ 384) × (f.run.blocks ≤ 25165824) × (f.tops ≤ 3) × (f.counts ≤ 196608) }
+        ensures { (result ≡ with_node self.now.device.blocks self.now.last.0 (disk_of self.now.device) f slot.extent)
             × (result.run.extents ≤ f.run.extents + 128) × (result.run.blocks ≤ f.run.blocks + 8388608)
-            × Kept self.now.device.blocks marks.new [] marks.old (tree_from (disk_of self.now.device) f.run.blocks (e ∷ [])) }
+            × Kept self.now.device.blocks marks.new [] marks.old (tree_from (disk_of self.now.device) f.run.blocks (slot.extent ∷ [])) }
     {
+        let e = slot.extent;
         let old = f.run;
         let b = DiskBlock(e.first);
-        marks.mark(self.device.blocks, b);
+        marks.mark(&self.device, b);
         let node = self.device.block_at(b);
         let r = self.extents_over(marks, node, 0, Limits::SLOTS_PER_NODE, old);
         let many = r.extents - old.extents;
         let packed = are_packed(node, 0, Limits::SLOTS_PER_NODE, many);
         let inside = in_data(self.device.blocks, b);
         let count = r.blocks - old.blocks;
-        Nodes {
+        NodeTests {
             run: r,
             sound: f.sound & (inside & packed),
             agree: f.agree & (e.count as usize == count),
@@ -214,18 +209,18 @@ impl<'a> Walk<'a> {
     }
 
     // The nodes that the used ones of a record's four slots name, they and the blocks below them marked.
-    pub fn nodes_over(&self, marks: &mut Marks, table: &[u8], at: usize) -> Nodes
+    pub fn nodes_over(&self, marks: &mut Marks, table: &[u8], at: usize) -> NodeTests
         requires { (at + 16 ≤ 512) }
         ensures { (result ≡ over_nodes self.now.device.blocks self.now.last.0 (disk_of self.now.device) no_nodes (used (slots_in 4 (drop at (exactly 512 table.now)))))
             × Kept self.now.device.blocks marks.new [] marks.old (tree_from (disk_of self.now.device) 0 (used (slots_in 4 (drop at (exactly 512 table.now))))) }
     {
-        let mut f = Nodes::flat(Run::none());
+        let mut f = NodeTests::flat(ExtentTests::none());
         for j in 0..Limits::SLOTS_PER_INODE {
-            let e = slot_in(table, at + Limits::SLOT_SIZE * j);
-            if e.count == 0 {
+            let slot = Slot::in_block(table, at + Limits::SLOT_SIZE * j);
+            if slot.extent.count == 0 {
                 return f;
             }
-            f = self.take_node(marks, f, e);
+            f = self.test_node(marks, f, slot);
         }
         f
     }

@@ -25,8 +25,8 @@ use Rattle.runs.specs.declared.ExtentList.{ExtentList}
 use Rattle.alloc.specs.Draft.{resized_at, result_with, Drafted}
 
 -- an error passed on
-pub err-is : (t : Returned ℕ Refusal) (P : Refusal → Type 0) (e : Refusal) → IsErrAnd t P → ((r : Refusal) → P r → r ≡ e) → t ≡ Err e
-err-is (Ok n) P e h k = elim h [ ]
+pub err-is : (t : Returned (Unit {0}) Refusal) (P : Refusal → Type 0) (e : Refusal) → IsErrAnd t P → ((r : Refusal) → P r → r ≡ e) → t ≡ Err e
+err-is (Ok u) P e h k = elim h [ ]
 err-is (Err r) P e h k = let z : r ≡ e = k r h in cc
 
 -- a plan of the working copy that a session sees, for the blocks of a size

@@ -1,14 +1,12 @@
 -- Laws of a call that stages the record's block, or nothing. Assumes nothing.
 use Prim.Native.Nat.{ℕ, ◌<◌, ◌≤◌}
-use mathlib.Core.Path.{◌≡◌, refl, sym, ap, subst, ◌∙◌}
+use mathlib.Core.Path.{◌≡◌, refl, sym, ap, ◌∙◌}
 use mathlib.Core.List.{List, [], ◌∷◌}
 use mathlib.Core.Option.{Option, none, some}
 use native.Mathlib.Omega.{arith}
 use borrow.Author.Tests.{le-leb, lt-leb}
-use lib.ListN.{length, take, length-take, length-append}
+use lib.ListN.{length, length-append}
 use Rattle.spec.specs.Bytes.{place}
-use Rattle.spec.specs.Disk.{Disk}
-use Rattle.spec.specs.declared.Phase.{Phase}
 use Rattle.spec.specs.declared.Session.{Session}
 use Rattle.spec.specs.Session.{staged_in}
 use Rattle.spec.specs.Inode.{block_of_inode}
@@ -16,8 +14,8 @@ use Rattle.spec.specs.Answers.{done, refused}
 use Rattle.spec.specs.Transaction.{State, view, state_of, BlockStore, put, Staged, stage, staged_of, with_staging, ascending}
 use Rattle.spec.specs.Calls.{Outcome, left, outcome, settle, staging}
 use Rattle.lists.specs.Places.{place-lt}
-use Rattle.transaction.specs.Places.{spot, blocks_with, session_of, view_in}
-use Rattle.transaction.proofs.Laws.{stage_is, staged-parts, view_of}
+use Rattle.transaction.specs.Places.{spot, blocks_with}
+use Rattle.transaction.proofs.Laws.{stage_is}
 use Rattle.content.specs.Content.{with_record}
 use Rattle.change.proofs.Staging.{fits-done, fits_not}
 use Rattle.update.specs.Records.{Differs, record_stores}
@@ -57,7 +55,7 @@ module _ (s : Session) (device work : List ℕ) (i : ℕ) (bytes : List ℕ) (fe
   many : length (stage (staged_of before) new).blocks ≡ length (blocks_with (staged_in s) (block_of_inode i))
   many = ap (λ (t : Staged). length t.blocks) (stage_is s device work (block_of_inode i) (with_record i bytes (view before (block_of_inode i))))
 
-  record-staged : spot (staged_in s) (block_of_inode i) < 32 → (q : Session) (left-work : List ℕ) → state_of q device left-work ≡ with_staging before (stage (staged_of before) new)
+  pub record-staged : spot (staged_in s) (block_of_inode i) < 32 → (q : Session) (left-work : List ℕ) → state_of q device left-work ≡ with_staging before (stage (staged_of before) new)
       → left q device left-work done ≡ told (record_stores (view before) i bytes)
   unfolding ascending
   record-staged l q w eq =
@@ -65,32 +63,8 @@ module _ (s : Session) (device work : List ℕ) (i : ℕ) (bytes : List ℕ) (fe
       (le-leb (length (stage (staged_of before) new).blocks) 32 (omega (arith, many, with-few s (block_of_inode i) few l))) eq
       ∙ ap told (sym one)
 
-  record-full : 32 ≤ spot (staged_in s) (block_of_inode i) → left s device work (refused 18 []) ≡ told (record_stores (view before) i bytes)
+  pub record-full : 32 ≤ spot (staged_in s) (block_of_inode i) → left s device work (refused 18 []) ≡ told (record_stores (view before) i bytes)
   unfolding ascending
   record-full l =
       fits_not before (new ∷ []) _ refl (lt-leb (length (stage (staged_of before) new).blocks) 32 (omega (arith, many, with-many s (block_of_inode i) few l)))
       ∙ ap told (sym one)
-
--- the same of every session with these cells
-module _ (cells : List ℕ) (count : ℕ) (h : length cells ≡ 32) (device work : List ℕ) (i : ℕ) (bytes : List ℕ) (d : Differs (view_in (take count cells) device work) i bytes) where
-  abbrev at : ℕ → Phase → State
-  at N p = state_of (session_of N p cells count) device work
-
-  abbrev outcome_in : ℕ → Phase → Outcome
-  outcome_in N p = settle (outcome (at N p)) (staging (at N p) (record_stores (view (at N p)) i bytes))
-
-  few-in : (N : ℕ) (p : Phase) → length (staged_in (session_of N p cells count)) ≤ 32
-  few-in N p = omega (arith, ap length (staged-parts cells count N p), length-take count cells, h)
-
-  differs-in : (N : ℕ) (p : Phase) → Differs (view (at N p)) i bytes
-  differs-in N p = subst (λ (v : Disk). Differs v i bytes) (view_of (session_of N p cells count) device work (take count cells) (staged-parts cells count N p)) d
-
-  pub cells-full : 32 ≤ spot (take count cells) (block_of_inode i) → (N : ℕ) (p : Phase) → left (session_of N p cells count) device work (refused 18 []) ≡ outcome_in N p
-  unfolding staged_in
-  cells-full k N p = record-full (session_of N p cells count) device work i bytes (few-in N p) (differs-in N p) k
-
-  pub cells-staged : spot (take count cells) (block_of_inode i) < 32 → (N : ℕ) (p : Phase) (u : Session) (left-work : List ℕ)
-      → state_of u device left-work ≡ with_staging (at N p) (stage (staged_of (at N p)) (put (block_of_inode i) (with_record i bytes (view (at N p) (block_of_inode i)))))
-      → left u device left-work done ≡ outcome_in N p
-  unfolding staged_in
-  cells-staged k N p u w z = record-staged (session_of N p cells count) device work i bytes (few-in N p) (differs-in N p) k u w z

@@ -1,6 +1,6 @@
 -- Records as the changing calls make them. Assumes nothing.
 use Prim.Native.Nat.{ℕ, ◌-◌, ◌<◌, ◌≤◌, max}
-use mathlib.Core.Path.{◌≡◌, refl, sym, ap, subst, ◌∙◌}
+use mathlib.Core.Path.{◌≡◌, refl, sym, ap, ◌∙◌}
 use mathlib.Core.Bool.{Bool, true, false, true≢false}
 use mathlib.Core.List.{List, [], ◌++◌}
 use mathlib.Core.Option.{none}
@@ -11,10 +11,8 @@ use Rattle.spec.specs.Bytes.{exactly, part, same}
 use Rattle.spec.specs.Disk.{Disk}
 use Rattle.spec.specs.Inode.{Inode, inode_of, inode_at, name_at, inode_with, bytes_of_inode, inode_bytes, block_of_inode, place_of_inode, find}
 use Rattle.spec.specs.declared.Extent.{Extent}
-use Rattle.spec.specs.declared.Phase.{Phase}
+use Rattle.spec.specs.declared.Session.{Session}
 use Rattle.spec.specs.Transaction.{view, state_of}
-use Rattle.transaction.specs.Places.{session_of, view_in}
-use Rattle.transaction.proofs.Laws.{staged-parts, view_of}
 use Rattle.inode.proofs.Laws.{view-length}
 use Rattle.lists.specs.Lowest.{lowest-none}
 use Rattle.block.proofs.Laws.{same_self, same_true}
@@ -81,14 +79,12 @@ module _ (v : Disk) (i : ℕ) where
             let q : name ≡ name_at v i = sym laid-name ∙ ap (part at 8) (same_true (with_record i bytes (v (block_of_inode i))) (v (block_of_inode i)) e) ∙ name-was in
             absurd (true≢false (sym (ap (same (name_at v i)) q ∙ same_self (name_at v i)) ∙ h))
 
--- a record that gets a name which no file has differs from what it was, in any session with these cells
-pub named-anew : (cells : List ℕ) (many blocks : ℕ) (phase : Phase) (device work : List ℕ) (i : ℕ) (name bytes : List ℕ) → length bytes ≤ 32 → length name ≡ 8 → take 8 bytes ≡ name
-    → find (view (state_of (session_of blocks phase cells many) device work)) name ≡ none → i < 128 → Differs (view_in (take many cells) device work) i bytes
-named-anew cells many blocks phase device work i name bytes few l t free low =
-    let s = session_of blocks phase cells many in
+-- a record that gets a name which no file has differs from what it was
+pub named-anew : (s : Session) (device work : List ℕ) (i : ℕ) (name bytes : List ℕ) → length bytes ≤ 32 → length name ≡ 8 → take 8 bytes ≡ name
+    → find (view (state_of s device work)) name ≡ none → i < 128 → Differs (view (state_of s device work)) i bytes
+named-anew s device work i name bytes few l t free low =
     let v = view (state_of s device work) in
-    subst (λ (v : Disk). Differs v i bytes) (sym (view_of s device work (take many cells) (staged-parts cells many blocks phase)))
-    (differs v i name bytes (view-length s device work _) few l t (free-name v i name free low))
+    differs v i name bytes (view-length s device work _) few l t (free-name v i name free low)
 
 -- name and size as the record of the working copy tells them
 module _ (v : Disk) (i : ℕ) (block : List ℕ) where

@@ -2,49 +2,40 @@
 #![tactic(auto)]
 
 ghost use Rattle.std.specs.Prelude.{◌≡◌, ℕ, ◌+◌, ◌<◌, ◌≤◌, length, take};
-ghost use Rattle.spec.specs.declared.Phase.{Phase};
 ghost use Rattle.spec.specs.Answers.{done_of};
 ghost use Rattle.spec.specs.Transaction.{state_of, view};
 ghost use Rattle.spec.specs.Calls.{left, outcome, settle, staging, rewrite, create, remove, rename, write, set_size};
-ghost use Rattle.transaction.specs.Places.{session_of, view_in};
-ghost use Rattle.checks.specs.Checks.{in_use, changed_of};
+ghost use Rattle.transaction.specs.LentSessions.{state_lent, Kept, Held};
 ghost use Rattle.update.specs.Records.{Differs, new_record, record_stores};
 
 use alloc::draft_of;
 use block::copy_of;
 use change::{Plan, apply, stage_record};
-use checks::finished;
 use content::{Rewrite, record_bytes};
-use inode::{blocks_for, inode_block, name_of, size_of, table_block};
+use inode::{InodeNumber, blocks_for, inode_block, name_of, size_of, table_block};
 use lookup::{look_up, look_up_new, look_up_pair, look_up_sized};
 use runs::ExtentList;
-use spec::{Answered, ByteOffset, DiskBlock, Limits, Phase, Refusal, Session};
-use transaction::{Volume, WorkingCopy, spot, staged_in};
+use spec::{Answered, ByteOffset, DiskBlock, Limits, Refusal, Session};
+use transaction::{LentSession, Staging};
 
-// Each public call stands in two forms: of a session in its parts, so that the C interface lends the caller's cells and copies none, and by value, which
-// calls the first.
+// Each public call stands in two forms: of a session lent in its parts, so that the C interface lends the caller's cells and copies none, and by value,
+// which calls the first. The five by value repeat the same lines around that call: one function over them would take it as a closure and state its promise
+// for any call, while these state theirs in the words of the specification.
 
-// The first bytes of record i changed to others than they were, and nothing else: 18. Of every session with these cells.
-fn change_record(
-    device: &[u8],
-    work: &mut [u8],
-    cells: &mut [u32; Limits::LOG_LENGTH],
-    many: usize,
-    i: usize,
-    bytes: &[u8],
-) -> Result<usize, Refusal>
-    requires { (i < 128) × (length work.old ≡ 16384) × (length cells.old ≡ 32) × (length bytes.now ≤ 32)
-        × Differs (view_in (take many cells.old) device.now work.old) i bytes.now }
-    ensures { (N : ℕ) (p : Phase) → left (session_of N p cells.new (in_use many result)) device.now work.new (changed_of result)
-        ≡ settle (outcome (state_of (session_of N p cells.old many) device.now work.old))
-        (staging (state_of (session_of N p cells.old many) device.now work.old)
-        (record_stores (view (state_of (session_of N p cells.old many) device.now work.old)) i bytes.now)) }
+// The first bytes of record i changed to others than they were, and nothing else: 18.
+fn change_record(images: &mut Staging, i: InodeNumber, bytes: &[u8]) -> Result<(), Refusal>
+    requires { (length bytes.now ≤ 32) × Differs (view (state_lent images.old.lent.now)) i.n bytes.now }
+    ensures parts { Held images.old images.new }
+    ensures state { outcome (state_lent images.new.lent.now) (done_of result)
+        ≡ settle (outcome (state_lent images.old.lent.now)) (staging (state_lent images.old.lent.now)
+        (record_stores (view (state_lent images.old.lent.now)) i.n bytes.now)) }
 {
-    let k = spot(&cells[0..staged_in(many)], table_block(i));
+    let k = images.lent.spot(table_block(i));
     if Limits::LOG_LENGTH <= k {
         return Err(Refusal::TooManyStaged);
     }
-    Ok(stage_record(device, work, cells, many, i, k, bytes))
+    stage_record(images, i, k, bytes);
+    Ok(())
 }
 
 // The record of a new file: its name, then zeros.
@@ -57,23 +48,14 @@ fn new_record(name: &[u8]) -> [u8; Limits::INODE_SIZE]
     q
 }
 
-// "Create takes the lowest empty record." Of a session in its parts.
-pub fn create_in(
-    device: &[u8],
-    work: &mut [u8],
-    blocks: usize,
-    phase: Phase,
-    cells: &mut [u32; Limits::LOG_LENGTH],
-    many: usize,
-    name: &[u8],
-) -> Result<usize, Refusal>
-    ensures { left (session_of blocks phase cells.new (in_use many result)) device.now work.new (changed_of result)
-        ≡ create (state_of (session_of blocks phase cells.old many) device.now work.old) name.now }
+// "Create takes the lowest empty record." Of a lent session.
+pub fn create_in(lent: &mut LentSession, name: &[u8]) -> Result<(), Refusal>
+    ensures parts { Kept lent.old lent.new }
+    ensures state { outcome (state_lent lent.new) (done_of result) ≡ create (state_lent lent.old) name.now }
 {
-    let volume = Volume::with_cells(device, work, blocks, phase, cells, many);
-    let i = look_up_new(&volume, name)?;
+    let i = look_up_new(&lent.volume(), name)?;
     let record = new_record(name);
-    change_record(device, work, cells, many, i, &record)
+    change_record(&mut Staging { lent }, i, &record)
 }
 
 // The same of a session by value.
@@ -87,27 +69,22 @@ pub fn create(device: &[u8], work: &mut [u8], session: Session, name: &[u8]) -> 
         staged: mut cells,
         count,
     } = session;
-    let c = create_in(device, work, blocks, phase, &mut cells, count, name);
-    finished(blocks, phase, cells, count, c)
+    let mut lent = LentSession::new(device, work, blocks, phase, &mut cells, count);
+    let answer = create_in(&mut lent, name);
+    let after = lent.count;
+    Answered {
+        session: Session::with_cells(blocks, phase, cells, after),
+        answer,
+    }
 }
 
 // "Rename keeps the record in its place."
-pub fn rename_in(
-    device: &[u8],
-    work: &mut [u8],
-    blocks: usize,
-    phase: Phase,
-    cells: &mut [u32; Limits::LOG_LENGTH],
-    many: usize,
-    name: &[u8],
-    new: &[u8],
-) -> Result<usize, Refusal>
-    ensures { left (session_of blocks phase cells.new (in_use many result)) device.now work.new (changed_of result)
-        ≡ rename (state_of (session_of blocks phase cells.old many) device.now work.old) name.now new.now }
+pub fn rename_in(lent: &mut LentSession, name: &[u8], new: &[u8]) -> Result<(), Refusal>
+    ensures parts { Kept lent.old lent.new }
+    ensures state { outcome (state_lent lent.new) (done_of result) ≡ rename (state_lent lent.old) name.now new.now }
 {
-    let volume = Volume::with_cells(device, work, blocks, phase, cells, many);
-    let i = look_up_pair(&volume, name, new)?;
-    change_record(device, work, cells, many, i, new)
+    let i = look_up_pair(&lent.volume(), name, new)?;
+    change_record(&mut Staging { lent }, i, new)
 }
 
 // The same of a session by value.
@@ -127,24 +104,22 @@ pub fn rename(
         staged: mut cells,
         count,
     } = session;
-    let c = rename_in(device, work, blocks, phase, &mut cells, count, name, new);
-    finished(blocks, phase, cells, count, c)
+    let mut lent = LentSession::new(device, work, blocks, phase, &mut cells, count);
+    let answer = rename_in(&mut lent, name, new);
+    let after = lent.count;
+    Answered {
+        session: Session::with_cells(blocks, phase, cells, after),
+        answer,
+    }
 }
 
-// "Remove .. give back every data and extent block": the record is emptied.
-pub fn remove_in(
-    device: &[u8],
-    work: &mut [u8],
-    blocks: usize,
-    phase: Phase,
-    cells: &mut [u32; Limits::LOG_LENGTH],
-    many: usize,
-    name: &[u8],
-) -> Result<usize, Refusal>
-    ensures { left (session_of blocks phase cells.new (in_use many result)) device.now work.new (changed_of result)
-        ≡ remove (state_of (session_of blocks phase cells.old many) device.now work.old) name.now }
+// "Remove .. give back every data and extent block": the record is emptied. The Plan is written out here and in `resize`: a function for it would take its
+// five parts and ask what its ghost field asks.
+pub fn remove_in(lent: &mut LentSession, name: &[u8]) -> Result<(), Refusal>
+    ensures parts { Kept lent.old lent.new }
+    ensures state { outcome (state_lent lent.new) (done_of result) ≡ remove (state_lent lent.old) name.now }
 {
-    let volume = Volume::with_cells(device, work, blocks, phase, cells, many);
+    let volume = lent.volume();
     let i = look_up(&volume, name)?;
     let mut table = copy_of(volume.copy.block(DiskBlock(Limits::BITMAP_BLOCK)));
     let mut extents = ExtentList::empty();
@@ -164,7 +139,7 @@ pub fn remove_in(
         inode: [0u8; Limits::INODE_SIZE],
         data,
     };
-    apply(device, work, cells, many, i, &plan)
+    apply(&mut Staging { lent }, i, &plan)
 }
 
 // The same of a session by value.
@@ -178,38 +153,36 @@ pub fn remove(device: &[u8], work: &mut [u8], session: Session, name: &[u8]) -> 
         staged: mut cells,
         count,
     } = session;
-    let c = remove_in(device, work, blocks, phase, &mut cells, count, name);
-    finished(blocks, phase, cells, count, c)
+    let mut lent = LentSession::new(device, work, blocks, phase, &mut cells, count);
+    let answer = remove_in(&mut lent, name);
+    let after = lent.count;
+    Answered {
+        session: Session::with_cells(blocks, phase, cells, after),
+        answer,
+    }
 }
 
-// 16, 17 and 18: record i becomes a file of this size, with bytes laid over it at x. Of every session with these cells.
+// 16, 17 and 18: record i becomes a file of this size, with bytes laid over it at x.
 fn resize(
-    device: &[u8],
-    work: &mut [u8],
-    cells: &mut [u32; Limits::LOG_LENGTH],
-    many: usize,
-    i: usize,
+    images: &mut Staging,
+    i: InodeNumber,
     size: usize,
     x: ByteOffset,
     bytes: &[u8],
-) -> Result<usize, Refusal>
-    requires { (i < 128) × (length work.old ≡ 16384) × (length cells.old ≡ 32) × (x.0 + length bytes.now ≤ 1048576) × (size < 4294967296) }
-    ensures { (N : ℕ) (p : Phase) → left (session_of N p cells.new (in_use many result)) device.now work.new (changed_of result)
-        ≡ settle (outcome (state_of (session_of N p cells.old many) device.now work.old)) (rewrite (state_of (session_of N p cells.old many) device.now work.old) i size x.0 bytes.now) }
+) -> Result<(), Refusal>
+    requires { (x.0 + length bytes.now ≤ 1048576) × (size < 4294967296) }
+    ensures parts { Held images.old images.new }
+    ensures state { outcome (state_lent images.new.lent.now) (done_of result)
+        ≡ settle (outcome (state_lent images.old.lent.now)) (rewrite (state_lent images.old.lent.now) i.n size x.0 bytes.now) }
 {
-    let n = staged_in(many);
-    let copy = WorkingCopy {
-        device,
-        work: &*work,
-        staged: &cells[0..n],
-    };
+    let copy = images.lent.copy();
     let mut table = copy_of(copy.block(DiskBlock(Limits::BITMAP_BLOCK)));
     let mut extents = ExtentList::empty();
     let wanted = blocks_for(size);
     let d = draft_of(&mut table, &mut extents, &copy, i, wanted)?;
     let records = inode_block(&copy, i);
-    let old = size_of(records, i) as usize;
-    let inode = record_bytes(name_of(records, i), size, &extents, d.nodes);
+    let old = size_of(records, i.n) as usize;
+    let inode = record_bytes(name_of(records, i.n), size, &extents, d.nodes);
     let data = Rewrite {
         held: d.held,
         old,
@@ -225,30 +198,25 @@ fn resize(
         inode,
         data,
     };
-    apply(device, work, cells, many, i, &plan)
+    apply(images, i, &plan)
 }
 
 // "the size becomes the larger of the old size and x plus the data length, a gap is zeros"
 pub fn write_in(
-    device: &[u8],
-    work: &mut [u8],
-    blocks: usize,
-    phase: Phase,
-    cells: &mut [u32; Limits::LOG_LENGTH],
-    many: usize,
+    lent: &mut LentSession,
     name: &[u8],
     x: ByteOffset,
     bytes: &[u8],
-) -> Result<usize, Refusal>
-    ensures { left (session_of blocks phase cells.new (in_use many result)) device.now work.new (changed_of result)
-        ≡ write (state_of (session_of blocks phase cells.old many) device.now work.old) name.now x.0 bytes.now }
+) -> Result<(), Refusal>
+    ensures parts { Kept lent.old lent.new }
+    ensures state { outcome (state_lent lent.new) (done_of result) ≡ write (state_lent lent.old) name.now x.0 bytes.now }
 {
-    let volume = Volume::with_cells(device, work, blocks, phase, cells, many);
+    let volume = lent.volume();
     let n = bytes.len();
     let i = look_up_sized(&volume, name, x, n)?;
-    let old = size_of(inode_block(&volume.copy, i), i) as usize;
+    let old = size_of(inode_block(&volume.copy, i), i.n) as usize;
     let size = old.max(x.0 + n);
-    resize(device, work, cells, many, i, size, x, bytes)
+    resize(&mut Staging { lent }, i, size, x, bytes)
 }
 
 // The same of a session by value.
@@ -269,30 +237,23 @@ pub fn write(
         staged: mut cells,
         count,
     } = session;
-    let c = write_in(
-        device, work, blocks, phase, &mut cells, count, name, x, bytes,
-    );
-    finished(blocks, phase, cells, count, c)
+    let mut lent = LentSession::new(device, work, blocks, phase, &mut cells, count);
+    let answer = write_in(&mut lent, name, x, bytes);
+    let after = lent.count;
+    Answered {
+        session: Session::with_cells(blocks, phase, cells, after),
+        answer,
+    }
 }
 
 // Cut, or lengthened by zeros.
-pub fn set_size_in(
-    device: &[u8],
-    work: &mut [u8],
-    blocks: usize,
-    phase: Phase,
-    cells: &mut [u32; Limits::LOG_LENGTH],
-    many: usize,
-    name: &[u8],
-    size: usize,
-) -> Result<usize, Refusal>
-    ensures { left (session_of blocks phase cells.new (in_use many result)) device.now work.new (changed_of result)
-        ≡ set_size (state_of (session_of blocks phase cells.old many) device.now work.old) name.now size }
+pub fn set_size_in(lent: &mut LentSession, name: &[u8], size: usize) -> Result<(), Refusal>
+    ensures parts { Kept lent.old lent.new }
+    ensures state { outcome (state_lent lent.new) (done_of result) ≡ set_size (state_lent lent.old) name.now size }
 {
-    let volume = Volume::with_cells(device, work, blocks, phase, cells, many);
     let x = ByteOffset(0);
-    let i = look_up_sized(&volume, name, x, size)?;
-    resize(device, work, cells, many, i, size, x, &name[0..0])
+    let i = look_up_sized(&lent.volume(), name, x, size)?;
+    resize(&mut Staging { lent }, i, size, x, &name[0..0])
 }
 
 // The same of a session by value.
@@ -312,6 +273,11 @@ pub fn set_size(
         staged: mut cells,
         count,
     } = session;
-    let c = set_size_in(device, work, blocks, phase, &mut cells, count, name, size);
-    finished(blocks, phase, cells, count, c)
+    let mut lent = LentSession::new(device, work, blocks, phase, &mut cells, count);
+    let answer = set_size_in(&mut lent, name, size);
+    let after = lent.count;
+    Answered {
+        session: Session::with_cells(blocks, phase, cells, after),
+        answer,
+    }
 }

@@ -4,7 +4,7 @@
 ghost use Rattle.std.specs.Prelude.{◌≡◌};
 ghost use Rattle.spec.specs.Bytes.{all_zero};
 
-// Whether all bytes are zero. No byte ends the loop early, so it compiles to vector code.
+// Whether all bytes are zero. No byte ends the loop early, so no byte is a branch.
 #[tactic(auto, using(crate::proofs::Laws::zero_more))]
 pub fn is_zero(bytes: &[u8]) -> bool
     ensures { result ≡ all_zero bytes.now }

@@ -1,26 +1,26 @@
-use mathlib.Core.Path.{refl, ◌∙◌}
-use Rattle.alloc.proofs.Laws.{walk-piece, walk-done, pass-start, pass-more, mark-none, back_none, back_more, back_end}
+use mathlib.Core.Path.{ap, ◌∙◌}
+use Rattle.spec.specs.Inode.{blocks_in}
+use Rattle.extents.specs.declared.pieces.Pieces.{Pieces}
+use Rattle.extents.specs.Pieces.{pieces_left}
+use Rattle.transaction.specs.Volumes.{working}
+use Rattle.alloc.proofs.Laws.{pass-start, pass-more, mark-none, back_none, back_more, back_end}
 use Rattle.alloc.proofs.give_back.Goals as goal
 
 pub returns-then-kept-from : goal.returns-then-kept-from
-returns-then-kept-from c = back_none _ _ _ c.requires.1 c.if-kept-from.true _
+returns-then-kept-from c = back_none _ _ _ c.requires c.if-kept-from.true _
 
 pub loop-e-init : goal.loop-e-init
 loop-e-init c =
-    let b = c.begin-walk.ensures in
-    record { file = b.file; in_hand = b.in_hand; passed = pass-start _ _ _ _ _ _ refl b.starts; given = mark-none 0 _ }
+    record {
+      passed = pass-start (working c.args.copy.now) c.args.i.n c.args.from.0 2048 _ (ap (λ (p : Pieces). blocks_in (pieces_left p)) c.into_iter-e-iterator.ensures.into_iter_gives ∙ c.of-e-items.ensures);
+      given = mark-none 0 _;
+    }
 
 pub loop-e-preserved : goal.loop-e-preserved
 loop-e-preserved c =
     let i = c.loop-e.invariant in
-    let g = c.in-Some.ensures in
-    let p = walk-piece _ _ _ i.file _ _ g in
-    record {
-      file = g.file ∙ i.file;
-      in_hand = g.in_hand;
-      passed = pass-more _ _ _ _ _ i.passed _ _ p;
-      given = back_more _ _ _ _ _ i.passed _ _ p _ _ _ i.given c.release_run.ensures;
-    }
+    let p = c.in-Some.ensures.steps in
+    record { passed = pass-more _ _ _ i.passed _ _ p.rest; given = back_more _ _ _ i.passed _ _ p.rest _ _ _ i.given c.release_run.ensures }
 
 pub returns : goal.returns
-returns c = back_end _ _ c.args.i c.args.from.0 _ _ c.loop-e.invariant.passed (walk-done _ _ c.loop-e.walk c.loop-e.invariant.file c.in_default.ensures) c.args.t.now _ c.loop-e.invariant.given
+returns c = back_end _ c.args.i.n c.args.from.0 _ _ c.loop-e.invariant.passed c.in-None.ensures.steps.0 c.args.t.now _ c.loop-e.invariant.given

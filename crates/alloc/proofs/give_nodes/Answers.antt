@@ -1,12 +1,8 @@
-use mathlib.Core.Path.{◌≡◌, refl}
-use native.Mathlib.Omega.{arith}
+use mathlib.Core.Path.{◌≡◌}
 use borrow.Author.Rules.{rules}
 use lib.ListN.{length}
 use Rattle.alloc.proofs.Laws.{leave-more, leave-end}
 use Rattle.alloc.proofs.give_nodes.Goals as goal
-
-pub loop-k-init : goal.loop-k-init
-loop-k-init c = record { low = omega arith; bits = refl }
 
 pub loop-k-preserved : goal.loop-k-preserved
 loop-k-preserved c =

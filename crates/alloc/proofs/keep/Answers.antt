@@ -1,19 +1,29 @@
-use mathlib.Core.Path.{refl, ◌∙◌}
+use Prim.Native.Nat.{◌-◌}
+use mathlib.Core.Path.{ap, ◌∙◌}
 use native.Mathlib.Omega.{arith}
+use Rattle.spec.specs.Inode.{blocks_in}
+use Rattle.extents.specs.declared.pieces.Pieces.{Pieces}
+use Rattle.extents.specs.Pieces.{pieces_left}
 use Rattle.runs.proofs.Laws.{holds-none}
-use Rattle.alloc.proofs.Laws.{walk-piece, walk-done, keep-start, keep-more, keep-end}
+use Rattle.alloc.proofs.Laws.{pass-few, keep-start, keep-more, keep-end}
 use Rattle.alloc.proofs.keep.Goals as goal
 
 pub loop-e-init : goal.loop-e-init
 loop-e-init c =
-    let b = c.begin-walk.ensures in
-    record { file = b.file; in_hand = b.in_hand; keeping = keep-start _ _ _ _ _ _ refl b.starts (holds-none _ (omega (arith, c.requires.1.len))) c.requires.1 }
+    keep-start _ _ _ _ _ (ap (λ (p : Pieces). blocks_in (pieces_left p)) c.into_iter-e-iterator.ensures.into_iter_gives ∙ c.of-e-items.ensures)
+    (holds-none _ (omega (arith, c.requires.len))) c.requires
+
+pub push-requires : goal.push-requires
+push-requires c =
+    let k = c.loop-e.invariant in
+    let s = k.small in
+    let f = pass-few _ _ _ k.passed _ _ c.in-Some.ensures.steps.rest in
+    (omega (arith, s.count (c.loop-e.extents.len - 1), f), omega (arith, s.len, f), omega (arith, s.next, f))
 
 pub loop-e-preserved : goal.loop-e-preserved
 loop-e-preserved c =
-    let i = c.loop-e.invariant in
-    let g = c.in-Some.ensures in
-    record { file = g.file ∙ i.file; in_hand = g.in_hand; keeping = keep-more _ _ _ _ _ _ i.keeping _ _ (walk-piece _ _ _ i.file _ _ g) _ c.push.ensures }
+    let p = c.in-Some.ensures.steps in
+    keep-more _ _ _ _ c.loop-e.invariant _ _ p.rest p.some c.in-Some.e.first _ c.push.ensures
 
 pub returns : goal.returns
-returns c = keep-end _ _ _ _ _ _ _ c.loop-e.invariant.keeping (walk-done _ _ c.loop-e.walk c.loop-e.invariant.file c.in_default.ensures)
+returns c = keep-end _ _ _ _ _ c.loop-e.invariant c.in-None.ensures.steps.0

@@ -7,9 +7,6 @@ use Rattle.alloc.proofs.take_data.Goals as goal
 pub loop-k-init : goal.loop-k-init
 loop-k-init c = take-start _ _ _
 
-pub pick-b-requires : goal.pick-b-requires
-pick-b-requires c = (c.loop-k.invariant.below, omega (arith, c.loop-k.invariant.free, c.loop-k-test.true, c.requires.2))
-
 pub push-requires : goal.push-requires
 push-requires c =
     let l = c.loop-k in

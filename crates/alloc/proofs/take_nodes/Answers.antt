@@ -1,17 +1,10 @@
 use borrow.Author.Rules.{rules}
 use mathlib.Core.Path.{refl}
-use native.Mathlib.Omega.{arith}
-use Rattle.alloc.proofs.Laws.{fill_start, fill_more, fill-room, fill_end}
+use Rattle.alloc.proofs.Laws.{fill_start, fill_more, fill_end}
 use Rattle.alloc.proofs.take_nodes.Goals as goal
 
 pub loop-k-init : goal.loop-k-init
 loop-k-init c = fill_start _ _ _ _ (search rules)
-
-pub pick-requires : goal.pick-requires
-pick-requires c = (refl, fill-room _ _ _ _ _ _ _ c.loop-k.invariant c.loop-k-test.true c.requires.2)
-
-pub bounds-node-k : goal.bounds-node-k
-bounds-node-k c = omega (arith, c.loop-k-test.true, c.requires.0, c.loop-k.invariant.full)
 
 pub loop-k-preserved : goal.loop-k-preserved
 loop-k-preserved c = fill_more _ _ _ _ _ _ _ c.loop-k.invariant c.loop-k-test.true c.requires.0 _ _ c.pick.ensures

@@ -3,7 +3,6 @@ use Rattle.journal.specs.Entries.{behind}
 use Rattle.transaction.specs.Places.{session_of}
 use Rattle.lookup.proofs.Laws.{seen-cells}
 use Rattle.mirror.specs.Mirror.{advanced_of}
-use Rattle.capi.proofs.Laws.{few}
 use Rattle.capi.proofs.Kept.{advance-still}
 use Rattle.capi.proofs.Ends.{lent-session, ends_of}
 use Rattle.capi.proofs.purse_advance_v.Goals as goal

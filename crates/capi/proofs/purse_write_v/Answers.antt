@@ -1,3 +1,4 @@
+use borrow.Author.Rules.{rules}
 use Rattle.spec.specs.Transaction.{State}
 use Rattle.spec.specs.Calls.{write}
 use Rattle.capi.proofs.Kept.{write-still}
@@ -7,4 +8,5 @@ use Rattle.capi.proofs.purse_write_v.Goals as goal
 pub returns : goal.returns
 returns c =
     let a = c.args in
-    ends-in (λ (s : State). write s a.name.now a.x a.bytes.now) (λ (s : State). write-still s a.name.now a.x a.bytes.now) a.numbers.now a.staged.now a.device.now a.work.now _ c.of-s.ensures _ _ _ _ c.write_in-c.ensures _ _ c.changed.ensures
+    ends-in (λ (s : State). write s a.name.now a.x a.bytes.now) (λ (s : State). write-still s a.name.now a.x a.bytes.now) a.numbers.now a.staged.now a.device.now a.work.now _ c.of-s.ensures
+    c.new-session.result c.write_in-answer.new.lent c.new-session.ensures.parts c.write_in-answer.ensures.parts _ c.write_in-answer.ensures.state _ _ c.changed.ensures _ _ (search rules) (search rules)

@@ -1,4 +1,4 @@
-use Rattle.std.proofs.Common.{◌≡◌, ap, ◌∙◌}
+use Rattle.std.proofs.Common.{ap, ◌∙◌}
 use Rattle.spec.specs.Answers.{is_refused, done_of}
 use Rattle.mirror.specs.Mirror.{numbers_of}
 use Rattle.capi.proofs.Ends.{refused-told, stays, becomes}

@@ -1,5 +1,3 @@
-use Rattle.std.proofs.Common.{◌≡◌, ◌-◌, length, take, min, arith}
-use Rattle.cardfile.specs.Cards.{before}
 use Rattle.cardfile.proofs.Laws.{line-seen}
 use Rattle.cardfile.proofs.line_length.Goals as goal
 

@@ -11,12 +11,12 @@ returns-then-j-plan c =
     let v = working a.copy.now in
     let p = a.plan.now in
     let d = change_of p in
-    λ i h. held-lists v i d p.data.x.0 p.data.bytes.now a.j c.requires.2.0 _ c.requires.2.1 _ _ (omega (arith, c.if-j-plan.true))
-    (c.add_block.ensures _ _ c.requires.1 (node-told v i d p.data.x.0 p.data.bytes.now _ a.j _ c.node_content-new.ensures) h)
+    λ i h. held-lists v i d p.data.x.0 p.data.bytes.now a.j c.requires.0 _ c.requires.1 _ _ (omega (arith, c.if-j-plan.true))
+    (c.add_block.ensures _ _ (node-told v i d p.data.x.0 p.data.bytes.now _ a.j _ c.node_content-new.ensures) h)
 
 pub returns : goal.returns
 returns c =
     let a = c.args in
     let v = working a.copy.now in
     let p = a.plan.now in
-    λ i h. new-lists v i (change_of p) p.data.x.0 p.data.bytes.now a.j c.requires.2.0 _ c.requires.2.1 _ _ (omega (arith, c.if-j-plan.false)) (c.insert.ensures _ _ c.requires.1 h)
+    λ i h. new-lists v i (change_of p) p.data.x.0 p.data.bytes.now a.j c.requires.0 _ c.requires.1 _ _ (omega (arith, c.if-j-plan.false)) (c.insert.ensures _ _ h)

@@ -5,9 +5,9 @@ use Rattle.change.proofs.add_place.Goals as goal
 pub returns-then-is_staged : goal.returns-then-is_staged
 returns-then-is_staged c =
     let p = c.args.plan.now in
-    λ v i h. place-taken v i (change_of p) p.data.x.0 p.data.bytes.now c.args.p.0 c.args.b.0 c.requires.1.0 c.requires.1.1 _ c.is_staged.ensures _ _ c.if-is_staged.true (c.insert.ensures _ _ c.requires.0 h)
+    λ v i h. place-taken v i (change_of p) p.data.x.0 p.data.bytes.now c.args.p.0 c.args.b.0 c.requires.0 c.requires.1 _ c.is_staged.ensures _ _ c.if-is_staged.true (c.insert.ensures _ _ h)
 
 pub returns : goal.returns
 returns c =
     let p = c.args.plan.now in
-    λ v i h. place-left v i (change_of p) p.data.x.0 p.data.bytes.now c.args.p.0 c.args.b.0 c.requires.1.0 c.requires.1.1 _ c.is_staged.ensures _ c.if-is_staged.false h
+    λ v i h. place-left v i (change_of p) p.data.x.0 p.data.bytes.now c.args.p.0 c.args.b.0 c.requires.0 c.requires.1 _ c.is_staged.ensures _ c.if-is_staged.false h

@@ -11,12 +11,7 @@ add_place-requires c =
     let low = c.loop-p.invariant.low in
     let z : c.args.at.0 + j ≡ c.loop-p.p - 1 = omega arith in
     let b : IsBlock (change_of c.args.plan.now) (c.args.at.0 + j) (c.args.first.0 + j) = c.requires.4 j (omega arith) in
-    (omega arith, rw z at b)
-
-pub loop-p-preserved : goal.loop-p-preserved
-loop-p-preserved c =
-    let z : c.loop-p.p ≡ c.loop-p.p - 1 + 1 = omega (arith, c.loop-p-test.true) in
-    record { low = omega arith; lists = λ v i l. c.in_ok-add_place.ensures v i (data-cast v i (change_of c.args.plan.now) _ _ _ _ _ z (c.loop-p.invariant.lists v i l)) }
+    rw z at b
 
 pub returns-in_err-add_place : goal.returns-in_err-add_place
 returns-in_err-add_place c =
@@ -24,8 +19,3 @@ returns-in_err-add_place c =
     let z : c.loop-p.p ≡ c.loop-p.p - 1 + 1 = omega (arith, c.loop-p-test.true) in
     λ v i l. let e = c.in_err-add_place.ensures v i (data-cast v i (change_of p) _ _ _ _ _ z (c.loop-p.invariant.lists v i l)) in
     told-err _ _ _ _ _ _ c.from_residual.ensures.1 (λ r q. q) e.0 (data-below v i (change_of p) p.data.x.0 p.data.bytes.now c.args.from (c.loop-p.p - 1) (omega arith) e.1)
-
-pub returns : goal.returns
-returns c =
-    let z : c.loop-p.p ≡ c.args.from = omega arith in
-    λ v i l. data-cast v i (change_of c.args.plan.now) _ _ _ _ _ z (c.loop-p.invariant.lists v i l)

@@ -1,18 +1,27 @@
-use mathlib.Core.Path.{refl}
+use mathlib.Core.Path.{refl, ap, ◌∙◌}
+use mathlib.Core.List.{List}
+use Prim.Native.Nat.{ℕ}
 use native.Mathlib.Omega.{arith}
 use borrow.Author.Rules.{rules}
+use Rattle.spec.specs.declared.Session.{Session}
+use Rattle.spec.specs.Session.{staged_in, with_staged}
+use Rattle.spec.specs.Transaction.{state_of}
+use Rattle.transaction.specs.Places.{blocks_with}
+use Rattle.transaction.specs.LentSessions.{session_lent}
 use Rattle.change.specs.Contents.{change_of, content_of}
-use Rattle.change.proofs.Images.{spot-cells, image-cells}
+use Rattle.change.proofs.Images.{image-staged}
 use Rattle.change.proofs.stage_block.Goals as goal
 
-pub returns : goal.returns
-returns c =
-    let a = c.args in
-    let p = a.plan.now in
-    let b = a.entry.block.0 in
-    let n = c.staged_in.ensures.0 in
-    let at = spot-cells a.cells.now a.many _ c.requires.1 n b _ c.spot-k.ensures in (
-      λ N q. image-cells a.cells.now a.many _ c.requires.1 n b a.device.now a.work.now _ _ at (omega (arith, at, c.requires.2, c.requires.0, c.ready_image.auto.work))
-          (content_of a.i (change_of p) p.data.x.0 p.data.bytes.now a.entry.content) (c.ready_image.ensures _ _ _ _ refl) _ _ c.with_block.ensures.0 _ c.edit_block.ensures (search rules) N q,
-      c.with_block.ensures.1,
-    )
+-- `l` is the session as it was, `r` with the image ready, `a` with the block among the staged ones.
+pub returns-clause-state : goal.returns-clause-state
+returns-clause-state c =
+    let p = c.args.plan.now in
+    let b = c.args.planned.block.0 in
+    let l = c.args.images.now.lent.now in
+    let r = c.ready_image.new.images in
+    let a = c.add.new.self in
+    ap (λ (d : List ℕ). state_of (session_lent a) d a.work.now) (c.add.ensures.parts.device ∙ c.ready_image.ensures.parts.parts.device)
+    ∙ image-staged (session_lent l) (session_lent a) l.device.now l.work.now r.lent.now.work.now b _
+    (content_of c.args.i.n (change_of p) p.data.x.0 p.data.bytes.now c.args.planned.content) _ c.spot-k.ensures (omega (arith, r.whole, c.spot-k.ensures, c.requires))
+    (c.ready_image.ensures.bytes c.args.i.n (change_of p) p.data.x.0 p.data.bytes.now refl) c.edit_image.ensures (search rules) _ c.add.ensures.bytes
+    (c.add.ensures.numbers ∙ ap (λ (s : Session). with_staged s (blocks_with (staged_in s) b)) c.ready_image.ensures.numbers)

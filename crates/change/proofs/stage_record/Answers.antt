@@ -1,21 +1,28 @@
+use mathlib.Core.Path.{◌≡◌, refl, sym, ap, ◌∙◌}
+use mathlib.Core.List.{List}
 use Prim.Native.Nat.{ℕ}
-use mathlib.Core.Path.{◌≡◌, sym, ap, ◌∙◌}
 use native.Mathlib.Omega.{arith}
 use borrow.Author.Rules.{rules}
-use lib.ListN.{take}
+use Rattle.spec.specs.declared.Session.{Session}
+use Rattle.spec.specs.Session.{staged_in, with_staged}
 use Rattle.spec.specs.Transaction.{state_of, with_staging, stage, staged_of, put, view}
-use Rattle.transaction.specs.Places.{spot, session_of}
+use Rattle.transaction.specs.Places.{spot, blocks_with}
+use Rattle.transaction.specs.LentSessions.{session_lent, state_lent, numbers_lent}
 use Rattle.content.specs.Content.{with_record}
-use Rattle.change.proofs.Images.{spot-lent, ready-loaded, image-cells}
+use Rattle.change.proofs.Images.{ready-loaded, image-staged}
 use Rattle.change.proofs.stage_record.Goals as goal
 
-pub returns : goal.returns
-returns c = λ N p.
-    let a = c.args in
-    let st = state_of (session_of N p a.cells.now a.many) a.device.now a.work.now in
-    let n = c.staged_in.ensures.0 in
-    let k : a.k ≡ spot (take a.many a.cells.now) c.table_block-b.result.0 = c.requires.4 ∙ ap (spot (take a.many a.cells.now)) (sym c.table_block-b.ensures) in
-    let fits = c.requires.5 in
-    image-cells a.cells.now a.many _ c.requires.1 n _ a.device.now a.work.now _ _ k (omega (arith, fits, c.requires.0, c.load_image.auto.work)) (with_record a.i a.new.now)
-    (ready-loaded _ _ _ _ _ _ (spot-lent _ _ _ c.requires.1 n _ _ k) (omega (arith, fits, c.requires.0, c.load_image.auto.work)) c.load_image.ensures) _ _ c.with_block.ensures.0 _ c.lay_record.ensures (search rules) N p
-    ∙ ap (λ (b : ℕ). with_staging st (stage (staged_of st) (put b (with_record a.i a.new.now (view st b))))) c.table_block-b.ensures
+-- `l` is the session as it was, `r` with the image loaded, `a` with the block among the staged ones.
+pub returns-clause-state : goal.returns-clause-state
+returns-clause-state c =
+    let b = c.table_block-b.result.0 in
+    let l = c.args.images.now.lent.now in
+    let r = c.load.new.self in
+    let a = c.add.new.self in
+    let st = state_lent l in
+    let k : c.args.k ≡ spot (numbers_lent l) b = c.requires.1 ∙ ap (spot (numbers_lent l)) (sym c.table_block-b.ensures) in
+    ap (λ (d : List ℕ). state_of (session_lent a) d a.work.now) (c.add.ensures.parts.device ∙ c.load.ensures.parts.parts.device)
+    ∙ image-staged (session_lent l) (session_lent a) l.device.now l.work.now r.lent.now.work.now b _ (with_record c.args.i.n c.args.new.now) _ k (omega (arith, r.whole, c.requires.2))
+    (ready-loaded _ _ _ _ _ _ refl (omega (arith, r.whole, c.requires.2)) c.load.ensures.bytes) c.lay_record.ensures (search rules) _ c.add.ensures.bytes
+    (c.add.ensures.numbers ∙ ap (λ (s : Session). with_staged s (blocks_with (staged_in s) b)) c.load.ensures.numbers)
+    ∙ ap (λ (b : ℕ). with_staging st (stage (staged_of st) (put b (with_record c.args.i.n c.args.new.now (view st b))))) c.table_block-b.ensures

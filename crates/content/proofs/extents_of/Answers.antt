@@ -1,9 +1,12 @@
 use mathlib.Core.Path.{ap, ◌∙◌}
-use Prim.Native.Nat.{ℕ, ◌*◌, min}
+use mathlib.Core.List.{List}
+use Prim.Native.Nat.{◌*◌}
+use lib.ListN.{take, drop}
+use Rattle.spec.specs.declared.Extent.{Extent}
 use Rattle.content.proofs.Laws.{extents-of}
-use Rattle.runs.specs.Runs.{listed}
 use Rattle.content.proofs.extents_of.Goals as goal
 
 pub returns : goal.returns
-unfolding listed
-returns c = extents-of c.args.extents.now.cells c.args.extents.now.len (128 * c.args.j) c.min-n.result (c.min-n.ensures ∙ ap (λ (n : ℕ). min n 128) c.saturating_sub.ensures)
+returns c =
+    extents-of c.listed-all.result.now (128 * c.args.j) _ _ c.min-from.ensures c.min-end.ensures
+    ∙ ap (λ (xs : List Extent). take 128 (drop (128 * c.args.j) xs)) c.listed-all.ensures.0

@@ -8,8 +8,8 @@ returns-in_err-length c =
     let e : c.from_residual.result ≡ Err c.in_err-length.field-0.0 = search rules in
     rw e (none-converted a.wanted a.text.now a.out.now _ refl _ c.in_err-length.ensures)
 
-pub put_lines-requires : goal.put_lines-requires
-put_lines-requires c = let a = c.args in is-output a.wanted a.text.now a.out.now _ refl _ c.in_ok-length.ensures
+pub put_cards-requires : goal.put_cards-requires
+put_cards-requires c = let a = c.args in is-output a.wanted a.text.now a.out.now _ refl _ c.in_ok-length.ensures
 
 pub returns : goal.returns
-returns c = let a = c.args in all-converted a.wanted a.text.now a.out.now _ refl _ c.in_ok-length.ensures _ _ c.put_lines.ensures
+returns c = let a = c.args in all-converted a.wanted a.text.now a.out.now _ refl _ c.in_ok-length.ensures _ _ c.put_cards.ensures

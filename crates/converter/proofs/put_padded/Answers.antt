@@ -1,5 +1,5 @@
 use native.Mathlib.Omega.{arith}
-use Rattle.converter.proofs.Writes.{padding-none, unit-some, padding-more, padding-end}
+use Rattle.converter.proofs.Writes.{unit-some, padding-more, padding-end}
 use Rattle.converter.proofs.put_padded.Goals as goal
 
 pub nonzero_div-n : goal.nonzero_div-n

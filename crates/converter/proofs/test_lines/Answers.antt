@@ -1,37 +1,69 @@
-use Rattle.std.proofs.Common.{◌≡◌, sym, ap, Err, rules, arith}
+use Rattle.std.proofs.Common.{◌≡◌, ◌+◌, sym, ap, ◌∙◌, Err, rules, arith}
+use Rattle.std.specs.Iterator.Adapters.{enumerate_source, enumerate_count}
 use Rattle.cardfile.specs.Lines.{letter_of}
-use Rattle.converter.proofs.Passes.{tested-none, tested-fault, tested-card, tested-end, tested-same, tested-more, bytes_fit, digits-fit, apart}
+use Rattle.converter.proofs.Passes.{tested-none, tested-fault, tested-card, tested-end, tested-same, tested-more, seen, numbered, bytes_fit, digits-fit, apart}
 use Rattle.converter.proofs.test_lines.Goals as goal
 
-pub loop-found-init : goal.loop-found-init
-loop-found-init c = tested-none _ _ _
+pub loop-k-init : goal.loop-k-init
+loop-k-init c =
+    let g = c.into_iter-k-iterator.ensures.into_iter_gives in
+    let n = c.enumerate-k-items.ensures in
+    let s = ap (λ i. enumerate_source i) g ∙ n.source in
+    let k : enumerate_count c.into_iter-k-iterator.result ≡ 0 = ap (λ i. enumerate_count i) g ∙ n.count in
+    rw (s, k, c.of.ensures.1) (c.of.ensures.0, tested-none _ _ _)
 
-pub returns-in_err-found : goal.returns-in_err-found
-returns-in_err-found c =
-    let e : c.from_residual.result ≡ Err c.in_err-found.field-0.0 = search rules in
-    rw e (tested-fault _ _ _ _ _ _ c.loop-found.invariant _ c.in_err-found.ensures)
+pub returns-in_err-card : goal.returns-in_err-card
+returns-in_err-card c =
+    let i = c.loop-k.invariant in
+    let l = enumerate_source c.loop-k.k-iterator in
+    let p = c.in-Some.ensures.steps in
+    let e : c.from_residual.result ≡ Err c.in_err-card.field-0.0 = search rules in
+    rw e (tested-fault _ _ _ _ _ _ (numbered _ _ _ _ _ _ i.1 _ p.1) _ (seen _ l _ _ i.0 p.0) _ c.in_err-card.ensures)
 
 pub returns-then-eq : goal.returns-then-eq
 returns-then-eq c =
-    let e : c.in-Some.found.card.spelling ≡ c.args.wanted = search rules in
-    tested-same _ _ _ _ _ _ c.loop-found.invariant _ _ (tested-card _ _ _ _ _ _ c.loop-found.invariant _ c.in_ok-found.ensures _ c.in-Some.is) (ap letter_of (sym e))
+    let i = c.loop-k.invariant in
+    let l = enumerate_source c.loop-k.k-iterator in
+    let p = c.in-Some.ensures.steps in
+    let t = numbered _ _ _ _ _ _ i.1 _ p.1 in
+    let s = tested-card _ _ _ _ _ _ t _ (seen _ l _ _ i.0 p.0) _ p.0.behind _ c.in_ok-card.ensures in
+    let e : c.in_ok-card.card.spelling ≡ c.args.wanted = search rules in
+    tested-same _ _ _ _ _ _ t _ _ s (ap letter_of (sym e))
 
 pub spelt_size-requires : goal.spelt_size-requires
-spelt_size-requires c = bytes_fit _ _ _ _ _ (tested-card _ _ _ _ _ _ c.loop-found.invariant _ c.in_ok-found.ensures _ c.in-Some.is)
+spelt_size-requires c =
+    let i = c.loop-k.invariant in
+    let l = enumerate_source c.loop-k.k-iterator in
+    let p = c.in-Some.ensures.steps in
+    bytes_fit _ _ _ _ _ (tested-card _ _ _ _ _ _ (numbered _ _ _ _ _ _ i.1 _ p.1) _ (seen _ l _ _ i.0 p.0) _ p.0.behind _ c.in_ok-card.ensures)
 
 pub overflow_add-size : goal.overflow_add-size
-overflow_add-size c = omega (arith, digits-fit _ _ _ _ _ (tested-card _ _ _ _ _ _ c.loop-found.invariant _ c.in_ok-found.ensures _ c.in-Some.is))
+overflow_add-size c =
+    let i = c.loop-k.invariant in
+    let l = enumerate_source c.loop-k.k-iterator in
+    let p = c.in-Some.ensures.steps in
+    omega (arith, digits-fit _ _ _ _ _ (tested-card _ _ _ _ _ _ (numbered _ _ _ _ _ _ i.1 _ p.1) _ (seen _ l _ _ i.0 p.0) _ p.0.behind _ c.in_ok-card.ensures))
 
-pub overflow_add-size-in-Some : goal.overflow_add-size-in-Some
-overflow_add-size-in-Some c = omega (arith, digits-fit _ _ _ _ _ (tested-card _ _ _ _ _ _ c.loop-found.invariant _ c.in_ok-found.ensures _ c.in-Some.is))
+pub overflow_add-size-in-loop-k : goal.overflow_add-size-in-loop-k
+overflow_add-size-in-loop-k c =
+    let i = c.loop-k.invariant in
+    let l = enumerate_source c.loop-k.k-iterator in
+    let p = c.in-Some.ensures.steps in
+    omega (arith, digits-fit _ _ _ _ _ (tested-card _ _ _ _ _ _ (numbered _ _ _ _ _ _ i.1 _ p.1) _ (seen _ l _ _ i.0 p.0) _ p.0.behind _ c.in_ok-card.ensures))
 
-pub loop-found-smaller : goal.loop-found-smaller
-loop-found-smaller c = let s = tested-card _ _ _ _ _ _ c.loop-found.invariant _ c.in_ok-found.ensures _ c.in-Some.is in omega (arith, s.later, s.stood.inside)
-
-pub loop-found-preserved : goal.loop-found-preserved
-loop-found-preserved c =
-    let o : c.in-Some.found.card.spelling ≡ c.args.wanted → ⊥ = search rules in
-    tested-more _ _ _ _ _ _ c.loop-found.invariant _ _ (tested-card _ _ _ _ _ _ c.loop-found.invariant _ c.in_ok-found.ensures _ c.in-Some.is) (apart _ _ o) _ c.spelt_size.ensures.0 _ c.count_more-room.ensures.more c.count_more-room.ensures.fits
+pub loop-k-preserved : goal.loop-k-preserved
+loop-k-preserved c =
+    let i = c.loop-k.invariant in
+    let l = enumerate_source c.loop-k.k-iterator in
+    let p = c.in-Some.ensures.steps in
+    let t = numbered _ _ _ _ _ _ i.1 _ p.1 in
+    let s = tested-card _ _ _ _ _ _ t _ (seen _ l _ _ i.0 p.0) _ p.0.behind _ c.in_ok-card.ensures in
+    let o : c.in_ok-card.card.spelling ≡ c.args.wanted → ⊥ = search rules in
+    let n : enumerate_count c.next.new.self ≡ c.in-Some.k + 1 = omega arith in
+    (p.0.text ∙ i.0, rw n (tested-more _ _ _ _ _ _ t _ _ s (apart _ _ o) _ c.spelt_size.ensures.0 _ c.count_more-room.ensures.more c.count_more-room.ensures.fits))
 
 pub returns : goal.returns
-returns c = tested-end _ _ _ _ _ _ c.loop-found.invariant _ c.in_ok-found.ensures c.in_default.is _ c.ok_or.ensures.value
+returns c =
+    let i = c.loop-k.invariant in
+    let l = enumerate_source c.loop-k.k-iterator in
+    tested-end _ _ _ _ _ _ i.1 (seen _ l _ _ i.0 c.in-None.ensures.steps.0) _ c.ok_or.ensures.value

@@ -1,13 +1,12 @@
-use Prim.Native.Nat.{ℕ, ◌≤◌}
+use Prim.Native.Nat.{ℕ}
 use mathlib.Core.Path.{◌≡◌}
-use lib.ListN.{length}
 use Rattle.spec.specs.Bytes.{exactly}
 use Rattle.spec.specs.Disk.{Disk}
 use Rattle.extents.specs.Stretches.{Passes, moved}
 use Rattle.extents.proofs.pass_slots.Given as goal
 
 abbrev pub invariant-loop-e : goal.invariant-loop-e
-invariant-loop-e l = (length l.block ≤ 512) × ((v : Disk) (tb : ℕ) → exactly 512 l.block ≡ v l.scan.at.block → Passes v tb l.scan (moved l.scan l.at l.left l.skip))
+invariant-loop-e l = (v : Disk) (tb : ℕ) → exactly 512 l.block.bytes.now ≡ v l.scan.at.block → Passes v tb l.scan (moved l.scan l.at l.left l.skip)
 
 abbrev pub decreases-loop-e : goal.decreases-loop-e
 decreases-loop-e l = l.left

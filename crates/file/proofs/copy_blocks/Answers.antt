@@ -32,17 +32,17 @@ loop-done-preserved c =
       omega arith,
       omega arith,
       λ count h.
-          let l = stretch-length v w a.run.first count a.skip len h in
-          landed-step (take len (drop a.skip (run_bytes v a.run.first count))) a.to.now to _ done n (done + n - done) (c.loop-done.invariant.4 count h)
+          let l = stretch-length v w a.run.extent.first count a.skip len h in
+          landed-step (take len (drop a.skip (run_bytes v a.run.extent.first count))) a.to.now to _ done n (done + n - done) (c.loop-done.invariant.4 count h)
           (omega arith) (omega arith) k
           (part_of c.block-block.result.now _ (take (done + n - done) (drop done to)) _ (q % 512) n c.copy_part.ensures lent c.block-block.ensures.0
-          ∙ sym (run-next v w a.run.first count a.skip len done n h (omega arith) some fits)),
+          ∙ sym (run-next v w a.run.extent.first count a.skip len done n h (omega arith) some fits)),
     )
 
 pub returns : goal.returns
 returns c =
     let a = c.args in
     let v = working a.copy.now in
-    let h = c.requires.0 in
-    landed-all _ a.to.now _ c.loop-done.done (c.loop-done.invariant.4 a.run.count h)
-    (stretch-length v (working-length a.copy.now) a.run.first a.run.count a.skip (length a.to.now) h) (omega arith)
+    let h = c.requires in
+    landed-all _ a.to.now _ c.loop-done.done (c.loop-done.invariant.4 a.run.extent.count h)
+    (stretch-length v (working-length a.copy.now) a.run.extent.first a.run.extent.count a.skip (length a.to.now) h) (omega arith)

@@ -8,7 +8,7 @@ use Rattle.file.proofs.copy_blocks.Given as goal
 
 abbrev pub invariant-loop-done : goal.invariant-loop-done
 invariant-loop-done l =
-    (l.done ≤ length l.initial.to) × (length l.to ≡ length l.initial.to) × (l.first < 131072) × (l.skip + length l.initial.to ≤ 1048576)
+    (l.done ≤ length l.initial.to) × (length l.to ≡ length l.initial.to) × (l.first < 131072) × (l.skip + length l.initial.to ≤ 33554432)
     × ((count : ℕ) → l.skip + length l.initial.to ≤ 512 * count → l.to ≡ landed (take (length l.initial.to) (drop l.skip (run_bytes (working l.copy) l.first count))) l.done l.initial.to)
 
 abbrev pub decreases-loop-done : goal.decreases-loop-done

@@ -1,110 +1,59 @@
 use Prim.Native.Nat.{ℕ, ◌+◌, ◌-◌, ◌≤◌}
-use mathlib.Core.Path.{◌≡◌, refl, sym, ap, ◌∙◌}
+use mathlib.Core.Path.{◌≡◌, ap, ◌∙◌}
+use mathlib.Core.List.{◌++◌}
 use native.Mathlib.Omega.{arith}
 use lib.ListN.{length, take, drop, length-take, length-drop}
-use Rattle.spec.specs.Inode.{block_of_inode}
+use Rattle.spec.specs.Inode.{blocks_in}
 use Rattle.transaction.specs.Volumes.{working}
 use Rattle.transaction.proofs.Laws.{working-length}
-use Rattle.extents.proofs.Laws.{no_room, goes_further}
-use Rattle.file.specs.Bytes.{run_bytes}
-use Rattle.file.proofs.Reading.{under-start, under_next, under-on, under-end, under-full}
+use Rattle.extents.specs.declared.pieces.Pieces.{Pieces}
+use Rattle.extents.specs.Pieces.{pieces_left}
+use Rattle.file.specs.Bytes.{run_bytes, block_bytes}
+use Rattle.file.proofs.Reading.{Under, under-start, under_next, under-end, under-full}
+use Rattle.file.proofs.read_blocks.Goals.{After-copy_run}
 use Rattle.file.proofs.read_blocks.Goals as goal
 
-pub loop-done-init : goal.loop-done-init
-loop-done-init c =
+pub loop-run-init : goal.loop-run-init
+loop-run-init c =
     let a = c.args in
-    let p = c.requires in
     let v = working a.copy.now in
-    let s = c.stretch_at-scan.ensures v p.2 in
-    (under-start v (working-length a.copy.now) a.i a.x.0 a.to.now _ _ (omega arith) refl s, p.2 ∙ ap v (sym s.block), p.1)
-
-pub returns-then-scan-eq0 : goal.returns-then-scan-eq0
-returns-then-scan-eq0 c = let a = c.args in let v = working a.copy.now in let tb = block_of_inode a.i in
-    under-end v (working-length a.copy.now) tb _ a.to.now _ _ _ _ c.loop-done.invariant.0 (no_room _ _ _ c.if-scan-eq0.true)
-
-pub take_slot-requires : goal.take_slot-requires
-take_slot-requires c = (c.loop-done.invariant.2, omega arith)
-
-pub overflow_sub-here : goal.overflow_sub-here
-overflow_sub-here c = let a = c.args in let v = working a.copy.now in let tb = block_of_inode a.i in
-    let t = c.in-Piece.ensures v tb c.loop-done.invariant.1 in
-    omega (arith, t.piece.some, c.loop-done.invariant.0.low)
-
-pub overflow_add-end : goal.overflow_add-end
-overflow_add-end c = let u = c.loop-done.invariant.0 in omega (arith, c.min.ensures, u.few, u.long, u.fits)
+    under-start v (working-length a.copy.now) a.i.n a.x.0 a.to.now _ (omega arith)
+    (ap (λ (p : Pieces). blocks_in (pieces_left p)) c.into_iter-run-iterator.ensures.into_iter_gives ∙ c.in_table-run-items.ensures)
 
 pub copy_run-requires : goal.copy_run-requires
-copy_run-requires c = let a = c.args in let v = working a.copy.now in let tb = block_of_inode a.i in
-    let t = c.in-Piece.ensures v tb c.loop-done.invariant.1 in
-    let u = c.loop-done.invariant.0 in
-    let to = c.loop-done.to in
-    let done = c.loop-done.done in
+copy_run-requires c =
+    let p = c.in-Some.ensures.steps in
+    let u = c.loop-run.invariant in
+    let to = c.loop-run.to in
+    let done = c.loop-run.done in
     let n = c.min.result in
-    let few : done + n ≤ length to = omega (arith, c.min.ensures) in
+    let few : done + n ≤ length to = omega (arith, c.min.ensures, u.few, u.long) in
     let l : length (take (done + n - done) (drop done to)) ≡ n = simp (length-take, length-drop) (omega arith) in
-    (omega (arith, c.min.ensures, u.low, t.piece.some), t.piece.first, omega (arith, t.piece.room, u.room))
+    omega (arith, c.min.ensures, u.low, p.some)
 
-pub loop-done-smaller-in-Piece : goal.loop-done-smaller-in-Piece
-loop-done-smaller-in-Piece c = let a = c.args in let v = working a.copy.now in let tb = block_of_inode a.i in
-    let t = c.in-Piece.ensures v tb c.loop-done.invariant.1 in
-    t.less
-
-pub loop-done-preserved-in-Piece : goal.loop-done-preserved-in-Piece
-loop-done-preserved-in-Piece c = let a = c.args in let v = working a.copy.now in let tb = block_of_inode a.i in
-    let t = c.in-Piece.ensures v tb c.loop-done.invariant.1 in
-    let u = c.loop-done.invariant.0 in
-    let to = c.loop-done.to in
-    let done = c.loop-done.done in
-    let skip = c.loop-done.skip in
+-- the piece is in its place
+next : (c : After-copy_run) → let a = c.args in let v = working a.copy.now in let to = c.loop-run.to in let done = c.loop-run.done in let n = c.min.result in
+    Under v (take (length a.to.now) (drop a.x.0 (block_bytes v a.i.n))) a.to.now (take done to ++ (c.copy_run.new.to ++ drop (done + n - done) (drop done to))) (pieces_left c.next.new.self) 0 (done + n)
+next c =
+    let v = working c.args.copy.now in
+    let u = c.loop-run.invariant in
+    let p = c.in-Some.ensures.steps in
+    let e = c.in-Some.run'.extent in
+    let to = c.loop-run.to in
+    let done = c.loop-run.done in
     let n = c.min.result in
-    let e = c.in-Piece.run' in
-    let few : done + n ≤ length to = omega (arith, c.min.ensures) in
+    let few : done + n ≤ length to = omega (arith, c.min.ensures, u.few, u.long) in
     let k : done + n - done ≡ n = omega arith in
-    let l : length (take (done + n - done) (drop done to)) ≡ n = simp (length-take, length-drop) (omega arith) in (
-      under_next v (working-length a.copy.now) tb _ a.to.now to c.loop-done.scan skip done u e _ n (done + n - done) _
-          t.piece (omega (arith, u.long)) (omega (arith, c.min.ensures, u.long)) k
-          (c.copy_run.ensures ∙ ap (λ (m : ℕ). take m (drop skip (run_bytes v e.first e.count))) l),
-      c.loop-done.invariant.1 ∙ ap v (sym t.block),
-      c.loop-done.invariant.2,
-    )
+    let l : length (take (done + n - done) (drop done to)) ≡ n = simp (length-take, length-drop) (omega arith) in
+    under_next v (working-length c.args.copy.now) _ c.args.to.now to _ c.loop-run.skip done u e _ n (done + n - done) _ p.rest p.some
+    (omega (arith, c.min.ensures, u.long)) k (c.copy_run.ensures ∙ ap (λ (m : ℕ). take m (drop c.loop-run.skip (run_bytes v e.first e.count))) l)
 
-pub pass_slots-scan-requires : goal.pass_slots-scan-requires
-pass_slots-scan-requires c = c.loop-done.invariant.2
+pub returns-then-end-to : goal.returns-then-end-to
+returns-then-end-to c = let v = working c.args.copy.now in
+    under-full v (working-length c.args.copy.now) _ _ _ _ _ _ (next (goal.at.returns-then-end-to c).After-copy_run) (omega (arith, c.if-end-to.true, c.loop-run.invariant.long))
 
-pub loop-done-smaller-in-Passed : goal.loop-done-smaller-in-Passed
-loop-done-smaller-in-Passed c = let a = c.args in let v = working a.copy.now in let tb = block_of_inode a.i in
-    let i = c.loop-done.invariant in
-    let g = c.in-Passed.ensures v tb i.1 in
-    let f = goes_further v tb _ _ _ g (c.pass_slots-scan.ensures v tb (i.1 ∙ ap v (sym g.1))) in
-    f.0.less
-
-pub loop-done-preserved-in-Passed : goal.loop-done-preserved-in-Passed
-loop-done-preserved-in-Passed c = let a = c.args in let v = working a.copy.now in let tb = block_of_inode a.i in
-    let i = c.loop-done.invariant in
-    let g = c.in-Passed.ensures v tb i.1 in
-    let f = goes_further v tb _ _ _ g (c.pass_slots-scan.ensures v tb (i.1 ∙ ap v (sym g.1))) in
-    (under-on v (working-length a.copy.now) tb _ a.to.now _ _ _ _ i.0 _ f.0, i.1 ∙ ap v (sym f.1), i.2)
-
-pub take_node-requires : goal.take_node-requires
-take_node-requires c = c.requires.1
-
-pub loop-done-smaller : goal.loop-done-smaller
-loop-done-smaller c = let a = c.args in let v = working a.copy.now in let tb = block_of_inode a.i in
-    let n = c.in-Unused.ensures v tb c.loop-done.invariant.1 in
-    (c.in-Some.ensures v tb c.requires.2 n).0.less
-
-pub loop-done-preserved : goal.loop-done-preserved
-loop-done-preserved c = let a = c.args in let v = working a.copy.now in let tb = block_of_inode a.i in
-    let n = c.in-Unused.ensures v tb c.loop-done.invariant.1 in
-    let g = c.in-Some.ensures v tb c.requires.2 n in
-    (under-on v (working-length a.copy.now) tb _ a.to.now _ _ _ _ c.loop-done.invariant.0 _ g.0, c.block-block.ensures.0 ∙ ap v (sym g.1), c.block-block.ensures.1)
-
-pub returns-in-None : goal.returns-in-None
-returns-in-None c = let a = c.args in let v = working a.copy.now in let tb = block_of_inode a.i in
-    let n = c.in-Unused.ensures v tb c.loop-done.invariant.1 in
-    under-end v (working-length a.copy.now) tb _ a.to.now _ _ _ _ c.loop-done.invariant.0
-    (c.in-None.ensures v tb c.requires.2 n)
+pub loop-run-preserved : goal.loop-run-preserved
+loop-run-preserved c = next (goal.at.loop-run-preserved c).After-copy_run
 
 pub returns : goal.returns
-returns c = let a = c.args in let v = working a.copy.now in let tb = block_of_inode a.i in
-    under-full v (working-length a.copy.now) tb _ a.to.now _ _ _ _ c.loop-done.invariant.0 (omega (arith, c.loop-done.invariant.0.long))
+returns c = under-end (working c.args.copy.now) (working-length c.args.copy.now) _ c.args.to.now _ _ _ _ c.loop-run.invariant c.in-None.ensures.steps.0

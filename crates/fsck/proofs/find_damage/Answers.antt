@@ -1,10 +1,7 @@
 use mathlib.Core.Path.{refl, ◌∙◌}
 use Rattle.marks.proofs.Laws.{disk-fault}
-use Rattle.fsck.proofs.Records.{inode-damaged, block-damaged, nothing-damaged}
+use Rattle.fsck.proofs.Records.{block-damaged, nothing-damaged}
 use Rattle.fsck.proofs.find_damage.Goals as goal
-
-pub returns-in-Some : goal.returns-in-Some
-returns-in-Some c = inode-damaged _ _ _ c.inode_fault.ensures.0 _ c.in-Some.is
 
 pub returns-in_err-b : goal.returns-in_err-b
 returns-in_err-b c = let f = c.inode_fault.ensures in let n = c.in_default.is in let m = c.none-marks.ensures in let x = c.from_residual.ensures in

@@ -11,9 +11,6 @@ use Rattle.fsck.proofs.inode_fault.Goals as goal
 pub loop-k-init : goal.loop-k-init
 loop-k-init c = (refl, kept-start _ _ _ _ (reach-start _), told-start _ (block-length _) _ c.none-names.ensures)
 
-pub records_fault-requires : goal.records_fault-requires
-records_fault-requires c = (omega arith, omega arith, c.loop-k.invariant.2)
-
 pub returns-in-Some : goal.returns-in-Some
 returns-in-Some c = let l = c.loop-k in
     (sym (fault-all _ _ ∙ l.invariant.0 ∙ lowest-in _ 128 _ (16 * l.k) (omega arith) (omega arith) _ (sym c.records_fault.ensures.0 ∙ c.in-Some.is)), λ h. found_some _ h)

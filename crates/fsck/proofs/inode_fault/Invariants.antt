@@ -3,7 +3,7 @@ use mathlib.Core.Path.{◌≡◌}
 use Rattle.spec.specs.Inode.{reached}
 use Rattle.inode.specs.Records.{lowest_to}
 use Rattle.marks.specs.Marks.{Kept, reach_to}
-use Rattle.tree.specs.Device.{disk_of}
+use Rattle.marks.specs.Device.{disk_of}
 use Rattle.fsck.specs.Damage.{unsound}
 use Rattle.fsck.specs.Names.{Told}
 use Rattle.fsck.proofs.inode_fault.Given as goal

@@ -1,12 +1,11 @@
-use native.Mathlib.Omega.{arith}
-use Rattle.header.proofs.Loops.{ascends-start, ascends-more, ascends-end}
+use mathlib.Core.Path.{◌∙◌}
+use mathlib.Core.Bool.{Bool}
+use Rattle.std.proofs.Common.{rules, tests}
+use Rattle.std.proofs.lemmas.Iterator.Search.{all_from_yields_List}
+use Rattle.header.proofs.Neighbours.{neighbours, all-rise}
 use Rattle.header.proofs.is_ascending.Goals as goal
 
-pub loop-i-init : goal.loop-i-init
-loop-i-init c = ascends-start _
-
-pub loop-i-preserved : goal.loop-i-preserved
-loop-i-preserved c = let l = c.loop-i in ascends-more _ l.i l.up (omega arith) l.invariant (omega arith)
-
 pub returns : goal.returns
-returns c = let l = c.loop-i in ascends-end _ l.i l.up (omega arith) l.invariant c.loop-i-test.false
+returns c =
+    all_from_yields_List (λ (b : Bool). b) _ _ c.all.result c.all.ensures.ran (neighbours c.args.l.now c.windows.ensures.rest c.windows.ensures.size) (λ x b q k. search (rules, tests))
+    ∙ all-rise c.args.l.now

@@ -11,6 +11,3 @@ pub returns-then-is_table_committed : goal.returns-then-is_table_committed
 returns-then-is_table_committed c = let a = c.args in
     c.find_committed.ensures a.name.now c.key_of-key.ensures.1 c.key_of-key.ensures.0
     ∙ ap found_of (find-committed a.copy.now.staged.now a.copy.now.device.now a.copy.now.work.now a.name.now (c.is_table_committed.ensures c.if-is_table_committed.true))
-
-pub returns : goal.returns
-returns c = c.find_key.ensures c.args.name.now c.key_of-key.ensures.1 c.key_of-key.ensures.0

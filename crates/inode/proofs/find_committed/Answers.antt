@@ -11,14 +11,14 @@ pub returns-in-Some : goal.returns-in-Some
 returns-in-Some c = let d = c.args.device.now in let k = c.loop-block.block in
     λ name n e.
     sym (find-all (blocks_of d) name ∙ c.loop-block.invariant name n e
-    ∙ find-hit (blocks_of d) _ name _ (omega arith) (omega arith) (block-lent d (block_of_inode (16 * k)) _ _ (omega arith) refl) _ (c.in-Some.ensures name n e))
+    ∙ find-hit (blocks_of d) _ name _ (omega arith) (omega arith) (block-lent d (block_of_inode (16 * k)) _ _ (omega arith) refl) _ (c.in-Some.ensures.0 name n e))
 
 pub loop-block-preserved : goal.loop-block-preserved
 loop-block-preserved c = let d = c.args.device.now in let k = c.loop-block.block in
     λ name n e.
     let z : 16 * k + 16 ≡ 16 * (k + 1) = omega arith in
     c.loop-block.invariant name n e
-    ∙ find-miss (blocks_of d) _ name _ (omega arith) (omega arith) (block-lent d (block_of_inode (16 * k)) _ _ (omega arith) refl) (c.in_default.ensures name n e)
+    ∙ find-miss (blocks_of d) _ name _ (omega arith) (omega arith) (block-lent d (block_of_inode (16 * k)) _ _ (omega arith) refl) (c.in_default.ensures.0 name n e)
     ∙ ap (lowest_to 128 (named_at (blocks_of d) name)) z
 
 pub returns : goal.returns

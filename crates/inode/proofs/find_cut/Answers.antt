@@ -1,7 +1,6 @@
-use Prim.Native.Nat.{◌+◌}
 use mathlib.Core.Path.{◌∙◌}
 use Rattle.inode.proofs.Laws.{named-whole}
 use Rattle.inode.proofs.find_cut.Goals as goal
 
 pub returns : goal.returns
-returns c = λ name n e. c.find_whole.ensures name n e ∙ named-whole c.args.table.now _ name c.args.first (c.args.first + 16) c.copy_of.ensures
+returns c = ((λ name n e. c.find_whole.ensures.0 name n e ∙ named-whole c.args.table.now _ name c.copy_of.ensures), c.find_whole.ensures.1)

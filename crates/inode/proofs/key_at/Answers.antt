@@ -6,6 +6,3 @@ use Rattle.inode.proofs.key_at.Goals as goal
 pub returns-then-end-table : goal.returns-then-end-table
 returns-then-end-table c = let a = c.args in
     key-as _ _ _ (name-part a.table.now a.i _ c.place_in_block-at.ensures.0 (omega arith)) c.key_of.ensures
-
-pub returns : goal.returns
-returns c = key-as _ _ _ c.name_of-name.ensures c.key_of-2.ensures

@@ -1,12 +1,8 @@
-use mathlib.Core.Path.{refl}
 use native.Mathlib.Omega.{arith}
-use Rattle.text.proofs.Laws.{left-start, left_step, left_end}
+use Rattle.text.proofs.Laws.{left_step, left_end}
 use Rattle.transaction.specs.Volumes.{working}
 use Rattle.listing.proofs.Laws.{lines_more, lines_end}
 use Rattle.listing.proofs.put_lines.Goals as goal
-
-pub loop-i-init : goal.loop-i-init
-loop-i-init c = left-start _ _ _ refl
 
 pub loop-i-preserved : goal.loop-i-preserved
 loop-i-preserved c = left_step _ _ _ _ c.loop-i.invariant _ _ _ (lines_more (working c.args.copy.now) c.loop-i.i (omega arith)) c.put_line.ensures

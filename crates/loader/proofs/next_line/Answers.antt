@@ -1,16 +1,11 @@
-use Rattle.std.proofs.Common.{◌≡◌, sym, ap, ◌∙◌, Ok}
-use lib.ListN.{length}
 use Rattle.spec.specs.Transaction.{state_of}
-use Rattle.promises.specs.Restored.{lent-work}
 use Rattle.loader.proofs.Laws.{may-begin, next-stops, next-goes}
 use Rattle.loader.proofs.next_line.Goals as goal
 
-pub take_line-requires : goal.take_line-requires
-take_line-requires c =
+pub invariant_of-idle : goal.invariant_of-idle
+invariant_of-idle c =
     let a = c.args in
-    let b = may-begin (state_of a.session a.device.now a.work.now) a.text.now a.at c.in_default.ensures in
-    let n : length a.work.now ≡ 16384 = lent-work a.session a.device.now a.work.now b.1.0 b.1.1 in
-    (b.0, n)
+    record { bare = may-begin (state_of a.session a.device.now a.work.now) a.text.now a.at c.in_default.ensures }
 
 pub returns-in-Err : goal.returns-in-Err
 returns-in-Err c =

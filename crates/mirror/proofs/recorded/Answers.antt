@@ -14,4 +14,4 @@ returns-in-Ok-None c =
     rw a (recorded-none _ c.args.name.now e)
 
 pub returns-in-Err : goal.returns-in-Err
-returns-in-Err c = rw (c.in-Err.is) (recorded-refused c.in-Err.why _ c.number.ensures c.default-in-Err.result c.default-in-Err.ensures _)
+returns-in-Err c = rw (c.in-Err.is) (recorded-refused c.in-Err.why _ c.number.ensures c.default-in-Err.result c.default-in-Err.ensures c.args.name.now)

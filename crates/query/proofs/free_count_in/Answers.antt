@@ -1,4 +1,3 @@
-use mathlib.Core.Path.{◌≡◌}
 use Rattle.std.proofs.lemmas.Result.{err_from_is_err_and}
 use Rattle.spec.specs.Calls.{free_count}
 use Rattle.query.proofs.Laws.{block_of, free-fine}

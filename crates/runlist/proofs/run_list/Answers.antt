@@ -10,14 +10,14 @@ pub returns-in_err-i : goal.returns-in_err-i
 unfolding run_list
 returns-in_err-i c =
     let p = err_from_is_err_and c.from_residual.result c.from_residual.ensures.1 in
-    rw (p.1, p.2, ← c.in_err-i.ensures.0 _ c.of-volume.ensures)
+    rw (p.1, p.2, ← c.in_err-i.ensures _ c.of-volume.ensures)
 
 pub returns-then-list-count : goal.returns-then-list-count
 returns-then-list-count c =
     let a = c.args in
     let s = state_of a.session a.device.now a.work.now in
     let q = c.of-volume.ensures in
-    list-short s a.name.now a.from.0 a.n _ a.list.now _ (c.in_ok-i.ensures.0 s q) (runs-seen _ s _ _ _ q)
+    list-short s a.name.now a.from.0 a.n _ a.list.now _ (c.in_ok-i.ensures s q) (runs-seen _ s _ _ _ q)
     (omega (arith, c.count_runs-count.ensures, c.if-list-count.true))
 
 pub returns : goal.returns
@@ -25,5 +25,5 @@ returns c =
     let a = c.args in
     let s = state_of a.session a.device.now a.work.now in
     let q = c.of-volume.ensures in
-    list-filled s a.name.now a.from.0 a.n _ a.list.now _ (c.in_ok-i.ensures.0 s q) (runs-seen _ s _ _ _ q)
+    list-filled s a.name.now a.from.0 a.n _ a.list.now _ (c.in_ok-i.ensures s q) (runs-seen _ s _ _ _ q)
     _ _ c.count_runs-count.ensures (omega arith) c.fill.ensures

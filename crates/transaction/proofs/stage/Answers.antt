@@ -1,30 +1,42 @@
+use mathlib.Core.Path.{◌≡◌, sym, ap, ap₂, ◌∙◌}
 use native.Mathlib.Omega.{arith}
-use Rattle.spec.specs.Session.{staged_in}
-use Rattle.transaction.proofs.Laws.{spot-among, stage-leaves}
 use borrow.Author.Rules.{rules}
+use Rattle.std.specs.Option.{unwrap_or}
+use Rattle.spec.specs.declared.Session.{Session}
+use Rattle.spec.specs.Disk.{slice_of}
+use Rattle.spec.specs.Session.{staged_in, with_staged}
+use Rattle.transaction.specs.Places.{spot, blocks_with}
+use Rattle.transaction.proofs.Laws.{spot-is, stage-leaves, lent-is, lent-back}
 use Rattle.transaction.proofs.stage.Goals as goal
 
 -- `at` is the place that the block has or gets, among all that are staged.
 
 pub overflow_cast-i : goal.overflow_cast-i
 overflow_cast-i c =
-    let at = spot-among c.args.s _ _ _ (search rules) c.staged_count-n.ensures.0 c.spot-i.ensures in
+    let l = staged_in c.args.s in
+    let at : c.unwrap_or-i.result ≡ spot l c.args.b.0 = c.unwrap_or-i.ensures ∙ ap₂ (λ o n. unwrap_or o n) c.staged_at.ensures c.staged_count.ensures.0 ∙ spot-is l c.args.b.0 in
     record { fits = omega (arith, at, c.requires.1) }
 
 pub store_block-requires : goal.store_block-requires
 store_block-requires c =
-    let at = spot-among c.args.s _ _ _ (search rules) c.staged_count-n.ensures.0 c.spot-i.ensures in
+    let l = staged_in c.args.s in
+    let at : c.unwrap_or-i.result ≡ spot l c.args.b.0 = c.unwrap_or-i.ensures ∙ ap₂ (λ o n. unwrap_or o n) c.staged_at.ensures c.staged_count.ensures.0 ∙ spot-is l c.args.b.0 in
     omega (arith, at, c.requires.0, c.requires.1)
 
-pub with_block-count-requires : goal.with_block-count-requires
-unfolding staged_in
-with_block-count-requires c =
-    let at = spot-among c.args.s _ _ _ (search rules) c.staged_count-n.ensures.0 c.spot-i.ensures in
-    (search rules, at, omega (arith, at, c.requires.1))
+pub add-requires : goal.add-requires
+add-requires c =
+    let l = staged_in c.args.s in
+    let at : c.unwrap_or-i.result ≡ spot l c.args.b.0 = c.unwrap_or-i.ensures ∙ ap₂ (λ o n. unwrap_or o n) c.staged_at.ensures c.staged_count.ensures.0 ∙ spot-is l c.args.b.0 in
+    let p = c.new-lent.ensures.parts in
+    let is = lent-is c.new-lent.result c.args.s p.2 p.3 p.4 p.5 in
+    (at ∙ ap (λ (s : Session). spot (staged_in s) c.args.b.0) (sym is), omega (arith, at, c.requires.1))
 
 pub returns : goal.returns
-unfolding staged_in
-returns c =
-    λ device.
-    let at = spot-among c.args.s _ _ _ (search rules) c.staged_count-n.ensures.0 c.spot-i.ensures in
-    rw c.with_cells.ensures (stage-leaves c.args.s _ device _ _ _ _ _ at c.store_block.ensures (c.with_block-count.ensures.0 _ _))
+returns c = λ device.
+    let l = staged_in c.args.s in
+    let at : c.unwrap_or-i.result ≡ spot l c.args.b.0 = c.unwrap_or-i.ensures ∙ ap₂ (λ o n. unwrap_or o n) c.staged_at.ensures c.staged_count.ensures.0 ∙ spot-is l c.args.b.0 in
+    let p = c.new-lent.ensures.parts in
+    let is = lent-is c.new-lent.result c.args.s p.2 p.3 p.4 p.5 in
+    stage-leaves c.args.s _ device _ _ _ _ _ at (ap slice_of ((search rules) ∙ c.add.ensures.bytes ∙ p.1) ∙ c.store_block.ensures)
+    (lent-back _ c.add.new.self c.args.s _ _ is c.add.ensures.parts (search rules) c.with_cells.ensures _ c.add.ensures.numbers
+    ∙ ap (λ (s : Session). with_staged c.args.s (blocks_with (staged_in s) c.args.b.0)) is)

@@ -1,26 +1,29 @@
-use mathlib.Core.Path.{◌≡◌, ap, ◌∙◌}
+use mathlib.Core.Path.{◌≡◌, sym, ap, ◌∙◌}
+use mathlib.Core.List.{List}
+use Prim.Native.Nat.{ℕ}
 use native.Mathlib.Omega.{arith}
-use lib.ListN.{take}
 use Rattle.spec.specs.Inode.{block_of_inode}
+use Rattle.spec.specs.Answers.{done}
+use Rattle.spec.specs.Transaction.{state_of}
+use Rattle.spec.specs.Calls.{left}
 use Rattle.transaction.specs.Places.{spot}
-use Rattle.change.proofs.Images.{spot-cells}
-use Rattle.update.proofs.OneBlock.{cells-full, cells-staged}
+use Rattle.transaction.specs.LentSessions.{session_lent, numbers_lent}
+use Rattle.transaction.proofs.Laws.{few-lent}
+use Rattle.update.proofs.OneBlock.{record-full, record-staged}
 use Rattle.update.proofs.change_record.Goals as goal
 
-pub returns-then-k-ge-LOG_LENGTH : goal.returns-then-k-ge-LOG_LENGTH
-returns-then-k-ge-LOG_LENGTH c =
-    let a = c.args in
-    let at : c.spot-k.result ≡ spot (take a.many a.cells.now) (block_of_inode a.i) = spot-cells _ _ _ c.requires.2 c.staged_in.ensures.0 _ _ c.spot-k.ensures ∙ ap (spot (take a.many a.cells.now)) c.table_block.ensures in
-    cells-full a.cells.now a.many c.requires.2 a.device.now a.work.now a.i a.bytes.now c.requires.4 (omega (arith, at, c.if-k-ge-LOG_LENGTH.true))
+pub returns-then-k-ge-LOG_LENGTH-clause-state : goal.returns-then-k-ge-LOG_LENGTH-clause-state
+returns-then-k-ge-LOG_LENGTH-clause-state c =
+    let l = c.args.images.now.lent.now in
+    let at : c.spot-k.result ≡ spot (numbers_lent l) (block_of_inode c.args.i.n) = c.spot-k.ensures ∙ ap (spot (numbers_lent l)) c.table_block.ensures in
+    record-full (session_lent l) l.device.now l.work.now c.args.i.n c.args.bytes.now (few-lent l) c.requires.1 (omega (arith, at, c.if-k-ge-LOG_LENGTH.true))
 
-pub stage_record-requires : goal.stage_record-requires
-stage_record-requires c =
-    let a = c.args in
-    let at : c.spot-k.result ≡ spot (take a.many a.cells.now) (block_of_inode a.i) = spot-cells _ _ _ c.requires.2 c.staged_in.ensures.0 _ _ c.spot-k.ensures ∙ ap (spot (take a.many a.cells.now)) c.table_block.ensures in
-    (c.requires.1, c.requires.2, c.requires.0, c.requires.3, at, omega (arith, c.if-k-ge-LOG_LENGTH.false))
-
-pub returns : goal.returns
-returns c =
-    let a = c.args in
-    let at : c.spot-k.result ≡ spot (take a.many a.cells.now) (block_of_inode a.i) = spot-cells _ _ _ c.requires.2 c.staged_in.ensures.0 _ _ c.spot-k.ensures ∙ ap (spot (take a.many a.cells.now)) c.table_block.ensures in
-    λ N p. cells-staged a.cells.now a.many c.requires.2 a.device.now a.work.now a.i a.bytes.now c.requires.4 (omega (arith, at, c.if-k-ge-LOG_LENGTH.false)) N p _ _ (c.stage_record.ensures N p)
+pub returns-clause-state : goal.returns-clause-state
+returns-clause-state c =
+    let l = c.args.images.now.lent.now in
+    let q = c.stage_record.new.images.lent.now in
+    let at : c.spot-k.result ≡ spot (numbers_lent l) (block_of_inode c.args.i.n) = c.spot-k.ensures ∙ ap (spot (numbers_lent l)) c.table_block.ensures in
+    let d = c.stage_record.ensures.parts.parts.device in
+    ap (λ (d : List ℕ). left (session_lent q) d q.work.now done) d
+    ∙ record-staged (session_lent l) l.device.now l.work.now c.args.i.n c.args.bytes.now (few-lent l) c.requires.1 (omega (arith, at, c.if-k-ge-LOG_LENGTH.false)) (session_lent q) q.work.now
+    (ap (λ (d : List ℕ). state_of (session_lent q) d q.work.now) (sym d) ∙ c.stage_record.ensures.state)

@@ -1,12 +1,14 @@
-use mathlib.Core.Path.{◌≡◌, refl, sym, subst, ◌∙◌}
+use mathlib.Core.Path.{◌≡◌, refl, sym, ap, subst, ◌∙◌}
+use mathlib.Core.List.{[]}
 use native.Mathlib.Omega.{arith}
 use borrow.Author.Rules.{rules}
-use lib.ListN.{length, replicate}
-use Rattle.transaction.specs.Places.{session_of}
-use Rattle.transaction.proofs.Laws.{shows-view}
-use mathlib.Core.List.{[]}
+use lib.ListN.{replicate}
 use Rattle.spec.specs.Disk.{Disk}
-use Rattle.spec.specs.Transaction.{view, state_of}
+use Rattle.spec.specs.Answers.{done_of}
+use Rattle.spec.specs.Transaction.{view}
+use Rattle.spec.specs.Calls.{outcome, remove}
+use Rattle.transaction.specs.LentSessions.{session_lent, state_lent}
+use Rattle.transaction.proofs.Laws.{shows-view}
 use Rattle.lookup.proofs.Laws.{file-says}
 use Rattle.runs.specs.Push.{Small}
 use Rattle.runs.specs.declared.ExtentList.{ExtentList}
@@ -17,35 +19,36 @@ use Rattle.update.proofs.Stores.{emptied-fits, remove-stores}
 use Rattle.update.proofs.Laws.{err-is, remove-bad, remove-fine}
 use Rattle.update.proofs.remove_in.Goals as goal
 
-pub returns-in_err-i : goal.returns-in_err-i
-returns-in_err-i c =
-    let a = c.args in
-    let s = session_of a.blocks a.phase a.cells.now a.many in
-    let seen = c.with_cells-volume.ensures in
-    rw (err-is c.from_residual.result _ _ c.from_residual.ensures.1 (λ r z. z)) (remove-bad s a.device.now a.work.now a.name.now _ (c.in_err-i.ensures.0 _ seen))
+pub returns-in_err-i-clause-state : goal.returns-in_err-i-clause-state
+returns-in_err-i-clause-state c =
+    let l = c.args.lent.now in
+    ap (λ r. outcome (state_lent l) (done_of r)) (err-is c.from_residual.result _ _ c.from_residual.ensures.1 (λ r z. z))
+    ∙ remove-bad (session_lent l) l.device.now l.work.now c.args.name.now _ (c.in_err-i.ensures _ c.volume-volume.ensures)
 
 pub draft_of-requires : goal.draft_of-requires
 draft_of-requires c =
-    (c.in_ok-i.ensures.1, omega arith, c.copy_of-table.ensures ∙ c.block.ensures.0, subst (λ (e : ExtentList). Small e 0) (sym c.empty-extents.ensures) small-none)
+    (omega arith, c.copy_of-table.ensures ∙ c.block.ensures.0, subst (λ (e : ExtentList). Small e 0) (sym c.empty-extents.ensures) small-none)
 
-pub returns-in_err-d : goal.returns-in_err-d
-returns-in_err-d c = absurd (emptied-fits _ _ _ _ _ _ c.draft_of.ensures c.in_err-d.was)
+pub returns-in_err-d-clause-state : goal.returns-in_err-d-clause-state
+returns-in_err-d-clause-state c = absurd (emptied-fits _ _ _ _ _ _ c.draft_of.ensures c.in_err-d.was)
 
-pub apply-requires : goal.apply-requires
-apply-requires c =
-    let a = c.args in
-    let s = session_of a.blocks a.phase a.cells.now a.many in
-    let long : length a.cells.now ≡ 32 = search rules in
-    let seen = c.with_cells-volume.ensures in
-    (c.in_ok-i.ensures.1, file-says s a.device.now a.work.now a.name.now _ (c.in_ok-i.ensures.0 _ seen), long, (c.draft_of.ensures.tree _ c.in_ok-d.was).bounded)
+pub invariant_of-plan : goal.invariant_of-plan
+invariant_of-plan c = record { bounded = (c.draft_of.ensures.tree _ c.in_ok-d.was).bounded }
 
-pub returns : goal.returns
-returns c =
-    let a = c.args in
-    let s = session_of a.blocks a.phase a.cells.now a.many in
-    let seen = c.with_cells-volume.ensures in
-    let v = view (state_of s a.device.now a.work.now) in
+pub invariant_of-apply : goal.invariant_of-apply
+invariant_of-apply c =
+    let l = c.args.lent.now in
+    record { whole = file-says (session_lent l) l.device.now l.work.now c.args.name.now _ (c.in_ok-i.ensures _ c.volume-volume.ensures) }
+
+pub returns-clause-state : goal.returns-clause-state
+returns-clause-state c =
+    let l = c.args.lent.now in
+    let v = view (state_lent l) in
+    let i = c.in_ok-i.i.n in
     let t = tree_in c.draft_of.new.table c.draft_of.new.extents c.in_ok-d.d in
-    let built = subst (λ (v : Disk). Built v c.in_ok-i.i 0 t) (shows-view _ _ seen) (c.draft_of.ensures.tree _ c.in_ok-d.was) in
+    let built = subst (λ (v : Disk). Built v i 0 t) (shows-view _ _ c.volume-volume.ensures) (c.draft_of.ensures.tree _ c.in_ok-d.was) in
     let d : Change = record { tree = t; «record» = replicate 32 0; old = 0; size = 0 } in
-    remove-fine s a.device.now a.work.now a.name.now _ _ _ (c.in_ok-i.ensures.0 _ seen) (remove-stores v c.in_ok-i.i d 0 [] built refl) (c.apply.ensures a.blocks a.phase)
+    let h : outcome (state_lent c.apply.new.images.lent.now) (done_of c.apply.result) ≡ remove (state_lent l) c.args.name.now =
+    remove-fine (session_lent l) l.device.now l.work.now c.args.name.now _ _ _ (c.in_ok-i.ensures _ c.volume-volume.ensures) (remove-stores v i d 0 [] built refl) c.apply.ensures.state
+    in
+    search (rules, h)

@@ -3,9 +3,10 @@ use Prim.Native.Nat.{ℕ}
 use mathlib.Core.List.{List}
 use Rattle.spec.specs.Disk.{Disk}
 use Rattle.spec.specs.Inode.{name_at, inode_with, bytes_of_inode, block_of_inode}
-use Rattle.spec.specs.Transaction.{view, state_of}
-use Rattle.transaction.specs.Places.{session_of}
-use Rattle.transaction.proofs.Laws.{cells-view}
+use Rattle.spec.specs.Answers.{done_of}
+use Rattle.spec.specs.Transaction.{view}
+use Rattle.spec.specs.Calls.{outcome}
+use Rattle.transaction.specs.LentSessions.{session_lent, state_lent}
 use Rattle.runs.specs.Push.{Small}
 use Rattle.runs.specs.declared.ExtentList.{ExtentList}
 use Rattle.runs.specs.Runs.{listed, levels_in}
@@ -21,38 +22,38 @@ use Rattle.update.proofs.resize.Goals as goal
 
 pub draft_of-requires : goal.draft_of-requires
 draft_of-requires c =
-    (c.requires.0, c.blocks_for-wanted.ensures.1, c.copy_of-table.ensures ∙ c.block.ensures.0, subst (λ (e : ExtentList). Small e 0) (sym c.empty-extents.ensures) small-none)
+    (c.blocks_for-wanted.ensures.1, c.copy_of-table.ensures ∙ c.block.ensures.0, subst (λ (e : ExtentList). Small e 0) (sym c.empty-extents.ensures) small-none)
 
-pub returns-in_err-d : goal.returns-in_err-d
-returns-in_err-d c = λ N p.
+pub returns-in_err-d-clause-state : goal.returns-in_err-d-clause-state
+returns-in_err-d-clause-state c =
     let a = c.args in
-    let s = session_of N p a.cells.now a.many in
-    let seen = cells-view _ _ _ c.requires.2 c.staged_in-n.ensures.0 N p a.device.now a.work.now in
-    let plan = drafted-for _ _ a.i _ a.size _ _ _ seen c.blocks_for-wanted.ensures.0 c.draft_of.ensures in
-    rw (err-is c.from_residual.result _ _ c.from_residual.ensures.1 (λ r z. z)) (rewrite-bad s a.device.now a.work.now a.i a.size a.x.0 a.bytes.now _ plan.verdict _ c.in_err-d.was)
+    let l = a.images.now.lent.now in
+    let plan = drafted-for _ _ a.i.n _ a.size _ _ _ c.copy-copy.ensures c.blocks_for-wanted.ensures.0 c.draft_of.ensures in
+    ap (λ r. outcome (state_lent l) (done_of r)) (err-is c.from_residual.result _ _ c.from_residual.ensures.1 (λ r z. z))
+    ∙ rewrite-bad (session_lent l) l.device.now l.work.now a.i.n a.size a.x.0 a.bytes.now _ plan.verdict _ c.in_err-d.was
 
 pub record_bytes-inode-requires : goal.record_bytes-inode-requires
 record_bytes-inode-requires c =
-    (parts-bounded c.draft_of.new.table c.draft_of.new.extents c.in_ok-d.d.nodes c.in_ok-d.d.before c.in_ok-d.d.held (c.draft_of.ensures.tree _ c.in_ok-d.was).bounded, c.requires.4)
+    (parts-bounded c.draft_of.new.table c.draft_of.new.extents c.in_ok-d.d.nodes c.in_ok-d.d.before c.in_ok-d.d.held (c.draft_of.ensures.tree _ c.in_ok-d.was).bounded, c.requires.1)
 
-pub apply-requires : goal.apply-requires
-apply-requires c = (c.requires.0, c.requires.1, c.requires.2, (c.draft_of.ensures.tree _ c.in_ok-d.was).bounded)
+pub invariant_of-plan : goal.invariant_of-plan
+invariant_of-plan c = record { bounded = (c.draft_of.ensures.tree _ c.in_ok-d.was).bounded }
 
-pub returns : goal.returns
-returns c = λ N p.
+pub returns-clause-state : goal.returns-clause-state
+returns-clause-state c =
     let a = c.args in
-    let s = session_of N p a.cells.now a.many in
-    let v = view (state_of s a.device.now a.work.now) in
-    let seen = cells-view _ _ _ c.requires.2 c.staged_in-n.ensures.0 N p a.device.now a.work.now in
-    let plan = drafted-for _ _ a.i _ a.size _ _ _ seen c.blocks_for-wanted.ensures.0 c.draft_of.ensures in
+    let l = a.images.now.lent.now in
+    let v = view (state_lent l) in
+    let seen = c.copy-copy.ensures in
+    let plan = drafted-for _ _ a.i.n _ a.size _ _ _ seen c.blocks_for-wanted.ensures.0 c.draft_of.ensures in
     let draft = c.in_ok-d.d in
     let t = tree_in c.draft_of.new.table c.draft_of.new.extents draft in
-    let block = c.inode_block-records.ensures.0 ∙ ap (λ (u : Disk). u (block_of_inode a.i)) seen in
+    let block = c.inode_block-records.ensures.0 ∙ ap (λ (u : Disk). u (block_of_inode a.i.n)) seen in
     let d : Change = record { tree = t; «record» = c.record_bytes-inode.result; old = c.size_of-old.result; size = a.size } in
-    rewrite-fine s a.device.now a.work.now a.i a.size a.x.0 a.bytes.now _ plan.verdict _ _ draft c.in_ok-d.was
-    (rewrite-stores v a.i _ d a.x.0 a.bytes.now (plan.tree draft c.in_ok-d.was) _ a.size
+    rewrite-fine (session_lent l) l.device.now l.work.now a.i.n a.size a.x.0 a.bytes.now _ plan.verdict _ _ draft c.in_ok-d.was
+    (rewrite-stores v a.i.n _ d a.x.0 a.bytes.now (plan.tree draft c.in_ok-d.was) _ a.size
     (c.record_bytes-inode.ensures
-    ∙ kept_record v a.i _ _ a.size (listed t.runs) (levels_in (tree_of t.runs draft.nodes)) c.name_of.ensures block
-    ∙ ap (λ (ls : List (List ℕ)). bytes_of_inode (inode_with (name_at v a.i) a.size (listed t.runs) ls)) (parts-levels t.table t.runs draft.nodes t.before t.held))
-    (kept-size v a.i _ _ c.size_of-old.ensures block) refl)
-    (c.apply.ensures N p)
+    ∙ kept_record v a.i.n _ _ a.size (listed t.runs) (levels_in (tree_of t.runs draft.nodes)) c.name_of.ensures block
+    ∙ ap (λ (ls : List (List ℕ)). bytes_of_inode (inode_with (name_at v a.i.n) a.size (listed t.runs) ls)) (parts-levels t.table t.runs draft.nodes t.before t.held))
+    (kept-size v a.i.n _ _ c.size_of-old.ensures block) refl)
+    c.apply.ensures.state

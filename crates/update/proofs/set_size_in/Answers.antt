@@ -1,32 +1,39 @@
-use mathlib.Core.Path.{◌≡◌}
+use mathlib.Core.Path.{◌≡◌, ap, ◌∙◌}
+use Prim.Native.Nat.{◌+◌}
 use native.Mathlib.Omega.{arith}
 use borrow.Author.Rules.{rules}
-use lib.ListN.{length}
-use Rattle.transaction.specs.Places.{session_of}
-use Prim.Native.Nat.{◌+◌}
+use Rattle.spec.specs.Answers.{done_of}
+use Rattle.spec.specs.Calls.{outcome, set_size}
+use Rattle.transaction.specs.LentSessions.{session_lent, state_lent}
 use Rattle.lookup.proofs.Laws.{size-says}
 use Rattle.update.proofs.Laws.{err-is, set-size-bad, set-size-fine}
 use Rattle.update.proofs.set_size_in.Goals as goal
 
-pub returns-in_err-i : goal.returns-in_err-i
-returns-in_err-i c =
+pub returns-in_err-i-clause-state : goal.returns-in_err-i-clause-state
+returns-in_err-i-clause-state c =
     let a = c.args in
-    let s = session_of a.blocks a.phase a.cells.now a.many in
-    let seen = c.with_cells-volume.ensures in
-    rw (err-is c.from_residual.result _ _ c.from_residual.ensures.1 (λ r z. z)) (set-size-bad s a.device.now a.work.now a.name.now a.size _ (c.in_err-i.ensures.0 _ seen))
+    let l = a.lent.now in
+    ap (λ r. outcome (state_lent l) (done_of r)) (err-is c.from_residual.result _ _ c.from_residual.ensures.1 (λ r z. z))
+    ∙ set-size-bad (session_lent l) l.device.now l.work.now a.name.now a.size _ (c.in_err-i.ensures _ c.volume.ensures)
+
+pub invariant_of-resize : goal.invariant_of-resize
+invariant_of-resize c =
+    let a = c.args in
+    let l = a.lent.now in
+    record { whole = (size-says (session_lent l) l.device.now l.work.now a.name.now _ (0 + a.size) (c.in_ok-i.ensures _ c.volume.ensures)).0 }
 
 pub resize-requires : goal.resize-requires
 resize-requires c =
     let a = c.args in
-    let s = session_of a.blocks a.phase a.cells.now a.many in
-    let long : length a.cells.now ≡ 32 = search rules in
-    let seen = c.with_cells-volume.ensures in
-    let z = size-says s a.device.now a.work.now a.name.now _ (0 + a.size) (c.in_ok-i.ensures.0 _ seen) in
-    (c.in_ok-i.ensures.1, z.0, long, omega arith, omega (arith, z.1))
+    let l = a.lent.now in
+    let z = (size-says (session_lent l) l.device.now l.work.now a.name.now _ (0 + a.size) (c.in_ok-i.ensures _ c.volume.ensures)).1 in
+    (omega arith, omega (arith, z))
 
-pub returns : goal.returns
-returns c =
+pub returns-clause-state : goal.returns-clause-state
+returns-clause-state c =
     let a = c.args in
-    let s = session_of a.blocks a.phase a.cells.now a.many in
-    let seen = c.with_cells-volume.ensures in
-    set-size-fine s a.device.now a.work.now a.name.now _ a.size _ (c.in_ok-i.ensures.0 _ seen) (c.resize.ensures a.blocks a.phase)
+    let l = a.lent.now in
+    let h : outcome (state_lent c.resize.new.images.lent.now) (done_of c.resize.result) ≡ set_size (state_lent l) a.name.now a.size =
+    set-size-fine (session_lent l) l.device.now l.work.now a.name.now _ a.size _ (c.in_ok-i.ensures _ c.volume.ensures) c.resize.ensures.state
+    in
+    search (rules, h)

@@ -1,49 +1,56 @@
 use mathlib.Core.Path.{◌≡◌, ap, ◌∙◌}
+use Prim.Native.Nat.{◌+◌}
 use native.Mathlib.Omega.{arith}
 use borrow.Author.Rules.{rules}
 use lib.ListN.{length}
-use Rattle.transaction.specs.Places.{session_of}
-use Rattle.transaction.proofs.Laws.{shows-view}
-use Prim.Native.Nat.{◌+◌}
 use Rattle.spec.specs.Disk.{Disk}
 use Rattle.spec.specs.Inode.{block_of_inode}
-use Rattle.spec.specs.Transaction.{view, state_of}
+use Rattle.spec.specs.Answers.{done_of}
+use Rattle.spec.specs.Transaction.{view}
+use Rattle.spec.specs.Calls.{outcome, write}
+use Rattle.transaction.specs.LentSessions.{session_lent, state_lent}
+use Rattle.transaction.proofs.Laws.{shows-view}
 use Rattle.lookup.proofs.Laws.{size-says}
 use Rattle.update.proofs.Records.{kept-end}
 use Rattle.update.proofs.Laws.{err-is, write-bad, write-fine}
 use Rattle.update.proofs.write_in.Goals as goal
 
-pub returns-in_err-i : goal.returns-in_err-i
-returns-in_err-i c =
+pub returns-in_err-i-clause-state : goal.returns-in_err-i-clause-state
+returns-in_err-i-clause-state c =
     let a = c.args in
-    let s = session_of a.blocks a.phase a.cells.now a.many in
-    let seen = c.with_cells-volume.ensures in
-    rw (err-is c.from_residual.result _ _ c.from_residual.ensures.1 (λ r z. z)) (write-bad s a.device.now a.work.now a.name.now a.x.0 a.bytes.now _ (c.in_err-i.ensures.0 _ seen))
+    let l = a.lent.now in
+    ap (λ r. outcome (state_lent l) (done_of r)) (err-is c.from_residual.result _ _ c.from_residual.ensures.1 (λ r z. z))
+    ∙ write-bad (session_lent l) l.device.now l.work.now a.name.now a.x.0 a.bytes.now _ (c.in_err-i.ensures _ c.volume-volume.ensures)
 
 pub overflow_add-x : goal.overflow_add-x
 overflow_add-x c =
     let a = c.args in
-    let s = session_of a.blocks a.phase a.cells.now a.many in
-    let seen = c.with_cells-volume.ensures in
-    let z = (size-says s a.device.now a.work.now a.name.now _ (a.x.0 + length a.bytes.now) (c.in_ok-i.ensures.0 _ seen)).1 in
+    let l = a.lent.now in
+    let z = (size-says (session_lent l) l.device.now l.work.now a.name.now _ (a.x.0 + length a.bytes.now) (c.in_ok-i.ensures _ c.volume-volume.ensures)).1 in
     omega arith
+
+pub invariant_of-resize : goal.invariant_of-resize
+invariant_of-resize c =
+    let a = c.args in
+    let l = a.lent.now in
+    record { whole = (size-says (session_lent l) l.device.now l.work.now a.name.now _ (a.x.0 + length a.bytes.now) (c.in_ok-i.ensures _ c.volume-volume.ensures)).0 }
 
 pub resize-requires : goal.resize-requires
 resize-requires c =
     let a = c.args in
-    let s = session_of a.blocks a.phase a.cells.now a.many in
-    let long : length a.cells.now ≡ 32 = search rules in
-    let seen = c.with_cells-volume.ensures in
-    let z = size-says s a.device.now a.work.now a.name.now _ (a.x.0 + length a.bytes.now) (c.in_ok-i.ensures.0 _ seen) in
-    (c.in_ok-i.ensures.1, z.0, long, z.1, omega (arith, z.1, c.max-size.ensures))
+    let l = a.lent.now in
+    let z = (size-says (session_lent l) l.device.now l.work.now a.name.now _ (a.x.0 + length a.bytes.now) (c.in_ok-i.ensures _ c.volume-volume.ensures)).1 in
+    (z, omega (arith, z, c.max-size.ensures))
 
-pub returns : goal.returns
-returns c =
+pub returns-clause-state : goal.returns-clause-state
+returns-clause-state c =
     let a = c.args in
-    let s = session_of a.blocks a.phase a.cells.now a.many in
-    let seen = c.with_cells-volume.ensures in
-    write-fine s a.device.now a.work.now a.name.now a.x.0 a.bytes.now _ _ _ (c.in_ok-i.ensures.0 _ seen)
+    let l = a.lent.now in
+    let h : outcome (state_lent c.resize.new.images.lent.now) (done_of c.resize.result) ≡ write (state_lent l) a.name.now a.x.0 a.bytes.now =
+    write-fine (session_lent l) l.device.now l.work.now a.name.now a.x.0 a.bytes.now _ _ _ (c.in_ok-i.ensures _ c.volume-volume.ensures)
     (c.max-size.ensures
-    ∙ kept-end (view (state_of s a.device.now a.work.now)) _ _ _ (a.x.0 + length a.bytes.now) c.size_of-old.ensures
-    (c.inode_block.ensures.0 ∙ ap (λ (v : Disk). v (block_of_inode c.in_ok-i.i)) (shows-view _ _ seen)))
-    (c.resize.ensures a.blocks a.phase)
+    ∙ kept-end (view (state_lent l)) _ _ _ (a.x.0 + length a.bytes.now) c.size_of-old.ensures
+    (c.inode_block.ensures.0 ∙ ap (λ (v : Disk). v (block_of_inode c.in_ok-i.i.n)) (shows-view _ _ c.volume-volume.ensures)))
+    c.resize.ensures.state
+    in
+    search (rules, h)

@@ -6,11 +6,7 @@ use Rattle.extents.proofs.Laws.{begin-in}
 use Rattle.extents.proofs.Runs.of.Goals as goal
 
 pub invariant_of-result : goal.invariant_of-result
-invariant_of-result c =
-    let b = begin-in (working c.args.copy.now) _ _ _ _ _ _ c.table_block.ensures c.stretch-scan.ensures c.growing_from.ensures in
-    record { fits = b.fits }
+invariant_of-result c = record { first = omega arith; few = omega (arith, (begin-in (working c.args.copy.now) c.args.stretch.i.n c.args.stretch.from.0 c.args.stretch.n _ c.of.ensures).few) }
 
 pub returns : goal.returns
-returns c =
-    let b = begin-in (working c.args.copy.now) _ _ _ _ _ _ c.table_block.ensures c.stretch-scan.ensures c.growing_from.ensures in
-    (b.runs, omega (arith, b.few, ap length b.runs))
+returns c = let b = begin-in (working c.args.copy.now) c.args.stretch.i.n c.args.stretch.from.0 c.args.stretch.n _ c.of.ensures in (b.runs, omega (arith, b.some, ap length b.runs))

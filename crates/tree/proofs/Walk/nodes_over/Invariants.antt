@@ -2,7 +2,7 @@ use Prim.Native.Nat.{◌+◌, ◌*◌, ◌-◌}
 use lib.ListN.{drop}
 use Rattle.spec.specs.Bytes.{exactly}
 use Rattle.spec.specs.Inode.{slots_in}
-use Rattle.tree.specs.Device.{disk_of}
+use Rattle.marks.specs.Device.{disk_of}
 use Rattle.tree.proofs.Walks.{Noding}
 use Rattle.tree.proofs.Walk.nodes_over.Given as goal
 

@@ -3,4 +3,4 @@ use Rattle.tree.proofs.Walk.with_extent.Goals as goal
 
 pub returns : goal.returns
 unfolding with_extent
-returns c = rw (c.holds-inside.ensures, c.tail_at-tail.ensures)
+returns c = rw (c.is_inside-inside.ensures, c.tail_at-tail.ensures)

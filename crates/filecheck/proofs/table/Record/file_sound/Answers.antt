@@ -2,11 +2,8 @@ use Rattle.std.proofs.Common.{rules}
 use mathlib.Core.Path.{sym}
 use Rattle.filecheck.specs.File.{Stands}
 use Rattle.filecheck.proofs.Shape.{file-off, file-on, size-at, size_in, depth-at, depth_in}
-use Rattle.tree.specs.Device.{disk_of}
+use Rattle.marks.specs.Device.{disk_of}
 use Rattle.filecheck.proofs.table.Record.file_sound.Goals as goal
-
-pub limits_hold-requires : goal.limits_hold-requires
-limits_hold-requires c = (c.size_of-size.ensures, c.depth_of-depth.ensures.0)
 
 pub returns-then-not-limits_hold : goal.returns-then-not-limits_hold
 returns-then-not-limits_hold c = let h : Stands c.args.self.now = search rules in file-off _ _ _ _ h _ c.limits_hold.ensures _ _ (c.if-not-limits_hold.true)

@@ -1,13 +1,9 @@
 use Rattle.std.proofs.Common.{rules}
-use mathlib.Core.Path.{ap, sym, ◌∙◌}
+use mathlib.Core.Path.{sym, ◌∙◌}
 use native.Mathlib.Omega.{arith}
-use Rattle.tree.specs.declared.Run.{Run}
 use Rattle.filecheck.specs.File.{Stands}
 use Rattle.filecheck.proofs.Shape.{flat-walked, flat-marks, deep-walked, deep-marks}
 use Rattle.filecheck.proofs.table.Record.tree_of.Goals as goal
-
-pub extents_over-r-requires : goal.extents_over-r-requires
-extents_over-r-requires c = let z = c.none.ensures in (omega (arith, c.place_in_block-at.ensures.1), omega (arith, ap (λ (x : Run). x.extents) z), omega (arith, ap (λ (x : Run). x.blocks) z))
 
 pub returns-then-depth-eq0 : goal.returns-then-depth-eq0
 returns-then-depth-eq0 c = let h : Stands c.args.self.now = search rules in let x = c.extents_over-r.ensures in let a = c.place_in_block-at.ensures.0 in let d = sym c.requires.1 ∙ c.if-depth-eq0.true in

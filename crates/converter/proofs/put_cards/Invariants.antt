@@ -1,0 +1,8 @@
+use mathlib.Core.Path.{◌≡◌}
+use Rattle.cardfile.specs.Lines.{letter_of}
+use Rattle.converter.proofs.Writes.{Putting}
+use Rattle.converter.proofs.put_cards.Given as goal
+
+-- all lines before this one are written
+abbrev pub invariant-loop-found : goal.invariant-loop-found
+invariant-loop-found l = (l.found-iterator.text.now ≡ l.text) × Putting (letter_of l.wanted) l.text l.initial.w l.w l.found-iterator.at

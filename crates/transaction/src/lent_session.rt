@@ -1,0 +1,16 @@
+// A session that is lent in its parts to a call that changes it.
+ghost use Rattle.std.specs.Prelude.{◌≡◌, length};
+
+use spec::{Limits, Phase};
+
+// The device, the work space and the session. Its cells stay where the caller holds them: a session made of them would be copied at each call.
+#[derive(Drop)]
+pub struct LentSession<'a> {
+    pub device: &'a [u8],
+    pub work: &'a mut [u8],
+    pub blocks: usize,
+    pub phase: Phase,
+    pub cells: &'a mut [u32; Limits::LOG_LENGTH],
+    pub count: usize,
+    pub ghost full: { length cells.now ≡ 32 },
+}

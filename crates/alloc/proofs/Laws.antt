@@ -31,7 +31,7 @@ use Rattle.runs.specs.declared.ExtentList.{ExtentList}
 use Rattle.runs.specs.Push.{Holds, Small, Pushed}
 use Rattle.runs.proofs.Laws.{pushed-blocks}
 use Rattle.lists.specs.Bits.{mark-append}
-use Rattle.runs.specs.declared.Nodes.{Nodes}
+use Rattle.runs.specs.declared.nodes.Nodes.{Nodes}
 use Rattle.alloc.specs.Parts.{data_at, nodes_at, Picked, KeptOf, GaveBack, HeldNodes, TookNodes}
 
 -- ---- picks and marks
@@ -318,6 +318,13 @@ gather-start v i c node e l =
     let z : c.tops - 0 ≡ c.tops = omega arith in
     rw (y, z) (record { few = let w = weight-start v i in rw e (omega arith); full = l; is = rw (nodes-only v (block_of_inode i) c, e) (nodes-start v i) })
 
+-- all nodes, where none is behind those that the array holds
+gathered : (v : Disk) (tb : ℕ) (nodes : List ℕ) (top tops : ℕ) (node : List ℕ) (len : ℕ) → Gathering v tb nodes top tops node len → rest_nodes v tb (nodes_from top tops) ≡ []
+    → (q : Nodes) → q.node ≡ node → q.len ≡ len → HeldNodes nodes q
+gathered v tb nodes top tops node len g end q en el =
+    let all : take len node ≡ nodes = sym (append-nil (take len node)) ∙ ap (λ (xs : List ℕ). take len node ++ xs) (sym end) ∙ g.is in
+    record { is = rw (en, el) all; many = omega (arith, el, ap length all, length-take len node, g.full, g.few) }
+
 module _ (v : Disk) (tb : ℕ) (nodes : List ℕ) (top tops : ℕ) (node : List ℕ) (len : ℕ) (g : Gathering v tb nodes top tops node len)
     (xs : List ℕ) (q : xs ≡ v tb) (e : Extent) (r : Bool) (o : Slot xs top e) (l : r ≡ live tops e) where
   s : Slot (v tb) top e
@@ -341,20 +348,14 @@ module _ (v : Disk) (tb : ℕ) (nodes : List ℕ) (top tops : ℕ) (node : List 
         is = rw (add-one len, take-suc-set node len e.first m, append_assoc (take len node) (e.first ∷ []) (rest_nodes v tb (nodes_from (top + 4) (tops - 1))), ← rest) g.is;
       }
 
-  pub gather-last : r ≡ false → HeldNodes nodes (record { node = node; len = len })
-  gather-last h =
-      let end = step_end v tb (nodes_from top tops) e r none_left s l h in
-      let all : take len node ≡ nodes = sym (append-nil (take len node)) ∙ ap (λ (xs : List ℕ). take len node ++ xs) (sym end.nodes) ∙ g.is in
-      record { few = omega (arith, g.few); is = all; many = omega (arith, ap length all, length-take len node, g.full, g.few) }
+  pub gather-last : r ≡ false → (q : Nodes) → q.node ≡ node → q.len ≡ len → HeldNodes nodes q
+  gather-last h = gathered v tb nodes top tops node len g (step_end v tb (nodes_from top tops) e r none_left s l h).nodes
 
 -- no slot is left
 pub gather_end : (v : Disk) (tb : ℕ) (nodes : List ℕ) (top tops : ℕ) (node : List ℕ) (len : ℕ) → Gathering v tb nodes top tops node len → tops ≡ 0
-    → HeldNodes nodes (record { node = node; len = len })
+    → (q : Nodes) → q.node ≡ node → q.len ≡ len → HeldNodes nodes q
 unfolding rest_nodes leaf slots_in
-gather_end v tb nodes top tops node len g h =
-    let end : rest_nodes v tb (nodes_from top tops) ≡ [] = rw h refl in
-    let all : take len node ≡ nodes = sym (append-nil (take len node)) ∙ ap (λ (xs : List ℕ). take len node ++ xs) (sym end) ∙ g.is in
-    record { few = omega (arith, g.few); is = all; many = omega (arith, ap length all, length-take len node, g.full, g.few) }
+gather_end v tb nodes top tops node len g h = gathered v tb nodes top tops node len g (rw h refl)
 
 -- the slots for nodes stand in the record's block
 pub top-start : (v : Disk) (i : ℕ) → (start_of v i).top ≤ 512
@@ -411,7 +412,7 @@ module _ (t₀ t node₀ node : List ℕ) (k₀ k wanted : ℕ) (f : Filling t�
       let low = f.low in
       let high = f.high in
       let z : k - k₀ ≡ wanted - k₀ = omega arith in
-      rw (en, el) (record { bits = rw (← z) f.bits; nodes = go (lt-or-le wanted k₀) })
+      record { bits = rw el (rw (← z) f.bits); nodes = rw (en, el) (go (lt-or-le wanted k₀)) }
     where
       go : (wanted < k₀) ⊎ (k₀ ≤ wanted) → take wanted node ≡ take wanted (take k₀ node₀) ++ picks (bits_of t₀) (wanted - k₀)
       go (inl l) =

@@ -21,16 +21,18 @@ use Rattle.spec.specs.Plan.{lowest_level, dealt, lacking, surplus, resized, fits
 use Rattle.block.proofs.Laws.{lt-or-le}
 use Rattle.bitmap.specs.Words.{Table}
 use Rattle.bitmap.proofs.Laws.{bytes_bits}
-use Rattle.std.specs.Prelude.{Ok, Err}
+use Rattle.std.specs.Prelude.{Ok, Err, Some}
+use Rattle.std.specs.Borrow.{Bor}
+use Rattle.spec.specs.declared.Extent.{Extent}
 use Rattle.runs.specs.Tree.{Tree}
 use Rattle.runs.specs.declared.ExtentList.{ExtentList}
 use Rattle.runs.specs.Runs.{listed, nodes_in, levels_in, Bounded}
 use Rattle.runs.specs.Push.{Holds}
 use Rattle.lists.specs.Bits.{length-picks, mark-append}
 use Rattle.lists.specs.Extents.{runs-counts}
-use Rattle.runs.proofs.Laws.{listed-is}
+use Rattle.runs.proofs.Laws.{listed-is, listed-few, listed-first, listed-count}
 use Rattle.alloc.specs.declared.Draft.{Draft}
-use Rattle.runs.specs.declared.Nodes.{Nodes}
+use Rattle.runs.specs.declared.nodes.Nodes.{Nodes}
 use Rattle.alloc.specs.Parts.{data_at, nodes_at, KeptOf, TookData, HeldNodes, TookNodes, GaveBack, nodes_held}
 use Rattle.alloc.specs.Draft.{resized_at, table_of, Built, Drafted, tree_in}
 
@@ -129,9 +131,9 @@ module _ (v : Disk) (i wanted : ℕ) where
   unfolding fits resized_at
   fits-is = refl
 
-  refused_as : (table : List ℕ) (extents : ExtentList) (r : Refusal)
-      → fits (bits_of (v 33)) (data_of v (inode_at v i)) (levels_of v (inode_at v i)) wanted ≡ refuse r → Drafted v i wanted table extents (Err r)
-  refused_as table extents r f = record { verdict = f; tree = λ d q. cc }
+  refused_as : (table : List ℕ) (r : Refusal)
+      → fits (bits_of (v 33)) (data_of v (inode_at v i)) (levels_of v (inode_at v i)) wanted ≡ refuse r → Drafted v i wanted table (Err r)
+  refused_as table r f = record { verdict = f; tree = λ d q. cc }
 
 -- ---- the plan, as far as it has come
 
@@ -145,66 +147,48 @@ all_held blocks wanted kept m t u n k g = omega (arith, k.count, g.many, length-
 pub held-few : (v : Disk) (i wanted : ℕ) (kept : ExtentList) (m : ℕ) (t u : List ℕ) (n : ℕ) → KeptOf (data_at v i) wanted kept m → GaveBack (drop wanted (data_at v i)) t u n → m + n ≤ 2048
 held-few v i wanted kept m t u n k g = omega (arith, all_held (data_at v i) wanted kept m t u n k g, few-data v i)
 
--- the table as it was, what is free, what the file keeps (m blocks), what it takes
-pub record Begun (v : Disk) (i wanted : ℕ) (t₀ : List ℕ) (free : ℕ) (kept : ExtentList) (m fresh : ℕ) : Type 0 where
-  pub table : t₀ ≡ v 33
-  pub is_free : free ≡ free_bits (bits_of t₀)
-  pub few : free ≤ 4096
-  pub keeps : KeptOf (data_at v i) wanted kept m
-  pub is_fresh : fresh ≡ wanted - m
+-- the table as it was, what is free, and what the file keeps (m blocks)
+module _ (v : Disk) (i wanted : ℕ) (t₀ : List ℕ) (free : ℕ) (kept : ExtentList) (m : ℕ)
+    (is_table : t₀ ≡ v 33) (is_free : (free ≡ free_bits (bits_of t₀)) × (free ≤ 4096)) (keeps : KeptOf (data_at v i) wanted kept m) where
+  -- what it takes
+  abbrev fresh : ℕ
+  fresh = wanted - m
 
--- data blocks taken, nodes counted
-pub record Chosen (v : Disk) (i : ℕ) (t₀ : List ℕ) (free : ℕ) (kept : ExtentList) (m fresh : ℕ) (t₁ : List ℕ) (q : ExtentList) (held : Nodes) (nodes lack : ℕ) : Type 0 where
-  pub fit : fresh ≤ free
-  pub took : TookData t₀ t₁ kept m fresh q
-  pub holds : HeldNodes (nodes_at v i) held
-  pub is_nodes : nodes ≡ nodes_for q.len
-  pub most : 128 * nodes ≤ q.len + 127
-  pub is_lack : lack ≡ nodes - held.len
-
--- the same, from what the code's calls ensure
-pub plan-begun : (v : Disk) (i wanted : ℕ) (t₀ : List ℕ) (free : ℕ) (kept : ExtentList) (m : ℕ) → t₀ ≡ v 33 → (free ≡ free_bits (bits_of t₀)) × (free ≤ 4096) → KeptOf (data_at v i) wanted kept m
-    → Begun v i wanted t₀ free kept m (wanted - m)
-plan-begun v i wanted t₀ free kept m e f k = record { table = e; is_free = f.0; few = f.1; keeps = k; is_fresh = refl }
-
-pub plan-chosen : (v : Disk) (i : ℕ) (t₀ : List ℕ) (free : ℕ) (kept : ExtentList) (m fresh : ℕ) (t₁ : List ℕ) (q : ExtentList) (held : Nodes) (nodes lack : ℕ)
-    → fresh ≤ free → TookData t₀ t₁ kept m fresh q → HeldNodes (nodes_at v i) held → (nodes ≡ nodes_for q.len) × (128 * nodes ≤ q.len + 127) → lack ≡ nodes - held.len → Chosen v i t₀ free kept m fresh t₁ q held nodes lack
-plan-chosen v i t₀ free kept m fresh t₁ q held nodes lack f t h n l = record { fit = f; took = t; holds = h; is_nodes = n.0; most = n.1; is_lack = l }
-
-module _ (v : Disk) (i wanted : ℕ) (t₀ : List ℕ) (free : ℕ) (kept : ExtentList) (m fresh : ℕ) (b : Begun v i wanted t₀ free kept m fresh) where
   newly : wanted - length (data_at v i) ≡ fresh
-  newly = omega (arith, b.is_fresh, b.keeps.count, length-take wanted (data_at v i))
+  newly = omega (arith, keeps.count, length-take wanted (data_at v i))
 
   free-is : free_bits (bits_of (v 33)) ≡ free
-  free-is = sym (b.is_free ∙ ap (λ (t : List ℕ). free_bits (bits_of t)) b.table)
+  free-is = sym (is_free.0 ∙ ap (λ (t : List ℕ). free_bits (bits_of t)) is_table)
 
   -- 16 by the data blocks alone
-  pub no-space : free < fresh → (table : List ℕ) (extents : ExtentList) → Drafted v i wanted table extents (Err NoSpace)
-  no-space h table extents =
-      refused_as v i wanted table extents NoSpace
+  pub no-space : free < fresh → (table : List ℕ) → Drafted v i wanted table (Err NoSpace)
+  no-space h table =
+      refused_as v i wanted table NoSpace
       (fits-is v i wanted ∙ rw (lt-leb (wanted - length (data_at v i)) (free_bits (bits_of (v 33))) (omega (arith, newly, free-is))))
 
-  module _ (t₁ : List ℕ) (q : ExtentList) (held : Nodes) (nodes lack : ℕ) (s : Chosen v i t₀ free kept m fresh t₁ q held nodes lack) where
+  -- data blocks taken, nodes counted
+  module _ (fit : fresh ≤ free) (t₁ : List ℕ) (q : ExtentList) (took : TookData t₀ t₁ kept m fresh q) (held : Nodes) (holds : HeldNodes (nodes_at v i) held)
+      (nodes : ℕ) (is_nodes : (nodes ≡ nodes_for q.end.len) × (128 * nodes ≤ q.end.len + 127)) (lack : ℕ) (is_lack : lack ≡ nodes - held.len) where
     data_is : (resized_at v i wanted).new_data ≡ picks (bits_of t₀) fresh
-    data_is = new-data v i wanted ∙ rw (newly, ← b.table)
+    data_is = new-data v i wanted ∙ rw (newly, ← is_table)
 
     runs-are : Holds q (resized_at v i wanted).extents
-    runs-are = rw (extents-are v i wanted, newly, ← b.table) (s.took.holds (take wanted (data_at v i)) b.keeps.holds)
+    runs-are = rw (extents-are v i wanted, newly, ← is_table) (took.holds (take wanted (data_at v i)) keeps.holds)
 
-    len_is : length (resized_at v i wanted).extents ≡ q.len
+    len_is : length (resized_at v i wanted).extents ≡ q.end.len
     len_is = sym runs-are.many
 
     shape : Shape (levels_of v (inode_at v i)) (nodes_at v i)
     shape = levels-shape v (inode_at v i)
 
     size : Sized (length (resized_at v i wanted).extents) nodes
-    size = rw (len_is, s.is_nodes) (sized q.len)
+    size = rw (len_is, is_nodes.0) (sized q.end.len)
 
     lack-is : lacking (levels_for (length (resized_at v i wanted).extents)) (levels_of v (inode_at v i)) ≡ lack
-    lack-is = lacking-is (levels_of v (inode_at v i)) (nodes_at v i) shape (length (resized_at v i wanted).extents) nodes size ∙ omega (arith, s.is_lack, s.holds.many)
+    lack-is = lacking-is (levels_of v (inode_at v i)) (nodes_at v i) shape (length (resized_at v i wanted).extents) nodes size ∙ omega (arith, is_lack, holds.many)
 
     nodes-are : (resized_at v i wanted).new_nodes ≡ picks (bits_of t₁) lack
-    nodes-are = new-nodes v i wanted ∙ rw (lack-is, data_is, ← b.table, s.took.bits)
+    nodes-are = new-nodes v i wanted ∙ rw (lack-is, data_is, ← is_table, took.bits)
 
     first-test : leb (wanted - length (data_at v i)) (free_bits (bits_of (v 33))) ≡ true
     first-test = le-leb (wanted - length (data_at v i)) (free_bits (bits_of (v 33))) (omega (arith, newly, free-is))
@@ -213,9 +197,9 @@ module _ (v : Disk) (i wanted : ℕ) (t₀ : List ℕ) (free : ℕ) (kept : Exte
     both = rw (data_is, nodes-are, length-picks (bits_of t₀) fresh, length-picks (bits_of t₁) lack)
 
     -- 16 by data blocks and extent blocks
-    pub no-space-nodes : free < fresh + lack → (table : List ℕ) (extents : ExtentList) → Drafted v i wanted table extents (Err NoSpace)
-    no-space-nodes h table extents =
-        refused_as v i wanted table extents NoSpace
+    pub no-space-nodes : free < fresh + lack → (table : List ℕ) → Drafted v i wanted table (Err NoSpace)
+    no-space-nodes h table =
+        refused_as v i wanted table NoSpace
         (fits-is v i wanted ∙ rw (first-test, both, free-is, lt-leb (fresh + lack) free h))
 
     module _ (room : fresh + lack ≤ free) where
@@ -223,28 +207,31 @@ module _ (v : Disk) (i wanted : ℕ) (t₀ : List ℕ) (free : ℕ) (kept : Exte
       second-test = rw (both, free-is) (le-leb (fresh + lack) free room)
 
       -- 17
-      pub too_many : 512 < q.len → (table : List ℕ) (extents : ExtentList) → Drafted v i wanted table extents (Err TooManyExtents)
-      too_many h table extents =
-          refused_as v i wanted table extents TooManyExtents
-          (fits-is v i wanted ∙ rw (first-test, second-test, len_is, lt-leb q.len 512 h))
+      pub too_many : 512 < q.end.len → (table : List ℕ) → Drafted v i wanted table (Err TooManyExtents)
+      too_many h table =
+          refused_as v i wanted table TooManyExtents
+          (fits-is v i wanted ∙ rw (first-test, second-test, len_is, lt-leb q.end.len 512 h))
 
-      module _ (low : q.len ≤ 512) (node t₂ t₃ t₄ : List ℕ) (adds : TookNodes t₁ t₂ held nodes node) (dropped : ℕ)
+      module _ (es : List Extent) (whole : Some es ≡ listed q) (node t₂ t₃ t₄ : List ℕ) (adds : TookNodes t₁ t₂ held nodes node) (dropped : ℕ)
           (back : GaveBack (drop wanted (data_at v i)) t₂ t₃ dropped) (leaves : bits_of t₄ ≡ mark 0 (drop nodes (nodes_held held)) (bits_of t₃)) (bytes : Table t₄) where
         abbrev tree : Tree
-        tree = record { table = t₄; runs = q; node = node; nodes = nodes; before = held.len; held = m + dropped }
+        tree = record { table = t₄; extents = es; node = node; nodes = nodes; before = held.len; held = m + dropped }
 
         all-data : m + dropped ≡ length (data_at v i)
-        all-data = all_held (data_at v i) wanted kept m t₂ t₃ dropped b.keeps back
+        all-data = all_held (data_at v i) wanted kept m t₂ t₃ dropped keeps back
 
-        extents-listed : listed q ≡ (resized_at v i wanted).extents
-        extents-listed = listed-is q (resized_at v i wanted).extents (m + fresh) runs-are s.took.small low
+        low : q.end.len ≤ 512
+        low = listed-few q es whole
+
+        extents-listed : es ≡ (resized_at v i wanted).extents
+        extents-listed = listed-is q es whole (m + fresh) took.small (resized_at v i wanted).extents runs-are
 
         levels-built : levels_in tree ≡ (resized_at v i wanted).levels
         unfolding levels_in nodes_in
         levels-built =
-            ap (λ (l : List ℕ). cond (eqb nodes 0) [] (l ∷ [])) (adds.nodes ∙ rw (s.holds.is, ← s.is_lack))
+            ap (λ (l : List ℕ). cond (eqb nodes 0) [] (l ∷ [])) (adds.nodes ∙ rw (holds.is, ← is_lack))
             ∙ sym (dealt-is (levels_of v (inode_at v i)) (nodes_at v i) shape (length (resized_at v i wanted).extents) nodes size (picks (bits_of t₁) lack)
-            (length-picks (bits_of t₁) lack ∙ omega (arith, s.is_lack, s.holds.many)))
+            (length-picks (bits_of t₁) lack ∙ omega (arith, is_lack, holds.many)))
             ∙ sym (levels-are v i wanted ∙ rw nodes-are)
 
         -- the bits of new blocks made 1, then those of dropped blocks made 0
@@ -252,10 +239,10 @@ module _ (v : Disk) (i wanted : ℕ) (t₀ : List ℕ) (free : ℕ) (kept : Exte
         bits-new =
             ap (λ (x : List ℕ). mark 1 (x ++ (resized_at v i wanted).new_nodes) (bits_of (v 33))) data_is
             ∙ ap (λ (x : List ℕ). mark 1 (picks (bits_of t₀) fresh ++ x) (bits_of (v 33))) nodes-are
-            ∙ ap (λ (t : List ℕ). mark 1 (picks (bits_of t₀) fresh ++ picks (bits_of t₁) lack) (bits_of t)) (sym b.table)
+            ∙ ap (λ (t : List ℕ). mark 1 (picks (bits_of t₀) fresh ++ picks (bits_of t₁) lack) (bits_of t)) (sym is_table)
             ∙ mark-append 1 (picks (bits_of t₀) fresh) (picks (bits_of t₁) lack) (bits_of t₀)
-            ∙ ap (mark 1 (picks (bits_of t₁) lack)) (sym s.took.bits)
-            ∙ ap (λ (k : ℕ). mark 1 (picks (bits_of t₁) k) (bits_of t₁)) s.is_lack
+            ∙ ap (mark 1 (picks (bits_of t₁) lack)) (sym took.bits)
+            ∙ ap (λ (k : ℕ). mark 1 (picks (bits_of t₁) k) (bits_of t₁)) is_lack
             ∙ sym adds.bits
 
         bits-dropped : mark 0 (resized_at v i wanted).dropped (bits_of t₂) ≡ bits_of t₄
@@ -265,7 +252,7 @@ module _ (v : Disk) (i wanted : ℕ) (t₀ : List ℕ) (free : ℕ) (kept : Exte
             (surplus-is (levels_of v (inode_at v i)) (nodes_at v i) shape (length (resized_at v i wanted).extents) nodes size)
             ∙ mark-append 0 (drop wanted (data_at v i)) (drop nodes (nodes_at v i)) (bits_of t₂)
             ∙ ap (mark 0 (drop nodes (nodes_at v i))) (sym back.bits)
-            ∙ ap (λ (x : List ℕ). mark 0 (drop nodes x) (bits_of t₃)) (sym s.holds.is)
+            ∙ ap (λ (x : List ℕ). mark 0 (drop nodes x) (bits_of t₃)) (sym holds.is)
             ∙ sym leaves
 
         table-built : t₄ ≡ table_of v (resized_at v i wanted)
@@ -284,18 +271,16 @@ module _ (v : Disk) (i wanted : ℕ) (t₀ : List ℕ) (free : ℕ) (kept : Exte
               length-take wanted (data_at v i),
               few-data v i,
               newly,
-              s.fit,
-              b.few,
+              fit,
+              is_free.1,
             ))
 
         small-tree : Bounded tree
         small-tree =
             record {
-              extents = low;
-              nodes = omega (arith, s.most, low);
               blocks = rw extents-listed all_blocks;
-              first = s.took.small.first;
-              count = λ k. omega (arith, s.took.small.count k, b.keeps.few, s.fit, b.few);
+              first = listed-first q es whole (m + fresh) took.small;
+              count = λ k. omega (arith, listed-count q es whole (m + fresh) took.small k, keeps.few, fit, is_free.1);
               held = omega (arith, all-data, few-data v i);
             }
 
@@ -305,16 +290,17 @@ module _ (v : Disk) (i wanted : ℕ) (t₀ : List ℕ) (free : ℕ) (kept : Exte
               extents = extents-listed;
               levels = levels-built;
               table = table-built;
-              before = s.holds.many ∙ sym (ap length (lowest-is (levels_of v (inode_at v i)) (nodes_at v i) shape));
+              before = holds.many ∙ sym (ap length (lowest-is (levels_of v (inode_at v i)) (nodes_at v i) shape));
               held = all-data;
               bounded = small-tree;
             }
 
-        pub drafted : Drafted v i wanted t₄ q (Ok (record { nodes = record { node = node; len = nodes }; before = held.len; held = m + dropped }))
-        drafted =
+        pub drafted : (x : Bor (List Extent)) → x.now ≡ es → (ns : Nodes) → ns.node ≡ node → ns.len ≡ nodes
+            → Drafted v i wanted t₄ (Ok (record { extents = x; nodes = ns; before = held.len; held = m + dropped }))
+        drafted x ex ns en el =
             record {
-              verdict = fits-is v i wanted ∙ rw (first-test, second-test, len_is, le-leb q.len 512 low);
+              verdict = fits-is v i wanted ∙ rw (first-test, second-test, len_is, le-leb q.end.len 512 low);
               tree = λ d e.
-                  let z : record { nodes = record { node = node; len = nodes }; before = held.len; held = m + dropped } ≡ d = cc in
-                  subst (λ (d : Draft). Built v i wanted (tree_in t₄ q d)) z built;
+                  let z : record { extents = x; nodes = ns; before = held.len; held = m + dropped } ≡ d = cc in
+                  subst (λ (d : Draft). Built v i wanted (tree_in t₄ d)) z (rw (ex, en, el) built);
             }

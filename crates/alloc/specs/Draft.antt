@@ -9,9 +9,8 @@ use Rattle.spec.specs.Plan.{lowest_level, resized, fits}
 use Rattle.std.specs.Prelude.{Ok, Err}
 use Rattle.std.specs.Prelude.{Result as Returned}
 use Rattle.spec.specs.declared.Refusal.{Refusal}
-use Rattle.runs.specs.Tree.{Tree}
-use Rattle.runs.specs.Runs.{listed, levels_in, Bounded}
-use Rattle.runs.specs.declared.ExtentList.{ExtentList}
+use Rattle.runs.specs.Tree.{Tree, tree_with}
+use Rattle.runs.specs.Runs.{levels_in, Bounded}
 pub use Rattle.alloc.specs.declared.Draft.{Draft}
 
 -- the tree of record i with so many data blocks
@@ -24,7 +23,7 @@ table_of v t = bytes_of (mark 0 t.dropped (mark 1 (t.new_data ++ t.new_nodes) (b
 
 -- the tree q as code holds it is that tree
 pub record Built (v : Disk) (i wanted : ℕ) (q : Tree) : Type 0 where
-  pub extents : listed q.runs ≡ (resized_at v i wanted).extents
+  pub extents : q.extents ≡ (resized_at v i wanted).extents
   pub levels : levels_in q ≡ (resized_at v i wanted).levels
   pub table : q.table ≡ table_of v (resized_at v i wanted)
   pub before : q.before ≡ length (lowest_level (levels_of v (inode_at v i)))
@@ -35,11 +34,10 @@ abbrev pub result_with : Returned Draft Refusal → plan.Tree → Result plan.Tr
 result_with (Ok d) t = accept t
 result_with (Err r) t = refuse r
 
--- the tree of a draft, its bitmap and its extents in what was lent
-abbrev pub tree_in : List ℕ → ExtentList → Draft → Tree
-tree_in table extents d =
-    record { table = table; runs = extents; node = d.nodes.node; nodes = d.nodes.len; before = d.before; held = d.held }
+-- the tree of a draft, its bitmap in what was lent
+abbrev pub tree_in : List ℕ → Draft → Tree
+tree_in table d = tree_with table d.extents.now d.nodes d.before d.held
 
-pub record Drafted (v : Disk) (i wanted : ℕ) (table : List ℕ) (extents : ExtentList) (r : Returned Draft Refusal) : Type 0 where
+pub record Drafted (v : Disk) (i wanted : ℕ) (table : List ℕ) (r : Returned Draft Refusal) : Type 0 where
   pub verdict : fits (bits_of (v 33)) (data_of v (inode_at v i)) (levels_of v (inode_at v i)) wanted ≡ result_with r (resized_at v i wanted)
-  pub tree : (d : Draft) → r ≡ Ok d → Built v i wanted (tree_in table extents d)
+  pub tree : (d : Draft) → r ≡ Ok d → Built v i wanted (tree_in table d)

@@ -5,7 +5,7 @@ use Rattle.spec.specs.Bitmap.{bits_of, free_bits, mark, pick, picks}
 use Rattle.spec.specs.Inode.{inode_at, data_of, nodes_of, runs}
 use Rattle.runs.specs.declared.ExtentList.{ExtentList}
 use Rattle.runs.specs.Push.{Holds, Small}
-use Rattle.runs.specs.declared.Nodes.{Nodes}
+use Rattle.runs.specs.declared.nodes.Nodes.{Nodes}
 
 -- the data blocks and the nodes of record i
 abbrev pub data_at : Disk → ℕ → List ℕ
@@ -45,7 +45,6 @@ abbrev pub nodes_held : Nodes → List ℕ
 nodes_held q = take q.len q.node
 
 pub record HeldNodes (nodes : List ℕ) (q : Nodes) : Type 0 where
-  pub few : q.len ≤ 4
   pub is : nodes_held q ≡ nodes
   pub many : q.len ≡ length nodes
 

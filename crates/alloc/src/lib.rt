@@ -15,12 +15,13 @@ use bitmap::{clear_bit, free_in, known, lowest_free_from, set_bit};
 use extents::{Piece, Pieces, Stretch};
 use inode::{InodeNumber, SlotBlock, inode_block, is_live, nodes_for, start_at};
 use runs::{ExtentList, Nodes};
-use spec::{DiskBlock, FileBlock, Limits, Refusal};
+use spec::{DiskBlock, Extent, FileBlock, Limits, Refusal};
 use transaction::WorkingCopy;
 
-// The tree after a change: its nodes, and how many nodes and data blocks the file held before. Its extents and the bitmap stand in what was lent.
+// The tree after a change: its extents and nodes, and how many nodes and data blocks the file held before. The bitmap stands in what was lent.
 #[derive(Clone, Copy)]
-pub struct Draft {
+pub struct Draft<'a> {
+    pub extents: &'a [Extent],
     pub nodes: Nodes,
     pub before: usize,
     pub held: usize,
@@ -102,11 +103,14 @@ fn keep(extents: &mut ExtentList, copy: &WorkingCopy, i: InodeNumber, wanted: us
         from: FileBlock(0),
         n: wanted,
     };
+    let mut end = extents.end;
     let mut n: usize = 0;
     for e in Pieces::of(copy, front) {
-        extents.push(DiskBlock(e.extent.first), e.extent.count);
+        let b = DiskBlock(e.extent.first);
+        end = end.push(&mut extents.cells, b, e.extent.count);
         n += e.extent.count as usize;
     }
+    extents.end = end;
     n
 }
 
@@ -142,12 +146,14 @@ fn take_data(t: &mut [u8; Limits::BLOCK_SIZE], extents: &mut ExtentList, kept: u
     requires { Small extents.old kept × (kept ≤ 2048) × (n ≤ free_bits (bits_of t.old)) × (n ≤ 4096) }
     ensures { TookData t.old t.new extents.old kept n extents.new }
 {
+    let mut end = extents.end;
     let mut from: usize = 0;
     for _k in 0..n {
         let b = pick(t, from);
-        extents.push(b, 1);
+        end = end.push(&mut extents.cells, b, 1);
         from = (b.0 / 64) as usize;
     }
+    extents.end = end;
 }
 
 // The nodes of record i, of the block of the table that holds it.
@@ -171,7 +177,7 @@ fn held_nodes(table: &SlotBlock, i: InodeNumber) -> Nodes
 
 // The first `wanted` of the nodes held, and behind them those that they lack, picked in turn.
 fn take_nodes(t: &mut [u8; Limits::BLOCK_SIZE], held: Nodes, wanted: usize) -> [u32; 4]
-    requires { (wanted ≤ 4) × (held.len ≤ 4) × (wanted - held.len ≤ free_bits (bits_of t.old)) }
+    requires { (wanted ≤ 4) × (wanted - held.len ≤ free_bits (bits_of t.old)) }
     ensures { TookNodes t.old t.new held wanted result }
 {
     let mut node = held.node;
@@ -183,7 +189,6 @@ fn take_nodes(t: &mut [u8; Limits::BLOCK_SIZE], held: Nodes, wanted: usize) -> [
 
 // The nodes held behind the first `wanted` given back.
 fn give_nodes(t: &mut [u8; Limits::BLOCK_SIZE], held: Nodes, wanted: usize)
-    requires { held.len ≤ 4 }
     ensures { bits_of t.new ≡ mark 0 (drop wanted (take held.len held.node)) (bits_of t.old) }
 {
     for k in wanted..held.len {
@@ -192,15 +197,15 @@ fn give_nodes(t: &mut [u8; Limits::BLOCK_SIZE], held: Nodes, wanted: usize)
 }
 
 // The tree of record i with so many data blocks, or 16 or 17.
-pub fn draft_of(
+pub fn draft_of<'a>(
     table: &mut [u8; Limits::BLOCK_SIZE],
-    extents: &mut ExtentList,
+    extents: &'a mut ExtentList,
     copy: &WorkingCopy,
     i: InodeNumber,
     wanted: usize,
-) -> Result<Draft, Refusal>
+) -> Result<Draft<'a>, Refusal>
     requires { (wanted ≤ 8388608) × (table.old ≡ working copy.now 33) × Small extents.old 0 }
-    ensures { Drafted (working copy.now) i.n wanted table.new extents.new result }
+    ensures { Drafted (working copy.now) i.n wanted table.new result }
 {
     let free = free_in(table);
     let kept = keep(extents, copy, i, wanted);
@@ -213,19 +218,20 @@ pub fn draft_of(
         bytes: inode_block(copy, i),
     };
     let held = held_nodes(&records, i);
-    let nodes = nodes_for(extents.len);
+    let nodes = nodes_for(extents.end.len);
     let lacking = nodes.saturating_sub(held.len);
     if free < fresh + lacking {
         return Err(Refusal::NoSpace);
     }
-    if Limits::MAX_EXTENTS < extents.len {
+    let Some(extents) = extents.listed() else {
         return Err(Refusal::TooManyExtents);
-    }
+    };
     let node = take_nodes(table, held, nodes);
     let dropped = give_back(table, copy, i, FileBlock(wanted), kept);
     give_nodes(table, held, nodes);
     known(*table);
     Ok(Draft {
+        extents,
         nodes: Nodes { node, len: nodes },
         before: held.len,
         held: kept + dropped,

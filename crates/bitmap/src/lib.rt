@@ -1,21 +1,21 @@
 // The bitmap (document 01: bit table): 512 bytes, one bit to a block, read by whole words.
 #![tactic(auto)]
 
-ghost use Rattle.std.specs.Prelude.{◌≡◌, ◌*◌, ◌<◌, ◌≤◌, length, take, set};
+ghost use Rattle.std.specs.Prelude.{◌≡◌, ◌*◌, ◌<◌, ◌≤◌, take, set};
 ghost use Rattle.spec.specs.Bytes.{place};
 ghost use Rattle.spec.specs.Bitmap.{bits_of, free_bits};
 ghost use Rattle.bitmap.specs.Words.{Table, Bytes, word_of, found_of};
 
 use spec::{DiskBlock, Limits};
 
-// What owning a table tells and borrowing one does not: it has 512 entries, each a byte. The copy is never read, so the compiler drops it.
+// What owning a table tells, and a borrow that others changed does not: it has 512 entries, each a byte. The copy is never read, so the compiler drops it.
 pub fn known(t: [u8; Limits::BLOCK_SIZE])
     ensures { Table t }
 {}
 
 // Word w of a table: the bytes 8w to 8w+7, little-endian.
-fn word_in(t: &[u8], w: usize) -> u64
-    requires { (w < 64) × (length t.now ≡ 512) }
+fn word_in(t: &[u8; Limits::BLOCK_SIZE], w: usize) -> u64
+    requires { w < 64 }
     ensures { (result ≡ word_of t.now w) × Bytes t.now w }
 {
     let i = 8 * w;
@@ -32,8 +32,7 @@ fn word_in(t: &[u8], w: usize) -> u64
 }
 
 // How many bits of a table are 0: "Count of ones gives free blocks".
-pub fn free_in(t: &[u8]) -> usize
-    requires { length t.now ≡ 512 }
+pub fn free_in(t: &[u8; Limits::BLOCK_SIZE]) -> usize
     ensures { (result ≡ free_bits (bits_of t.now)) × (result ≤ 4096) }
 {
     let mut n: usize = 0;
@@ -49,7 +48,6 @@ pub fn lowest_free_from(t: &[u8; Limits::BLOCK_SIZE], from: usize) -> Option<Dis
     requires { free_bits (take (64 * from) (bits_of t.now)) ≡ 0 }
     ensures { (result ≡ found_of (place 0 (bits_of t.now))) × Table t.now }
 {
-    known(*t);
     for at in from..64 {
         let x = !word_in(t, at);
         if x != 0 {

@@ -27,7 +27,7 @@ use mirror::{
 use query::{free_count_in, nth_extent_in, read_in, record_in, size_in};
 use spec::{Answered, BlockStored, ByteOffset, Extent, FileBlock, Limits, Phase, Refusal};
 use store::{abort, format, open_store};
-use transaction::{LentSession, Volume, WorkingCopy, staged_in};
+use transaction::{LentSession, Staged, Volume, WorkingCopy};
 use update::{create_in, remove_in, rename_in, set_size_in, write_in};
 
 // The session that lent numbers stand for, but for its cells: how many of them are in use.
@@ -156,8 +156,7 @@ pub extern "C" fn purse_advance_v(
         (lent numbers.new staged.new device.new work.now) advance }
 {
     let s = Parts::of(numbers);
-    let cells: &[u32] = staged;
-    let used = &cells[0..staged_in(s.count)];
+    let used = Staged::of(staged, s.count);
     let answer = advance_in(device, work, s.blocks, s.phase, used);
     keep_behind(numbers, staged, s, answer);
     advanced(answer)

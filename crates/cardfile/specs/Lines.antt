@@ -111,6 +111,11 @@ line_told too_long = Err TooLong
 line_told malformed = Err BadForm
 line_told nothing = Ok None
 
+-- 20 "line longer than 64 bytes or without its feed", 21 "line not of this form"
+abbrev pub line_fault_number : LineFault → ℕ
+line_fault_number TooLong = 20
+line_fault_number BadForm = 21
+
 abbrev pub line_in : List ℕ → ℕ → Result (Option Line) LineFault
 line_in rest at = line_told (standing_in rest at)
 

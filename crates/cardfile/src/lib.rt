@@ -3,7 +3,7 @@
 
 ghost use Rattle.std.specs.Prelude.{◌≡◌, ◌+◌, ◌-◌, ◌*◌, ◌<◌, ◌≤◌, ◌^◌, ◌==◌, min, position, length};
 ghost use Rattle.cardfile.specs.Cards.{before, digit_value, hex_value, hex_byte, read_hex, read_decimal, within, serial_h, serial_d, serial_of, amount_of, entry_of, amount_bytes};
-ghost use Rattle.cardfile.specs.Lines.{line_of, line_number, below, letter_of, spelling_of, number_told, bytes_told, serial_told, form_told, line_in, line_at, name_told};
+ghost use Rattle.cardfile.specs.Lines.{line_of, line_number, below, letter_of, spelling_of, line_fault_number, number_told, bytes_told, serial_told, form_told, line_in, line_at, name_told};
 
 // The two spellings of a serial: H lines and D lines.
 #[derive(Clone, Copy, PartialEq, Eq)]
@@ -91,11 +91,20 @@ impl Line {
     pub const SEEN: usize = 65;
 }
 
-// Why a line has no card: "longer than 64 bytes", "not of this form or without its feed".
+// Why a line has no card: "longer than 64 bytes", "not of this form or without its feed". Each is its refusal's number: these alone tell 20 and 21.
 #[derive(Clone, Copy)]
 pub enum LineFault {
-    TooLong,
-    BadForm,
+    TooLong = 20,
+    BadForm = 21,
+}
+
+impl LineFault {
+    // The refusal's number, of loads and of conversions.
+    pub fn number(self) -> u32
+        ensures { result ≡ line_fault_number self }
+    {
+        self as u32
+    }
 }
 
 // The place of the first x: in a function of its own, where the proof finds what std's position answers; within `until` it did not.

@@ -1,8 +1,9 @@
 // The worked examples of the printer's file: what it writes is held to the file stdout.
 #![tactic(auto)]
 
-use cardfile::{Card, LineFault, amount_bytes, line_at, name_of};
+use cardfile::{Card, amount_bytes, line_at, line_number, name_of};
 use std::io;
+use trial::number;
 
 fn show_bytes(rt: &impl Print, bytes: &[u8]) -> io::Result<()> {
     rt.write_all(b" ")?;
@@ -25,8 +26,7 @@ fn show_sign(rt: &impl Print, c: u8) -> io::Result<()> {
         rt.write_all(b"\\")?;
         return print!(rt; "{c:02X}");
     }
-    let sign = [c];
-    rt.write_all(&sign)
+    rt.write_all(&[c])
 }
 
 fn show_text(rt: &impl Print, text: &[u8]) -> io::Result<()> {
@@ -44,8 +44,7 @@ fn show(rt: &impl Print, text: &[u8]) -> io::Result<()> {
     match line_at(text, 0) {
         Ok(Some(line)) => show_card(rt, line.card)?,
         Ok(None) => rt.write_all(b" none")?,
-        Err(LineFault::TooLong) => rt.write_all(b" 20")?,
-        Err(LineFault::BadForm) => rt.write_all(b" 21")?,
+        Err(why) => number(rt, why.number())?,
     }
     rt.write_all(b"\n")
 }
@@ -123,11 +122,6 @@ fn lengths(rt: &impl Print) -> io::Result<()> {
     show(rt, b"\n")
 }
 
-fn line_number(rt: &impl Print, text: &[u8], at: usize) -> io::Result<()> {
-    rt.write_all(b" ")?;
-    rt.print(cardfile::line_number(text, at))
-}
-
 fn main(rt: HostRuntime) -> io::Result<()> {
     names(&rt)?;
     fields(&rt)?;
@@ -137,7 +131,7 @@ fn main(rt: HostRuntime) -> io::Result<()> {
     lengths(&rt)?;
     rt.write_all(b"lines:")?;
     for at in [0, 1, 2, 4, 6, 100] {
-        line_number(&rt, b"a\nb\nc\n", at)?;
+        number(&rt, line_number(b"a\nb\nc\n", at))?;
     }
     rt.write_all(b"\n")
 }

@@ -5,14 +5,12 @@ use mathlib.Core.List.{List, [], ◌∷◌, ◌++◌}
 use native.Mathlib.Omega.{arith}
 use native.Mathlib.Numerals.{add-one}
 use native.Mathlib.Nat.{add-zero}
-use lib.ListN.{length, take, drop, get_or, length-append, length-take, get_or-append}
-use lib.Seq.{get_or-append-add, get_or-take, split_at, take-suc, take-length}
+use lib.ListN.{length, take, drop, get_or, length-append, get_or-append}
+use lib.Seq.{get_or-append-add, split_at, take-suc, take-length}
 use Rattle.std.specs.Prelude.{sum_by}
 use Rattle.spec.specs.declared.Extent.{Extent}
 use Rattle.spec.specs.Bytes.{up_from}
 use Rattle.spec.specs.Inode.{extent, blocks_in, counts}
-use Rattle.runs.specs.declared.ExtentList.{ExtentList}
-use Rattle.runs.specs.Runs.{listed}
 use Rattle.lists.specs.Counts.{length-up_from}
 use Rattle.lists.specs.Extents.{counts-append, blocks-append, length-blocks}
 use Rattle.content.proofs.Record.{counts-by}
@@ -22,11 +20,6 @@ up_at : (a n j : ℕ) → j < n → get_or (up_from a n) j 0 ≡ a + j
 up_at a zero j h = absurd (omega arith)
 up_at a (suc n) zero h = sym (add-zero a)
 up_at a (suc n) (suc j) h = up_at (suc a) n j (omega arith) ∙ omega arith
-
--- an extent that the code holds
-pub cell-is : (r : ExtentList) (k : ℕ) → k < length (listed r) → get_or (listed r) k (extent 0 0) ≡ get_or r.cells k (extent 0 0)
-unfolding listed
-cell-is r k h = let l = length-take r.len r.cells in get_or-take r.len r.cells k (extent 0 0) (omega arith)
 
 module _ (es : List Extent) where
   pub place_none : place_of es 0 ≡ 0
@@ -50,7 +43,7 @@ module _ (es : List Extent) where
     abbrev own : Extent
     own = get_or es k (extent 0 0)
 
-    pub place-more : place_of es (k + 1) ≡ place_of es k + (get_or es k (extent 0 0)).count
+    place-more : place_of es (k + 1) ≡ place_of es k + (get_or es k (extent 0 0)).count
     unfolding place_of
     place-more =
         let s = counts-append (take k es) (own ∷ []) in
@@ -93,31 +86,6 @@ module _ (es : List Extent) where
         ∙ up_at own.first own.count j l
         )
 
-    -- the same, from what the code holds
-    module _ (at : ℕ) (ea : at ≡ place_of es k) where
-      pub run_room : at + (get_or es k (extent 0 0)).count ≤ counts es
-      run_room = let p = place-room in let l = length-blocks es in omega arith
-
-      pub run_inside : (j : ℕ) → j < (get_or es k (extent 0 0)).count → at + j < length (blocks_in es)
-      run_inside j l = let p = place-room in omega arith
-
-      pub run-block : (j : ℕ) → j < (get_or es k (extent 0 0)).count → (get_or es k (extent 0 0)).first + j ≡ get_or (blocks_in es) (at + j) 0
-      run-block j l = rw ea (block_at j l)
-
-    -- from what the code takes away
-    module _ (n m : ℕ) (q : m ≡ k + 1) (e : n ≡ place_of es m) where
-      pub place-under : (get_or es k (extent 0 0)).count ≤ n
-      place-under =
-          let p = place-more in
-          let z : place_of es m ≡ place_of es (k + 1) = ap (place_of es) q in
-          omega arith
-
-      pub place-back : n - (get_or es k (extent 0 0)).count ≡ place_of es k
-      place-back =
-          let p = place-more in
-          let z : place_of es m ≡ place_of es (k + 1) = ap (place_of es) q in
-          omega arith
-
 -- ---- the last of what is left of a list
 
 module _ {A : Type 0} (d : A) where
@@ -147,3 +115,53 @@ module _ {A : Type 0} (d : A) where
   last-left rest es old x e p =
       let n : length old ≡ length rest + 1 = ap length p ∙ length-append rest (x ∷ []) in
       last-of rest es x (sym p ∙ e ∙ ap (λ (k : ℕ). take k es) n)
+
+-- ---- the extents from the last to the first
+
+-- extent x, the last of those left, whose blocks end at place `at` of the file
+pub record LastExtent (es rest : List Extent) (x : Extent) (at : ℕ) : Type 0 where
+  pub front : rest ≡ take (length rest) es
+  pub is : x ≡ get_or es (length rest) (extent 0 0)
+  pub under : x.count ≤ at
+  pub whole : at ≡ at - x.count + x.count
+  pub back : at - x.count ≡ place_of es (length rest)
+  pub room : at ≤ counts es
+  pub each : (j : ℕ) → j < x.count → (at - x.count + j < length (blocks_in es)) × (x.first + j ≡ get_or (blocks_in es) (at - x.count + j) 0)
+
+pub extent-left : (es rest old : List Extent) (x : Extent) (at : ℕ) → old ≡ take (length old) es → at ≡ place_of es (length old) → old ≡ rest ++ (x ∷ []) → LastExtent es rest x at
+extent-left es rest old x at e p q =
+    let f = last-left (extent 0 0) rest es old x e q in
+    let k = length rest in
+    let n : length old ≡ k + 1 = ap length q ∙ length-append rest (x ∷ []) in
+    let c = ap (λ (e : Extent). e.count) f.is in
+    let m : at ≡ place_of es k + (get_or es k (extent 0 0)).count = p ∙ ap (place_of es) n ∙ place-more es k f.inside in
+    let b : at - x.count ≡ place_of es k = omega arith in
+    let r = place-room es k f.inside in
+    record {
+      front = f.front;
+      is = f.is;
+      under = omega arith;
+      whole = omega arith;
+      back = b;
+      room = let l = length-blocks es in omega arith;
+      each = λ j h. (omega arith, rw (b, f.is) (block_at es k f.inside j (omega arith)));
+    }
+
+-- ---- the nodes from the last to the first
+
+-- node j, the last of those left
+pub record LastNode (ns rest old : List ℕ) (j : ℕ) : Type 0 where
+  pub front : rest ≡ take (length rest) ns
+  pub place : j ≡ length rest
+  pub behind : length old ≡ j + 1
+  pub inside : j < length ns
+
+pub node-left : (ns rest old : List ℕ) (b j count : ℕ) → old ≡ take (length old) ns → count ≡ 0 → old ≡ rest ++ (b ∷ []) → j ≡ count + length rest → LastNode ns rest old j
+node-left ns rest old b j count e none q n =
+    let f = last-left 0 rest ns old b e q in
+    record {
+      front = f.front;
+      place = omega arith;
+      behind = omega (arith, ap length q ∙ length-append rest (b ∷ []));
+      inside = omega (arith, f.inside);
+    }

@@ -1,7 +1,7 @@
 // A change staged: which blocks, with which content, in ascending order.
 #![tactic(auto)]
 
-ghost use Rattle.std.specs.Prelude.{◌≡◌, true, ℕ, List, [], ◌+◌, ◌*◌, ◌/◌, ◌<◌, ◌≤◌, length, take, drop};
+ghost use Rattle.std.specs.Prelude.{◌≡◌, true, ℕ, List, [], ◌+◌, ◌*◌, ◌<◌, ◌≤◌, length, take, drop};
 ghost use Rattle.spec.specs.Bytes.{same};
 ghost use Rattle.spec.specs.Disk.{Disk, slice_of};
 ghost use Rattle.spec.specs.Inode.{block_of_inode};
@@ -23,42 +23,48 @@ ghost use Rattle.change.specs.Contents.{Stages, Ready, content_of, content_by, w
 
 use agenda::{Agenda, Content, Planned};
 use block::{copy_of, place_in_block};
-use content::{Rewrite, lay_record, node_content};
+use content::{RecordPrefix, Rewrite, lay_record, node_content};
 use inode::{InodeNumber, inode_block, table_block};
 use runs::{DataBlock, block_count};
-use spec::{DiskBlock, FileBlock, Limits, Refusal};
+use spec::{DiskBlock, Extent, FileBlock, Limits, Refusal};
 use transaction::{Staging, WorkingCopy};
 
 mod plan;
 
 pub use plan::Plan;
 
-// Data block p of the file laid in its image. An image is a slice of 512 bytes, not an array: std's array of a part of the work space tells nothing of what
-// is written back.
-fn lay_data(image: &mut [u8], data: &Rewrite, p: DataBlock)
+// A block's content, made in it.
+fn edit_block(block: &mut [u8; Limits::BLOCK_SIZE], plan: &Plan, content: Content)
+    ensures { block.new ≡ content_of plan.now.number.n (change_of plan.now) content block.old }
+{
+    match content {
+        Content::Bitmap => *block = *plan.table,
+        Content::Record => lay_record(block, plan.number.n, RecordPrefix { bytes: &plan.inode }),
+        Content::Node(j) => *block = node_content(plan.extents, j),
+        Content::Data(p) => plan.data.lay(block, p),
+    }
+}
+
+// The same in the block's image, which is a slice of 512 bytes: std's array of a part of the work space tells nothing of what is written back.
+fn edit_image(image: &mut [u8], plan: &Plan, content: Content)
     requires { length image.old ≡ 512 }
-    ensures { image.new ≡ data_content data.now.held data.now.old data.now.size data.now.x.0 data.now.bytes.now p.0 image.old }
+    ensures { image.new ≡ content_of plan.now.number.n (change_of plan.now) content image.old }
 {
     let Some(block) = image.as_mut_array() else {
         unreachable!()
     };
-    data.lay(block, p);
+    edit_block(block, plan, content);
 }
 
-// A block's content, made in its image.
-fn edit_image(image: &mut [u8], i: InodeNumber, plan: &Plan, content: Content)
+// The first bytes of record i replaced in the image of its block.
+fn lay_in_image(image: &mut [u8], i: InodeNumber, new: RecordPrefix)
     requires { length image.old ≡ 512 }
-    ensures { image.new ≡ content_of i.n (change_of plan.now) plan.now.data.x.0 plan.now.data.bytes.now content image.old }
+    ensures { image.new ≡ with_record i.n new.entry.bytes.now image.old }
 {
-    match content {
-        Content::Bitmap => {
-            let table = plan.table;
-            image.copy_from_slice(table)
-        }
-        Content::Record => lay_record(image, i.n, &plan.inode),
-        Content::Node(j) => image.copy_from_slice(&node_content(plan.extents, j)),
-        Content::Data(p) => lay_data(image, &plan.data, p),
-    }
+    let Some(block) = image.as_mut_array() else {
+        unreachable!()
+    };
+    lay_record(block, i.n, new);
 }
 
 // Whether these bytes stand at a place of a block, which may be cut short.
@@ -109,36 +115,6 @@ fn add_record(
     agenda.insert(table_block(i), Content::Record)
 }
 
-// The first place of a file that holds data, at most as many as were held.
-fn first_data(data: &Rewrite) -> usize
-    ensures { (result ≤ data.now.held) × (0 < length data.now.bytes.now → result ≤ data.now.x.0 / 512) }
-{
-    if data.bytes.len() == 0 {
-        return data.held;
-    }
-    data.held.min(data.x.0 / Limits::BLOCK_SIZE)
-}
-
-// The place of the last kept block, at most as many as were held.
-fn first_kept(data: &Rewrite) -> usize
-    ensures { (result ≤ data.now.held) × (data.now.size < data.now.old → result ≤ data.now.size / 512) }
-{
-    if data.old <= data.size {
-        return data.held;
-    }
-    data.held.min(data.size / Limits::BLOCK_SIZE)
-}
-
-// The place behind the last kept block, 0 where the file is not shortened.
-fn kept_end(data: &Rewrite) -> usize
-    ensures { data.now.size < data.now.old → data.now.size / 512 < result }
-{
-    if data.old <= data.size {
-        return 0;
-    }
-    data.size / Limits::BLOCK_SIZE + 1
-}
-
 // Of the places of a file's blocks below `low`, and of those from `high` on that were held before, none is staged.
 #[derive(Clone, Copy)]
 pub struct Window {
@@ -146,139 +122,138 @@ pub struct Window {
     pub high: FileBlock,
 }
 
-fn window_of(data: &Rewrite) -> Window
-    ensures { Outside data.now.held data.now.old data.now.size data.now.x.0 data.now.bytes.now result }
-{
-    let behind = (data.x.0 + data.bytes.len()).div_ceil(Limits::BLOCK_SIZE);
-    Window {
-        low: FileBlock(first_data(data).min(first_kept(data))),
-        high: FileBlock(behind.max(kept_end(data))),
-    }
-}
-
-// Data block p of the file, which is block b, on the agenda where it is staged.
-fn add_place(agenda: &mut Agenda, plan: &Plan, p: DataBlock, b: DiskBlock) -> Result<(), Refusal>
-    requires { IsBlock (change_of plan.now) p.0 b.0 }
-    ensures { (v : Disk) (i : ℕ) → Lists (content_by v i plan.now) agenda.old (ascending (data_from v plan.now (p.0 + 1)))
-        → Told result (content_by v i plan.now) agenda.new (ascending (data_from v plan.now p.0)) }
-{
-    if plan.data.is_staged(p) {
-        return agenda.insert(b, Content::Data(p));
-    }
-    Ok(())
-}
-
-// The places from one to another of the file, from the last to the first, of a run whose first block is `first` and data block `at` of the file.
-fn add_places(
-    agenda: &mut Agenda,
-    plan: &Plan,
-    first: DiskBlock,
-    at: FileBlock,
-    from: usize,
-    to: usize,
-) -> Result<(), Refusal>
-    requires { (at.0 ≤ from) × (from ≤ to) × (to ≤ 8192) × (first.0 < 131072) × ((j : ℕ) → at.0 + j < to → IsBlock (change_of plan.now) (at.0 + j) (first.0 + j)) }
-    ensures { (v : Disk) (i : ℕ) → Lists (content_by v i plan.now) agenda.old (ascending (data_from v plan.now to))
-        → Told result (content_by v i plan.now) agenda.new (ascending (data_from v plan.now from)) }
-{
-    for p in (from..to).rev() {
-        let b = DiskBlock(first.0 + (p - at.0) as u32);
-        add_place(agenda, plan, DataBlock(p as u32), b)?;
-    }
-    Ok(())
-}
-
-// n blocks of the file; the first is block `first` and data block `at` of the file. Outside of the window only new blocks are looked at.
-fn add_run(
-    agenda: &mut Agenda,
-    plan: &Plan,
-    w: Window,
-    first: DiskBlock,
-    n: u32,
-    at: FileBlock,
-) -> Result<(), Refusal>
-    requires { (first.0 < 131072) × (at.0 + n ≤ 8192) × ((j : ℕ) → j < n → IsBlock (change_of plan.now) (at.0 + j) (first.0 + j))
-        × Outside plan.now.data.held plan.now.data.old plan.now.data.size plan.now.data.x.0 plan.now.data.bytes.now w }
-    ensures { (v : Disk) (i : ℕ) → Lists (content_by v i plan.now) agenda.old (ascending (data_from v plan.now (at.0 + n)))
-        → Told result (content_by v i plan.now) agenda.new (ascending (data_from v plan.now at.0)) }
-{
-    let end = at.0 + n as usize;
-    let new = plan.data.held.max(at.0).min(end);
-    let high = w.high.0.max(at.0).min(new);
-    let low = w.low.0.max(at.0).min(high);
-    add_places(agenda, plan, first, at, new, end)?;
-    add_places(agenda, plan, first, at, low, high)
-}
-
-// The data blocks of a change, from the last to the first.
-fn add_data(agenda: &mut Agenda, plan: &Plan) -> Result<(), Refusal>
-    ensures { (v : Disk) (i : ℕ) → Lists (content_by v i plan.now) agenda.old [] → Told result (content_by v i plan.now) agenda.new (ascending (data_from v plan.now 0)) }
-{
-    let w = window_of(&plan.data);
-    let extents = plan.extents.listed();
-    let mut at = block_count(extents) as usize;
-    for e in extents.iter().rev() {
-        let end = at;
-        at -= e.count as usize;
-        if (w.low.0 < end) & ((at < w.high.0) | (plan.data.held < end)) {
-            add_run(agenda, plan, w, DiskBlock(e.first), e.count, FileBlock(at))?;
+impl Window {
+    // That of a change of the file's blocks.
+    fn of(rewrite: &Rewrite) -> Window
+        ensures { Outside rewrite.now.held rewrite.now.old rewrite.now.size rewrite.now.x.0 rewrite.now.bytes.now result }
+    {
+        let behind = (rewrite.x.0 + rewrite.bytes.len()).div_ceil(Limits::BLOCK_SIZE);
+        Window {
+            low: FileBlock(rewrite.first_data().min(rewrite.first_kept())),
+            high: FileBlock(behind.max(rewrite.kept_end())),
         }
     }
-    Ok(())
 }
 
-// Node j, which is block b: one that was held only where its content changes.
-fn add_node(
-    agenda: &mut Agenda,
-    copy: &WorkingCopy,
-    plan: &Plan,
-    j: u8,
-    b: DiskBlock,
-) -> Result<(), Refusal>
-    requires { IsNode (change_of plan.now) j b.0 }
-    ensures { (i : ℕ) → Lists (content_by (working copy.now) i plan.now) agenda.old (ascending (nodes_from (working copy.now) plan.now (j + 1)))
-        → Told result (content_by (working copy.now) i plan.now) agenda.new (ascending (nodes_from (working copy.now) plan.now j)) }
-{
-    if (j as usize) < plan.before {
-        let new = node_content(plan.extents, j);
-        return add_block(agenda, copy, b, Content::Node(j), &new);
+impl Plan<'_, '_> {
+    // Data block p of the file, which is block b, on the agenda where it is staged.
+    fn add_place(&self, agenda: &mut Agenda, p: DataBlock, b: DiskBlock) -> Result<(), Refusal>
+        requires { IsBlock (change_of self.now) p.0 b.0 }
+        ensures { (v : Disk) → Lists (content_by v self.now) agenda.old (ascending (data_from v self.now (p.0 + 1)))
+            → Told result (content_by v self.now) agenda.new (ascending (data_from v self.now p.0)) }
+    {
+        if self.data.is_staged(p) {
+            return agenda.insert(b, Content::Data(p));
+        }
+        Ok(())
     }
-    agenda.insert(b, Content::Node(j))
-}
 
-// The nodes of a change, from the last to the first.
-fn add_nodes(agenda: &mut Agenda, copy: &WorkingCopy, plan: &Plan) -> Result<(), Refusal>
-    ensures { (i : ℕ) → Lists (content_by (working copy.now) i plan.now) agenda.old (ascending (data_from (working copy.now) plan.now 0))
-        → Told result (content_by (working copy.now) i plan.now) agenda.new (ascending (nodes_from (working copy.now) plan.now 0)) }
-{
-    let nodes = plan.nodes.blocks();
-    for (j, b) in nodes.iter().enumerate().rev() {
-        add_node(agenda, copy, plan, j as u8, DiskBlock(*b))?;
+    // The places from one to another of the file, from the last to the first, of a run whose first block is `first` and data block `at` of the file.
+    fn add_places(
+        &self,
+        agenda: &mut Agenda,
+        first: DiskBlock,
+        at: FileBlock,
+        from: usize,
+        to: usize,
+    ) -> Result<(), Refusal>
+        requires { (at.0 ≤ from) × (from ≤ to) × (to ≤ 8192) × (first.0 < 131072) × ((j : ℕ) → at.0 + j < to → IsBlock (change_of self.now) (at.0 + j) (first.0 + j)) }
+        ensures { (v : Disk) → Lists (content_by v self.now) agenda.old (ascending (data_from v self.now to))
+            → Told result (content_by v self.now) agenda.new (ascending (data_from v self.now from)) }
+    {
+        for p in (from..to).rev() {
+            let b = DiskBlock(first.0 + (p - at.0) as u32);
+            self.add_place(agenda, DataBlock(p as u32), b)?;
+        }
+        Ok(())
     }
-    Ok(())
-}
 
-// All that a change stages.
-fn add_all(
-    agenda: &mut Agenda,
-    copy: &WorkingCopy,
-    i: InodeNumber,
-    plan: &Plan,
-) -> Result<(), Refusal>
-    ensures { Lists (content_by (working copy.now) i.n plan.now) agenda.old []
-        → Told result (content_by (working copy.now) i.n plan.now) agenda.new
-        (ascending (change_stores (working copy.now) i.n (change_of plan.now) plan.now.data.x.0 plan.now.data.bytes.now)) }
-{
-    add_data(agenda, plan)?;
-    add_nodes(agenda, copy, plan)?;
-    add_record(agenda, copy, i, &plan.inode)?;
-    let b = DiskBlock(Limits::BITMAP_BLOCK);
-    add_block(agenda, copy, b, Content::Bitmap, plan.table)
+    // The blocks of an extent of the file; the first is data block `at` of the file. Outside of the window only new blocks are looked at.
+    fn add_run(
+        &self,
+        agenda: &mut Agenda,
+        w: Window,
+        e: Extent,
+        at: FileBlock,
+    ) -> Result<(), Refusal>
+        requires { (e.first < 131072) × (at.0 + e.count ≤ 8192) × ((j : ℕ) → j < e.count → IsBlock (change_of self.now) (at.0 + j) (e.first + j))
+            × Outside self.now.data.held self.now.data.old self.now.data.size self.now.data.x.0 self.now.data.bytes.now w }
+        ensures { (v : Disk) → Lists (content_by v self.now) agenda.old (ascending (data_from v self.now (at.0 + e.count)))
+            → Told result (content_by v self.now) agenda.new (ascending (data_from v self.now at.0)) }
+    {
+        let first = DiskBlock(e.first);
+        let end = at.0 + e.count as usize;
+        let new = self.data.held.max(at.0).min(end);
+        let high = w.high.0.max(at.0).min(new);
+        let low = w.low.0.max(at.0).min(high);
+        self.add_places(agenda, first, at, new, end)?;
+        self.add_places(agenda, first, at, low, high)
+    }
+
+    // The data blocks of a change, from the last to the first.
+    fn add_data(&self, agenda: &mut Agenda) -> Result<(), Refusal>
+        ensures { (v : Disk) → Lists (content_by v self.now) agenda.old [] → Told result (content_by v self.now) agenda.new (ascending (data_from v self.now 0)) }
+    {
+        let w = Window::of(&self.data);
+        let mut at = block_count(self.extents) as usize;
+        for e in self.extents.iter().rev() {
+            let end = at;
+            at -= e.count as usize;
+            if (w.low.0 < end) & ((at < w.high.0) | (self.data.held < end)) {
+                self.add_run(agenda, w, *e, FileBlock(at))?;
+            }
+        }
+        Ok(())
+    }
+
+    // Node j, which is block b: one that was held only where its content changes.
+    fn add_node(
+        &self,
+        agenda: &mut Agenda,
+        copy: &WorkingCopy,
+        j: u8,
+        b: DiskBlock,
+    ) -> Result<(), Refusal>
+        requires { IsNode (change_of self.now) j b.0 }
+        ensures { Lists (content_by (working copy.now) self.now) agenda.old (ascending (nodes_from (working copy.now) self.now (j + 1)))
+            → Told result (content_by (working copy.now) self.now) agenda.new (ascending (nodes_from (working copy.now) self.now j)) }
+    {
+        if usize::from(j) < self.before {
+            let new = node_content(self.extents, j);
+            return add_block(agenda, copy, b, Content::Node(j), &new);
+        }
+        agenda.insert(b, Content::Node(j))
+    }
+
+    // The nodes of a change, from the last to the first.
+    fn add_nodes(&self, agenda: &mut Agenda, copy: &WorkingCopy) -> Result<(), Refusal>
+        ensures { Lists (content_by (working copy.now) self.now) agenda.old (ascending (data_from (working copy.now) self.now 0))
+            → Told result (content_by (working copy.now) self.now) agenda.new (ascending (nodes_from (working copy.now) self.now 0)) }
+    {
+        let nodes = self.nodes.blocks();
+        for (j, b) in nodes.iter().enumerate().rev() {
+            self.add_node(agenda, copy, j as u8, DiskBlock(*b))?;
+        }
+        Ok(())
+    }
+
+    // All that a change stages.
+    fn add_all(&self, agenda: &mut Agenda, copy: &WorkingCopy) -> Result<(), Refusal>
+        ensures { Lists (content_by (working copy.now) self.now) agenda.old []
+            → Told result (content_by (working copy.now) self.now) agenda.new
+            (ascending (change_stores (working copy.now) self.now.number.n (change_of self.now))) }
+    {
+        self.add_data(agenda)?;
+        self.add_nodes(agenda, copy)?;
+        add_record(agenda, copy, self.number, &self.inode)?;
+        let b = DiskBlock(Limits::BITMAP_BLOCK);
+        add_block(agenda, copy, b, Content::Bitmap, self.table)
+    }
 }
 
 // Whether a content is one and the same whatever the block held: that of the bitmap, a node or a new data block.
 fn is_made_anew(held: usize, content: Content) -> bool
-    ensures { result ≡ true → (i : ℕ) (c : Change) (x : ℕ) (bytes y z : List ℕ) → c.tree.held ≡ held → content_of i c x bytes content y ≡ content_of i c x bytes content z }
+    ensures { result ≡ true → (i : ℕ) (c : Change) (y z : List ℕ) → c.tree.held ≡ held → content_of i c content y ≡ content_of i c content z }
 {
     match content {
         Content::Bitmap => true,
@@ -293,8 +268,8 @@ fn ready_image(images: &mut Staging, b: DiskBlock, k: usize, held: usize, conten
     requires { (k ≡ spot (numbers_lent images.old.lent.now) b.0) × (k < 32) }
     ensures parts { Held images.old images.new }
     ensures numbers { session_lent images.new.lent.now ≡ session_lent images.old.lent.now }
-    ensures bytes { (i : ℕ) (c : Change) (x : ℕ) (bytes : List ℕ) → c.tree.held ≡ held
-        → Ready (content_of i c x bytes content) (view (state_lent images.old.lent.now) b.0) images.old.lent.now.work.now images.new.lent.now.work.now k }
+    ensures bytes { (i : ℕ) (c : Change) → c.tree.held ≡ held
+        → Ready (content_of i c content) (view (state_lent images.old.lent.now) b.0) images.old.lent.now.work.now images.new.lent.now.work.now k }
 {
     if is_made_anew(held, content) {
         return;
@@ -303,12 +278,12 @@ fn ready_image(images: &mut Staging, b: DiskBlock, k: usize, held: usize, conten
 }
 
 // A block staged with its content, which is made in its image.
-fn stage_block(images: &mut Staging, i: InodeNumber, plan: &Plan, planned: Planned)
+fn stage_block(images: &mut Staging, plan: &Plan, planned: Planned)
     requires { spot (numbers_lent images.old.lent.now) planned.block.0 < 32 }
     ensures parts { Held images.old images.new }
     ensures state { state_lent images.new.lent.now
         ≡ with_staging (state_lent images.old.lent.now) (stage (staged_of (state_lent images.old.lent.now))
-        (put planned.block.0 (content_of i.n (change_of plan.now) plan.now.data.x.0 plan.now.data.bytes.now planned.content
+        (put planned.block.0 (content_of plan.now.number.n (change_of plan.now) planned.content
         (view (state_lent images.old.lent.now) planned.block.0)))) }
 {
     let b = planned.block;
@@ -318,53 +293,53 @@ fn stage_block(images: &mut Staging, i: InodeNumber, plan: &Plan, planned: Plann
     let work = &mut *lent.work;
     let at = Limits::BLOCK_SIZE * k;
     let image = &mut work[at..at + Limits::BLOCK_SIZE];
-    edit_image(image, i, plan, planned.content);
+    edit_image(image, plan, planned.content);
     lent.add(b, k);
 }
 
 // The block of record i staged at its place k with these as the first bytes of the record.
-pub fn stage_record(images: &mut Staging, i: InodeNumber, k: usize, new: &[u8])
-    requires { (length new.now ≤ 32) × (k ≡ spot (numbers_lent images.old.lent.now) (block_of_inode i.n)) × (k < 32) }
+pub fn stage_record(images: &mut Staging, i: InodeNumber, k: usize, new: RecordPrefix)
+    requires { (k ≡ spot (numbers_lent images.old.lent.now) (block_of_inode i.n)) × (k < 32) }
     ensures parts { Held images.old images.new }
     ensures state { state_lent images.new.lent.now
         ≡ with_staging (state_lent images.old.lent.now) (stage (staged_of (state_lent images.old.lent.now))
-        (put (block_of_inode i.n) (with_record i.n new.now (view (state_lent images.old.lent.now) (block_of_inode i.n))))) }
+        (put (block_of_inode i.n) (with_record i.n new.entry.bytes.now (view (state_lent images.old.lent.now) (block_of_inode i.n))))) }
 {
     let b = table_block(i);
     images.load(b, k);
     let lent = &mut *images.lent;
     let work = &mut *lent.work;
     let at = Limits::BLOCK_SIZE * k;
-    lay_record(&mut work[at..at + Limits::BLOCK_SIZE], i.n, new);
+    lay_in_image(&mut work[at..at + Limits::BLOCK_SIZE], i, new);
     lent.add(b, k);
 }
 
 // The agenda staged, block by block.
-fn stage_all(images: &mut Staging, i: InodeNumber, plan: &Plan, agenda: &Agenda)
-    requires { Stages i.n plan.now (state_lent images.old.lent.now) (take agenda.now.len agenda.now.entries) }
+fn stage_all(images: &mut Staging, plan: &Plan, agenda: &Agenda)
+    requires { Stages plan.now (state_lent images.old.lent.now) agenda.now }
     ensures parts { Held images.old images.new }
     ensures state { state_lent images.new.lent.now
         ≡ with_staging (state_lent images.old.lent.now) (stage_each (staged_of (state_lent images.old.lent.now))
-        (stores_by (content_by (view (state_lent images.old.lent.now)) i.n plan.now) (take agenda.now.len agenda.now.entries))) }
+        (stores_by (content_by (view (state_lent images.old.lent.now)) plan.now) agenda.now)) }
 {
-    for e in &agenda.entries[..agenda.len] {
-        stage_block(images, i, plan, *e);
+    for e in agenda.as_slice() {
+        stage_block(images, plan, *e);
     }
     images.lent.settle();
 }
 
-// A change of record i staged. 18 is tested before the first byte of the work space changes.
-pub fn apply(images: &mut Staging, i: InodeNumber, plan: &Plan) -> Result<(), Refusal>
+// A change of a file staged. 18 is tested before the first byte of the work space changes.
+pub fn apply(images: &mut Staging, plan: &Plan) -> Result<(), Refusal>
     ensures parts { Held images.old images.new }
     ensures state { outcome (state_lent images.new.lent.now) (done_of result)
         ≡ settle (outcome (state_lent images.old.lent.now)) (staging (state_lent images.old.lent.now)
-        (change_stores (view (state_lent images.old.lent.now)) i.n (change_of plan.now) plan.now.data.x.0 plan.now.data.bytes.now)) }
+        (change_stores (view (state_lent images.old.lent.now)) plan.now.number.n (change_of plan.now))) }
 {
     let mut agenda = Agenda::empty();
-    add_all(&mut agenda, &images.lent.copy(), i, plan)?;
+    plan.add_all(&mut agenda, &images.lent.copy())?;
     if !agenda.fits(images.lent.staged()) {
         return Err(Refusal::TooManyStaged);
     }
-    stage_all(images, i, plan, &agenda);
+    stage_all(images, plan, &agenda);
     Ok(())
 }

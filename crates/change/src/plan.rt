@@ -3,14 +3,16 @@ ghost use Rattle.runs.specs.Runs.{Bounded};
 ghost use Rattle.runs.specs.Tree.{tree_with};
 
 use content::Rewrite;
-use runs::{ExtentList, Nodes};
-use spec::Limits;
+use inode::InodeNumber;
+use runs::Nodes;
+use spec::{Extent, Limits};
 
-// The new bitmap, the file's extents and nodes, how many nodes it held before, the bytes of its record, and how its data blocks change.
+// The number of its record, the new bitmap, the file's extents and nodes, how many nodes it held before, the bytes of its record, and how its data blocks change.
 #[derive(Clone, Copy)]
 pub struct Plan<'a, 'b> {
+    pub number: InodeNumber,
     pub table: &'a [u8; Limits::BLOCK_SIZE],
-    pub extents: &'a ExtentList,
+    pub extents: &'a [Extent],
     pub nodes: Nodes,
     pub before: usize,
     pub inode: [u8; Limits::INODE_SIZE],

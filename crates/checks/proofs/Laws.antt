@@ -1,13 +1,14 @@
 -- The cases of the tests at the head of a call. Assumes nothing.
 use Prim.Native.Nat.{ℕ, ◌*◌, ◌≤◌}
-use mathlib.Core.Path.{◌≡◌, refl}
+use mathlib.Core.Path.{◌≡◌, refl, sym, ◌∙◌}
 use mathlib.Core.Bool.{Bool, true, false, ◌&&◌}
 use mathlib.Core.List.{List}
 use borrow.Author.Tests.{eqb-true, leb-true}
 use lib.Dec.{eqb, leb}
-use lib.ListN.{length}
+use lib.ListN.{length, take}
 use Rattle.spec.specs.Disk.{is_allowed}
 use Rattle.spec.specs.Inode.{is_name}
+use Rattle.spec.specs.declared.Phase.{Phase}
 use Rattle.spec.specs.declared.Session.{Session}
 use Rattle.spec.specs.declared.Refusal.{Refusal}
 use Rattle.spec.specs.declared.Refusal.TheVariants.{DeviceSize, WorkSize, BadName, TooLarge}
@@ -15,7 +16,16 @@ use Rattle.spec.specs.Answers.{Result, refuse, accept, require, ◌>>◌, Answer
 use Rattle.spec.specs.Transaction.{state_of}
 use Rattle.spec.specs.Calls.{Outcome, left, lent_ok, name_ok}
 use Rattle.lists.specs.Tests.{both_true}
-use Rattle.checks.specs.Checks.{names_ok, name_size_ok}
+use Rattle.transaction.specs.Places.{session_of}
+use Rattle.transaction.proofs.Laws.{staged-parts}
+use Rattle.checks.specs.Checks.{Seen, names_ok, name_size_ok}
+
+-- ---- a session of its parts
+
+-- seen by those of its cells that are in use
+pub seen-cells : (blocks : ℕ) (phase : Phase) (cells : List ℕ) (count : ℕ) (l : List ℕ) → l ≡ take count cells → Seen blocks phase l (session_of blocks phase cells count)
+seen-cells blocks phase cells count l e =
+    record { head = record { size = refl; at-phase = refl }; numbers = staged-parts cells count blocks phase ∙ sym e }
 
 -- ---- 1 and 2, and 12
 

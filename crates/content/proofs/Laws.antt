@@ -17,8 +17,6 @@ use Rattle.block.proofs.Laws.{lt-or-le, length-exactly, exactly-nil}
 use Rattle.spec.specs.declared.Extent.{Extent}
 use Rattle.spec.specs.Inode.{extent, bytes_of_slots}
 use Rattle.spec.specs.Plan.{overlay, clear_tail, is_last_kept}
-use Rattle.runs.specs.declared.ExtentList.{ExtentList}
-use Rattle.runs.specs.Runs.{listed}
 use Rattle.content.specs.Content.{with_record, node_content, laid_over, kept_content, data_content}
 
 -- ---- a record
@@ -94,10 +92,10 @@ pub slots-none : (es : List Extent) → exactly 512 [] ≡ filled (bytes_of_slot
 unfolding filled
 slots-none es = refl
 
-pub slots-all : (r : ExtentList) (j k : ℕ) (own : List Extent) (out : List ℕ) → own ≡ take 128 (drop (128 * j) (listed r)) → length own ≤ k
-    → out ≡ filled (bytes_of_slots (take k own)) → out ≡ node_content r j
+pub slots-all : (es : List Extent) (j k : ℕ) (own : List Extent) (out : List ℕ) → own ≡ take 128 (drop (128 * j) es) → length own ≤ k
+    → out ≡ filled (bytes_of_slots (take k own)) → out ≡ node_content es j
 unfolding node_content filled
-slots-all r j k own out eo l e = e ∙ ap (λ (es : List Extent). exactly 512 (bytes_of_slots es)) (take_all k own l ∙ eo)
+slots-all es j k own out eo l e = e ∙ ap (λ (es : List Extent). exactly 512 (bytes_of_slots es)) (take_all k own l ∙ eo)
 
 -- ---- a data block
 

@@ -6,7 +6,7 @@ use mathlib.Core.List.{List, [], ◌∷◌, ◌++◌}
 use native.Mathlib.Omega.{arith}
 use borrow.Author.Tests.{eq-eqb, ne_eqb}
 use lib.Dec.{eqb}
-use lib.ListN.{length, take, drop, get_or, length-take, get_or-eq_default, take-append-drop}
+use lib.ListN.{length, take, drop, get_or, length-take, take-append-drop}
 use lib.Seq.{get_or-take, drop-drop}
 use Rattle.std.specs.Prelude.{sum_by}
 use Rattle.std.specs.Int.{w32, to_le_bytes}
@@ -14,23 +14,11 @@ use Rattle.std.proofs.lemmas.List.Sums.{sum_by-cons}
 use Rattle.spec.specs.declared.Extent.{Extent}
 use Rattle.spec.specs.Bytes.{exactly, bytes2, bytes4}
 use Rattle.spec.specs.Inode.{extent, counts, bytes_of_slots, node_slots, top_slots, bytes_of_inode, inode_with}
-use Rattle.runs.specs.Tree.{Tree}
-use Rattle.runs.specs.declared.ExtentList.{ExtentList}
-use Rattle.runs.specs.declared.Nodes.{Nodes}
-use Rattle.runs.specs.Runs.{listed, nodes_in, levels_in, Bounded}
+use Rattle.runs.specs.Tree.{Tree, tree_with}
+use Rattle.runs.specs.declared.nodes.Nodes.{Nodes}
+use Rattle.runs.specs.Runs.{nodes_in, levels_in}
 use Rattle.lists.specs.Extents.{counts-append}
 use Rattle.content.specs.Content.{tree_of, counts_below, slots_above}
-
--- ---- extents
-
-module _ (r : ExtentList) (k : ℕ) where
-  pub extent-is : k < r.len → get_or r.cells k (extent 0 0) ≡ get_or (listed r) k (extent 0 0)
-  unfolding listed
-  extent-is h = sym (get_or-take r.len r.cells k (extent 0 0) h)
-
-  pub extent-none : r.len ≤ k → extent 0 0 ≡ get_or (listed r) k (extent 0 0)
-  unfolding listed
-  extent-none h = let l : length (take r.len r.cells) ≤ k = simp length-take (omega arith) in sym (get_or-eq_default (take r.len r.cells) (extent 0 0) l)
 
 -- ---- the data blocks below a node
 
@@ -46,16 +34,16 @@ counts-take n es = let s = ap counts (take-append-drop n es) in let a = counts-a
 counts-drop : (n : ℕ) (es : List Extent) → counts (drop n es) ≤ counts es
 counts-drop n es = let s = ap counts (take-append-drop n es) in let a = counts-append (take n es) (drop n es) in omega arith
 
-module _ (r : ExtentList) (j : ℕ) (own : List Extent) (e : own ≡ take 128 (drop (128 * j) (listed r))) where
-  pub below-is : (n : ℕ) → n ≡ sum_by (λ (e : Extent). e.count) own → n ≡ counts_below r j
+module _ (es : List Extent) (j : ℕ) (own : List Extent) (e : own ≡ take 128 (drop (128 * j) es)) where
+  pub below-is : (n : ℕ) → n ≡ sum_by (λ (e : Extent). e.count) own → n ≡ counts_below es j
   unfolding counts_below
   below-is n h = h ∙ counts-by own ∙ ap counts e
 
-  pub below-few : sum_by (λ (e : Extent). e.count) own ≤ counts (listed r)
+  pub below-few : sum_by (λ (e : Extent). e.count) own ≤ counts es
   below-few =
       let c = counts-by own ∙ ap counts e in
-      let a = counts-take 128 (drop (128 * j) (listed r)) in
-      let b = counts-drop (128 * j) (listed r) in
+      let a = counts-take 128 (drop (128 * j) es) in
+      let b = counts-drop (128 * j) es in
       omega arith
 
 -- ---- the slots of the record
@@ -74,21 +62,21 @@ node-none (b ∷ bs) es zero h = absurd (omega arith)
 node-none (b ∷ bs) es (suc k) h = node-none bs (drop 128 es) k (omega arith)
 
 module _ (t : Tree) (k : ℕ) where
-  pub top-flat : t.nodes ≡ 0 → (e : Extent) → e ≡ get_or (listed t.runs) k (extent 0 0) → e ≡ get_or (slots_above t) k (extent 0 0)
+  pub top-flat : t.nodes ≡ 0 → (e : Extent) → e ≡ get_or t.extents k (extent 0 0) → e ≡ get_or (slots_above t) k (extent 0 0)
   unfolding slots_above levels_in
   top-flat h e q = q ∙ rw (eq-eqb t.nodes 0 h)
 
   module _ (deep : t.nodes ≡ 0 → ⊥) where
-    pub top-node : k < t.nodes → t.nodes ≤ length t.node → (n : ℕ) → n ≡ counts_below t.runs k
+    pub top-node : k < t.nodes → t.nodes ≤ length t.node → (n : ℕ) → n ≡ counts_below t.extents k
         → extent (get_or t.node k 0) n ≡ get_or (slots_above t) k (extent 0 0)
     unfolding slots_above levels_in nodes_in counts_below
     top-node h l n e =
         let q : k < length (take t.nodes t.node) = simp length-take (omega arith) in
-        let slot : get_or (top_slots (cond (eqb t.nodes 0) [] (take t.nodes t.node ∷ [])) (listed t.runs)) k (extent 0 0)
-        ≡ extent (get_or (take t.nodes t.node) k 0) (counts (take 128 (drop (128 * k) (listed t.runs)))) =
-        rw (ne_eqb t.nodes 0 deep) (node-slot (take t.nodes t.node) (listed t.runs) k q)
+        let slot : get_or (top_slots (cond (eqb t.nodes 0) [] (take t.nodes t.node ∷ [])) t.extents) k (extent 0 0)
+        ≡ extent (get_or (take t.nodes t.node) k 0) (counts (take 128 (drop (128 * k) t.extents))) =
+        rw (ne_eqb t.nodes 0 deep) (node-slot (take t.nodes t.node) t.extents k q)
         in
-        let own : extent (get_or (take t.nodes t.node) k 0) (counts (take 128 (drop (128 * k) (listed t.runs)))) ≡ extent (get_or t.node k 0) n =
+        let own : extent (get_or (take t.nodes t.node) k 0) (counts (take 128 (drop (128 * k) t.extents))) ≡ extent (get_or t.node k 0) n =
         rw (get_or-take t.nodes t.node k 0 h, e)
         in
         sym (slot ∙ own)
@@ -97,7 +85,7 @@ module _ (t : Tree) (k : ℕ) where
     unfolding slots_above levels_in nodes_in
     top-past h =
         let q : length (take t.nodes t.node) ≤ k = simp length-take (omega arith) in
-        sym (rw (ne_eqb t.nodes 0 deep) (node-none (take t.nodes t.node) (listed t.runs) k q))
+        sym (rw (ne_eqb t.nodes 0 deep) (node-none (take t.nodes t.node) t.extents k q))
 
 pub depth-is : (t : Tree) → cond (eqb t.nodes 0) 0 1 ≡ length (levels_in t)
 unfolding levels_in
@@ -170,17 +158,14 @@ module _ (t : Tree) (n z a b c e q : List ℕ) (d size : ℕ) (ea eb ec ee : Ext
       → ea ≡ get_or (slots_above t) 0 (extent 0 0) → a ≡ slot_bytes ea → eb ≡ get_or (slots_above t) 1 (extent 0 0) → b ≡ slot_bytes eb
       → ec ≡ get_or (slots_above t) 2 (extent 0 0) → c ≡ slot_bytes ec → ee ≡ get_or (slots_above t) 3 (extent 0 0) → e ≡ slot_bytes ee
       → q ≡ n ++ (z ++ (d ∷ 0 ∷ 0 ∷ 0 ∷ (a ++ (b ++ (c ++ (e ++ []))))))
-      → q ≡ bytes_of_inode (inode_with n size (listed t.runs) (levels_in t))
+      → q ≡ bytes_of_inode (inode_with n size t.extents (levels_in t))
   unfolding bytes_of_inode slots_above
   record_is ez ed qa pa qb pb qc pc qe pe eq =
       eq ∙ rw (ez, ed, pa, pb, pc, pe, qa, qb, qc, qe)
-      (ap (λ (xs : List ℕ). n ++ (bytes4 size ++ (length (levels_in t) ∷ 0 ∷ 0 ∷ 0 ∷ xs))) (sym (four-slots (top_slots (levels_in t) (listed t.runs)))))
+      (ap (λ (xs : List ℕ). n ++ (bytes4 size ++ (length (levels_in t) ∷ 0 ∷ 0 ∷ 0 ∷ xs))) (sym (four-slots (top_slots (levels_in t) t.extents))))
 
 -- a tree and its parts
-module _ (table : List ℕ) (extents : ExtentList) (nodes : Nodes) (before held : ℕ) where
-  pub parts-levels : levels_in (tree_of extents nodes) ≡ levels_in (record { table = table; runs = extents; node = nodes.node; nodes = nodes.len; before = before; held = held })
+module _ (table : List ℕ) (extents : List Extent) (nodes : Nodes) (before held : ℕ) where
+  pub parts-levels : levels_in (tree_of extents nodes) ≡ levels_in (tree_with table extents nodes before held)
   unfolding levels_in nodes_in
   parts-levels = refl
-
-  pub parts-bounded : Bounded (record { table = table; runs = extents; node = nodes.node; nodes = nodes.len; before = before; held = held }) → Bounded (tree_of extents nodes)
-  parts-bounded b = record { extents = b.extents; nodes = b.nodes; blocks = b.blocks; first = b.first; count = b.count; held = omega arith }

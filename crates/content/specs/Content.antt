@@ -4,30 +4,29 @@ use Rattle.spec.specs.Bytes.{patch, zeros}
 use Rattle.spec.specs.declared.Extent.{Extent}
 use Rattle.spec.specs.Inode.{place_of_inode, node_bytes, counts, top_slots}
 use Rattle.spec.specs.Plan.{overlay, clear_tail, is_last_kept, new_content}
-use Rattle.runs.specs.Tree.{Tree}
-use Rattle.runs.specs.declared.ExtentList.{ExtentList}
-use Rattle.runs.specs.declared.Nodes.{Nodes}
-use Rattle.runs.specs.Runs.{listed, levels_in}
+use Rattle.runs.specs.Tree.{Tree, tree_with}
+use Rattle.runs.specs.declared.nodes.Nodes.{Nodes}
+use Rattle.runs.specs.Runs.{levels_in}
 
 -- a tree from its extents and nodes; bitmap and what was held before play no part in its record
-abbrev pub tree_of : ExtentList → Nodes → Tree
-tree_of extents nodes = record { table = []; runs = extents; node = nodes.node; nodes = nodes.len; before = 0; held = 0 }
+abbrev pub tree_of : List Extent → Nodes → Tree
+tree_of extents nodes = tree_with [] extents nodes 0 0
 
 -- the block of record i with the first bytes of the record replaced
 unfoldable pub with_record : ℕ → List ℕ → List ℕ → List ℕ
 with_record i new old = patch (place_of_inode i) new old
 
 -- node j of a tree with these extents
-unfoldable pub node_content : ExtentList → ℕ → List ℕ
-node_content r j = node_bytes (take 128 (drop (128 * j) (listed r)))
+unfoldable pub node_content : List Extent → ℕ → List ℕ
+node_content es j = node_bytes (take 128 (drop (128 * j) es))
 
 -- how many blocks the extents of node j have
-unfoldable pub counts_below : ExtentList → ℕ → ℕ
-counts_below r j = counts (take 128 (drop (128 * j) (listed r)))
+unfoldable pub counts_below : List Extent → ℕ → ℕ
+counts_below es j = counts (take 128 (drop (128 * j) es))
 
 -- the slots of the record of a tree
 unfoldable pub slots_above : Tree → List Extent
-slots_above t = top_slots (levels_in t) (listed t.runs)
+slots_above t = top_slots (levels_in t) t.extents
 
 -- the bytes from x on laid over block p of a file
 unfoldable pub laid_over : ℕ → List ℕ → ℕ → List ℕ → List ℕ

@@ -1,35 +1,36 @@
 // The content of a block after a change: a file record's block, a node, a data block.
 #![tactic(auto)]
 
-ghost use Rattle.std.specs.Prelude.{◌≡◌, ◌&&◌, [], ◌∷◌, ◌++◌, ◌+◌, ◌*◌, ◌<◌, ◌≤◌, take, drop, cond, eqb, leb, length, get_or};
+ghost use Rattle.std.specs.Prelude.{◌≡◌, ◌&&◌, [], ◌∷◌, ◌++◌, ◌+◌, ◌*◌, ◌/◌, ◌<◌, ◌≤◌, take, drop, cond, eqb, leb, length, get_or};
 ghost use Rattle.spec.specs.Bytes.{bytes2};
-ghost use Rattle.spec.specs.Inode.{extent, bytes_of_inode, inode_with};
+ghost use Rattle.spec.specs.Inode.{extent, counts, bytes_of_inode, inode_with};
 ghost use Rattle.spec.specs.Plan.{is_last_kept, holds_data, is_staged};
-ghost use Rattle.runs.specs.Runs.{Bounded, listed, levels_in};
+ghost use Rattle.runs.specs.Runs.{levels_in};
 ghost use Rattle.content.specs.Content.{tree_of, with_record, node_content, counts_below, slots_above, laid_over, kept_content, data_content};
 
 use block::place_in_block;
-use runs::{DataBlock, ExtentList, Nodes, block_count};
+use runs::{DataBlock, Nodes, block_count};
 use spec::{ByteOffset, Extent, Limits};
 
+mod prefix;
+
+pub use prefix::RecordPrefix;
+
 // The first bytes of file record i replaced in its block.
-pub fn lay_record(block: &mut [u8], i: usize, new: &[u8])
-    requires { (length block.old ≡ 512) × (length new.now ≤ 32) }
-    ensures { block.new ≡ with_record i new.now block.old }
+pub fn lay_record(block: &mut [u8; Limits::BLOCK_SIZE], i: usize, new: RecordPrefix)
+    ensures { block.new ≡ with_record i new.entry.bytes.now block.old }
 {
     let at = place_in_block(i);
-    block[at..at + new.len()].copy_from_slice(new);
+    block[at..at + new.bytes.len()].copy_from_slice(new.bytes);
 }
 
 // The extents of node j.
-fn extents_of(extents: &ExtentList, j: u8) -> &[Extent]
-    requires { extents.now.len ≤ 512 }
-    ensures { result.now ≡ take 128 (drop (128 * j) (listed extents.now)) }
+fn extents_of(extents: &[Extent], j: u8) -> &[Extent]
+    ensures { result.now ≡ take 128 (drop (128 * j) extents.now) }
 {
-    let all = extents.listed();
-    let from = all.len().min(Limits::SLOTS_PER_NODE * j as usize);
-    let end = all.len().min(from + Limits::SLOTS_PER_NODE);
-    &all[from..end]
+    let from = extents.len().min(Limits::SLOTS_PER_NODE * usize::from(j));
+    let end = extents.len().min(from + Limits::SLOTS_PER_NODE);
+    &extents[from..end]
 }
 
 fn slot_bytes(e: Extent) -> [u8; 4]
@@ -41,8 +42,7 @@ fn slot_bytes(e: Extent) -> [u8; 4]
 }
 
 // The content of node j.
-pub fn node_content(extents: &ExtentList, j: u8) -> [u8; Limits::BLOCK_SIZE]
-    requires { extents.now.len ≤ 512 }
+pub fn node_content(extents: &[Extent], j: u8) -> [u8; Limits::BLOCK_SIZE]
     ensures { result ≡ node_content extents.now j }
 {
     let own = extents_of(extents, j);
@@ -55,19 +55,18 @@ pub fn node_content(extents: &ExtentList, j: u8) -> [u8; Limits::BLOCK_SIZE]
 }
 
 // The extent at place k, of no blocks past the last one: no Option, since a slot of no blocks is what an unused slot is on the disk.
-fn extent_at(extents: &ExtentList, k: usize) -> Extent
-    requires { k < 512 }
-    ensures { result ≡ get_or (listed extents.now) k (extent 0 0) }
+fn extent_at(extents: &[Extent], k: usize) -> Extent
+    ensures { result ≡ get_or extents.now k (extent 0 0) }
 {
-    if k < extents.len {
-        return extents.cells[k];
+    match extents.get(k) {
+        Some(e) => *e,
+        None => Extent { first: 0, count: 0 },
     }
-    Extent { first: 0, count: 0 }
 }
 
 // Slot k of the record: an extent, or a node with the data blocks below it. An unused slot is one of no blocks, as on the disk.
-fn top_slot(extents: &ExtentList, nodes: Nodes, k: usize) -> Extent
-    requires { (k < 4) × Bounded (tree_of extents.now nodes) }
+fn top_slot(extents: &[Extent], nodes: Nodes, k: usize) -> Extent
+    requires { counts extents.now < 4294967296 }
     ensures { result ≡ get_or (slots_above (tree_of extents.now nodes)) k (extent 0 0) }
 {
     if nodes.len == 0 {
@@ -86,7 +85,7 @@ fn top_slot(extents: &ExtentList, nodes: Nodes, k: usize) -> Extent
 fn depth_of(nodes: Nodes) -> u8
     ensures { result ≡ cond (eqb nodes.len 0) 0 1 }
 {
-    if nodes.len == 0 { 0 } else { 1 }
+    u8::from(nodes.len != 0)
 }
 
 // The fields of a record, one after the other, in their order. An array literal: std joins arrays by `concat`, which wants a heap.
@@ -111,11 +110,11 @@ fn joined(
 pub fn record_bytes(
     name: [u8; 8],
     size: usize,
-    extents: &ExtentList,
+    extents: &[Extent],
     nodes: Nodes,
 ) -> [u8; Limits::INODE_SIZE]
-    requires { Bounded (tree_of extents.now nodes) × (size < 4294967296) }
-    ensures { result ≡ bytes_of_inode (inode_with name size (listed extents.now) (levels_in (tree_of extents.now nodes))) }
+    requires { (counts extents.now < 4294967296) × (size < 4294967296) }
+    ensures { result ≡ bytes_of_inode (inode_with name size extents.now (levels_in (tree_of extents.now nodes))) }
 {
     let z = (size as u32).to_le_bytes();
     let d = depth_of(nodes);
@@ -183,6 +182,36 @@ impl Rewrite<'_> {
         ensures { result ≡ is_staged self.now.held self.now.old self.now.size self.now.x.0 self.now.bytes.now p.0 }
     {
         (self.held <= p.0 as usize) | self.holds_data(p) | self.is_last_kept(p)
+    }
+
+    // The first place of a file that holds data, at most as many as were held.
+    pub fn first_data(&self) -> usize
+        ensures { (result ≤ self.now.held) × (0 < length self.now.bytes.now → result ≤ self.now.x.0 / 512) }
+    {
+        if self.bytes.len() == 0 {
+            return self.held;
+        }
+        self.held.min(self.x.0 / Limits::BLOCK_SIZE)
+    }
+
+    // The place of the last kept block, at most as many as were held.
+    pub fn first_kept(&self) -> usize
+        ensures { (result ≤ self.now.held) × (self.now.size < self.now.old → result ≤ self.now.size / 512) }
+    {
+        if self.old <= self.size {
+            return self.held;
+        }
+        self.held.min(self.size / Limits::BLOCK_SIZE)
+    }
+
+    // The place behind the last kept block, 0 where the file is not shortened.
+    pub fn kept_end(&self) -> usize
+        ensures { self.now.size < self.now.old → self.now.size / 512 < result }
+    {
+        if self.old <= self.size {
+            return 0;
+        }
+        self.size / Limits::BLOCK_SIZE + 1
     }
 
     // Block p of the file before the data is laid over it: a new one is zeros, in the last kept one the bytes from the size on are.

@@ -29,7 +29,7 @@ fn refused(number: u32, line: usize) -> CConverted
     }
 }
 
-// An answer in numbers. 20, 21, 24 and 25 are told to C here alone, 20 and 21 by crate loadapi too, and else by the programs that print them.
+// An answer in numbers.
 fn numbers_of(answer: Result<usize, ConvertFault>) -> CConverted
     ensures { result ≡ converted_numbers (converted_of answer) }
 {
@@ -39,10 +39,7 @@ fn numbers_of(answer: Result<usize, ConvertFault>) -> CConverted
             line: 0,
             length: n as u64,
         },
-        Err(ConvertFault::TooLong(line)) => refused(20, line),
-        Err(ConvertFault::Malformed(line)) => refused(21, line),
-        Err(ConvertFault::SameSpelling(line)) => refused(24, line),
-        Err(ConvertFault::TooSmall) => refused(25, 0),
+        Err(fault) => refused(fault.number(), fault.line().unwrap_or(0)),
     }
 }
 

@@ -15,15 +15,15 @@ use borrow.Author.Tests.{eq-eqb, ne_eqb, lt-ltb, le-ltb, le-leb, lt-leb, leb-tru
 use Rattle.spec.specs.Answers.{refused}
 use Rattle.spec.specs.Listing.{decimal, hexadecimal}
 use Rattle.cardfile.specs.Cards.{Entry, letter_h, letter_d, number_of, bytes_of, padded, digits_for, spell, before, entry_of}
-use Rattle.cardfile.specs.Lines.{split_lines, letter_of, spelling_for, card_for, line_at}
+use Rattle.cardfile.specs.Lines.{split_lines, letter_of, spelling_for, card_for, line_at, line_fault_number}
 use Rattle.cardfile.specs.declared.Card.{Card}
 use Rattle.cardfile.specs.declared.Spelling.{Spelling}
 use Rattle.cardfile.specs.declared.Spelling.TheVariants.{Hexadecimal, Decimal}
 use Rattle.cardfile.specs.declared.Line.{Line}
 use Rattle.cardfile.specs.declared.LineFault.{LineFault}
-use Rattle.cardfile.specs.declared.LineFault.TheVariants as line-cases
+use Rattle.cardfile.specs.declared.LineFault.TheVariants.{TooLong, BadForm}
 use Rattle.converter.specs.declared.ConvertFault.{ConvertFault}
-use Rattle.converter.specs.declared.ConvertFault.TheVariants.{TooLong, Malformed, TooSmall}
+use Rattle.converter.specs.declared.ConvertFault.TheVariants.{BadLine, TooSmall}
 use Rattle.cardfile.proofs.Laws.{no_byte}
 use Rattle.cardfile.proofs.Splits.{split-some, split-feed, split-last, split-nil}
 use Rattle.cardfile.proofs.Spellings.{read_is, bytes-number, digits-few, length-hex, length-padded}
@@ -84,11 +84,9 @@ module _ (w : ℕ) (text : List ℕ) (at : ℕ) where
   left : at < length text → 0 < length (drop at text)
   left h = let z = length-drop at text in omega arith
 
-  pub line-long : line_at text at ≡ Err line-cases.TooLong → (n : ℕ) → convert_lines w n (split_lines (drop at text)) ≡ refusal 20 n
-  line-long e n = let r = too-long-at text at (long-at text at e) in lines_long w n (drop at text) r.over r.fed
-
-  pub line-bad : line_at text at ≡ Err line-cases.BadForm → (n : ℕ) → convert_lines w n (split_lines (drop at text)) ≡ refusal 21 n
-  line-bad e n = let r = malformed-at text at (bad-at text at e) in lines-bad w n (drop at text) r.short (left r.some_left) r.why
+  pub line-fault : (f : LineFault) → line_at text at ≡ Err f → (n : ℕ) → convert_lines w n (split_lines (drop at text)) ≡ refusal (line_fault_number f) n
+  line-fault TooLong e n = let r = too-long-at text at (long-at text at e) in lines_long w n (drop at text) r.over r.fed
+  line-fault BadForm e n = let r = malformed-at text at (bad-at text at e) in lines-bad w n (drop at text) r.short (left r.some_left) r.why
 
   -- no line stands behind the end alone
   pub line-none : line_at text at ≡ Ok None → length text ≤ at
@@ -242,24 +240,10 @@ tested-none w text most = record { inside = omega arith; count = omega arith; fi
 pub seen : (text : List ℕ) (s t : Lines) (o : Option (Result Line LineFault)) → s.text.now ≡ text → LineStep s o t → o ≡ line_shown (line_at text s.at)
 seen text s t o e h = h.shows ∙ ap (λ (u : List ℕ). line_shown (line_at u s.at)) e
 
-pub numbered : (w : ℕ) (text : List ℕ) (most at count : ℕ) (room : Option ℕ) → Tested w text most at (count + 1) room → (k : ℕ) → k ≡ count → Tested w text most at (k + 1) room
-numbered w text most at count room p k h = rw h p
-
 module _ (w : ℕ) (text : List ℕ) (most at line : ℕ) (room : Option ℕ) (p : Tested w text most at line room) where
   told : (k : ℕ) → convert_lines w line (split_lines (drop at text)) ≡ refusal k line → refused k (line ∷ []) ≡ answer_for most (convert_file w text)
   unfolding answer_behind
   told k e = ap (answer_behind most room) (sym e) ∙ p.rest
-
-  pub tested-fault : (r : Result Line LineFault) → Some r ≡ line_shown (line_at text at) → (f : ConvertFault) → Err f ≡ card_told line r → converted_of (Err f) ≡ answer_for most (convert_file w text)
-  tested-fault (Ok x) s f h = cc
-  tested-fault (Err line-cases.TooLong) s f h = let z : f ≡ TooLong line = cc in rw z (told 20 (line-long w text at (shown-fault text at line-cases.TooLong (sym s)) line))
-  tested-fault (Err line-cases.BadForm) s f h = let z : f ≡ Malformed line = cc in rw z (told 21 (line-bad w text at (shown-fault text at line-cases.BadForm (sym s)) line))
-
-  pub tested-card : (r : Result Line LineFault) → Some r ≡ line_shown (line_at text at) → (next : ℕ) → ((x : Line) → Some r ≡ Some (Ok x) → next ≡ x.next)
-      → (c : Card) → Ok c ≡ card_told line r → Next w text at c next
-  tested-card (Ok x) s next b c h = let z : x.card ≡ c = cc in rw (b x refl, ← z) (line-found w text at x (shown-line text at x (sym s)))
-  tested-card (Err line-cases.TooLong) s next b c h = cc
-  tested-card (Err line-cases.BadForm) s next b c h = cc
 
   pub tested-end : None ≡ line_shown (line_at text at) → (r : Result ℕ ConvertFault) → r ≡ ok_or room TooSmall → converted_of r ≡ answer_for most (convert_file w text)
   unfolding answer_behind
@@ -292,3 +276,28 @@ module _ (w : ℕ) (text : List ℕ) (most at line : ℕ) (room : Option ℕ) (p
               ∙ ap (answer_behind most room) (sym (s.step line ∙ rw (ne_eqb s.entry.letter w (λ e. o (sym e ∙ letter-is w text at c next s)))))
               ∙ p.rest;
         }
+
+-- a line that a step over the lines shows, by its number
+module _ {w : ℕ} {text : List ℕ} {most : ℕ} {s t : Lines} {count k : ℕ} {room : Option ℕ} {r : Result Line LineFault}
+    (p : LineStep s (Some r) t) (number : k ≡ count) (i : (s.text.now ≡ text) × Tested w text most s.at (count + 1) room)
+  where
+    pub tested-here : Tested w text most s.at (k + 1) room
+    tested-here = rw number i.1
+
+    pub tested-fault : (g : ConvertFault) → Err g ≡ card_told (k + 1) r → converted_of (Err g) ≡ answer_for most (convert_file w text)
+    tested-fault = go r (seen text s t (Some r) i.0 p)
+      where
+        go : (r : Result Line LineFault) → Some r ≡ line_shown (line_at text s.at) → (g : ConvertFault) → Err g ≡ card_told (k + 1) r
+            → converted_of (Err g) ≡ answer_for most (convert_file w text)
+        go (Ok x) e g h = cc
+        go (Err f) e g h =
+            let z : g ≡ BadLine (k + 1) f = cc in
+            rw z (told w text most s.at (k + 1) room tested-here (line_fault_number f) (line-fault w text s.at f (shown-fault text s.at f (sym e)) (k + 1)))
+
+    pub tested-card : (c : Card) → Ok c ≡ card_told (k + 1) r → Next w text s.at c t.at
+    tested-card = go r (seen text s t (Some r) i.0 p) p.behind
+      where
+        go : (r : Result Line LineFault) → Some r ≡ line_shown (line_at text s.at) → ((x : Line) → Some r ≡ Some (Ok x) → t.at ≡ x.next)
+            → (c : Card) → Ok c ≡ card_told (k + 1) r → Next w text s.at c t.at
+        go (Ok x) e b c h = let z : x.card ≡ c = cc in rw (b x refl, ← z) (line-found w text s.at x (shown-line text s.at x (sym e)))
+        go (Err f) e b c h = cc

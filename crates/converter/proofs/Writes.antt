@@ -17,7 +17,7 @@ use Rattle.text.specs.declared.Writer.{Writer}
 use Rattle.text.specs.Written.{Written, Put}
 use Rattle.text.proofs.Laws.{put_then, put_as, Left, left-start, left_step, left_end, laid-front}
 use Rattle.cardfile.specs.Cards.{Entry, bytes_of, name_of, padded, digits_for, spell, line_text, before}
-use Rattle.cardfile.specs.Lines.{split_lines, letter_of, line_at, name_told}
+use Rattle.cardfile.specs.Lines.{split_lines, letter_of, line_at, line_fault_number, name_told}
 use Rattle.cardfile.specs.declared.Card.{Card}
 use Rattle.cardfile.specs.declared.Spelling.{Spelling}
 use Rattle.cardfile.specs.declared.Spelling.TheVariants.{Hexadecimal, Decimal}
@@ -26,7 +26,6 @@ use Rattle.cardfile.proofs.Steps.{shown-line, shown-fault, shown-none}
 use Rattle.cardfile.specs.declared.Line.{Line}
 use Rattle.cardfile.specs.declared.Lines.{Lines}
 use Rattle.cardfile.specs.declared.LineFault.{LineFault}
-use Rattle.cardfile.specs.declared.LineFault.TheVariants.{TooLong, BadForm}
 use Rattle.cardfile.proofs.Laws.{before-is, length-bytes, number-bytes}
 use Rattle.cardfile.proofs.Forms.{name-is}
 use Rattle.cardfile.proofs.Names.{exactly-front}
@@ -35,7 +34,7 @@ use Rattle.converter.specs.declared.ConvertFault.TheVariants as fault-cases
 use Rattle.converter.specs.Convert.{cents, line_with, Conversion, output, refusal, onto, entry_converted, line_converted, last_converted, convert_lines, convert_file, left_buffer, settled, convert, converted_of}
 use Rattle.converter.specs.Passes.{answer_behind, answer_for, output_of}
 use Rattle.converter.proofs.Meaning.{no-refusal, last-refused, line_of, line-to}
-use Rattle.converter.proofs.Passes.{Next, seen, line-found, line-long, line-bad, line-none, line-end, digits_are, serial-is, cents-are}
+use Rattle.converter.proofs.Passes.{Next, seen, line-found, line-fault, line-none, line-end, digits_are, serial-is, cents-are}
 
 -- ---- digits and serials
 
@@ -163,11 +162,7 @@ module _ (w : ℕ) (text : List ℕ) (p₀ p : Writer) (at : ℕ) (q : Putting w
   put-end e = left_end p₀ (output_of (convert_file w text)) p (output_of (convert_lines w 1 (split_lines (drop at text)))) q.left (ap output_of (line-end w text at (line-none w text at (shown-none text at (sym e))) 1))
 
   pub put-fault : (r : Result Line LineFault) → Some r ≡ line_shown (line_at text at) → (f : LineFault) → r ≡ Err f → Put p₀ p (output_of (convert_file w text))
-  put-fault r e f h = go f (shown-fault text at f (sym e ∙ ap Some h))
-    where
-      go : (f : LineFault) → line_at text at ≡ Err f → Put p₀ p (output_of (convert_file w text))
-      go TooLong e = not-refused 20 (line-long w text at e 1)
-      go BadForm e = not-refused 21 (line-bad w text at e 1)
+  put-fault r e f h = not-refused (line_fault_number f) (line-fault w text at f (shown-fault text at f (sym e ∙ ap Some h)) 1)
 
 -- the card of the next line
 pub put-card : (w : ℕ) (text : List ℕ) (s t : Lines) (r : Result Line LineFault) → s.text.now ≡ text → LineStep s (Some r) t → (x : Line) → r ≡ Ok x → Next w text s.at x.card x.next
@@ -282,8 +277,7 @@ module _ (s : Spelling) (text out : List ℕ) (w : ℕ) (l : w ≡ letter_of s) 
   all-converted n e after p g = all_settled out (convert_file w text) n e after p g ∙ as-letter
 
   pub none-converted : (f : ConvertFault) → converted_of (Err f) ≡ answer_for (length out) (convert_file w text) → left_buffer out (converted_of (Err f)) ≡ convert s text out
-  none-converted (fault-cases.TooLong n) e = none-settled out (convert_file w text) 20 (n ∷ []) e ∙ as-letter
-  none-converted (fault-cases.Malformed n) e = none-settled out (convert_file w text) 21 (n ∷ []) e ∙ as-letter
+  none-converted (fault-cases.BadLine n f) e = none-settled out (convert_file w text) (line_fault_number f) (n ∷ []) e ∙ as-letter
   none-converted (fault-cases.SameSpelling n) e = none-settled out (convert_file w text) 24 (n ∷ []) e ∙ as-letter
   none-converted fault-cases.TooSmall e = none-settled out (convert_file w text) 25 [] e ∙ as-letter
 

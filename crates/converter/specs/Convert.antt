@@ -3,10 +3,10 @@ use Rattle.std.specs.Prelude.{ℕ, suc, ◌+◌, cond, List, [], ◌∷◌, ◌+
 use Rattle.std.proofs.Math.Option.{Option, none, some}
 use Rattle.spec.specs.Answers.{Answer, refused, counted}
 use Rattle.cardfile.specs.Cards.{Entry, semicolon, spell, before, entry_of}
-use Rattle.cardfile.specs.Lines.{feed, letter_of, split_lines}
+use Rattle.cardfile.specs.Lines.{feed, letter_of, split_lines, line_fault_number}
 use Rattle.cardfile.specs.declared.Spelling.{Spelling}
 use Rattle.converter.specs.declared.ConvertFault.{ConvertFault}
-use Rattle.converter.specs.declared.ConvertFault.TheVariants.{TooLong, Malformed, SameSpelling, TooSmall}
+use Rattle.converter.specs.declared.ConvertFault.TheVariants.{BadLine, SameSpelling, TooSmall}
 
 -- ---- a line
 
@@ -77,7 +77,6 @@ convert wanted text out = settled out (convert_file (letter_of wanted) text)
 
 abbrev pub converted_of : Result ℕ ConvertFault → Answer
 converted_of (Ok n) = counted n
-converted_of (Err (TooLong line)) = refused 20 (line ∷ [])
-converted_of (Err (Malformed line)) = refused 21 (line ∷ [])
+converted_of (Err (BadLine line fault)) = refused (line_fault_number fault) (line ∷ [])
 converted_of (Err (SameSpelling line)) = refused 24 (line ∷ [])
 converted_of (Err TooSmall) = refused 25 []

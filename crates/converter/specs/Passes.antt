@@ -4,10 +4,9 @@ use Rattle.spec.specs.Answers.{Answer, refused, counted}
 use Rattle.cardfile.specs.declared.Card.{Card}
 use Rattle.cardfile.specs.declared.Line.{Line}
 use Rattle.cardfile.specs.declared.LineFault.{LineFault}
-use Rattle.cardfile.specs.declared.LineFault.TheVariants as line-cases
 use Rattle.cardfile.specs.Cards.{letter_h, digits_for}
 use Rattle.converter.specs.declared.ConvertFault.{ConvertFault}
-use Rattle.converter.specs.declared.ConvertFault.TheVariants.{TooLong, Malformed}
+use Rattle.converter.specs.declared.ConvertFault.TheVariants.{BadLine}
 use Rattle.converter.specs.Convert.{Conversion, output, refusal}
 
 -- the answer for a buffer of so many bytes, behind the bytes already counted; none where these do not fit
@@ -19,11 +18,10 @@ answer_behind most (Some total) (output u) = cond (leb (total + length u) most) 
 abbrev pub answer_for : ℕ → Conversion → Answer
 answer_for most c = answer_behind most (Some 0) c
 
--- the card of a line, or its number where it is refused
+-- the card of a line, or its fault with its number
 abbrev pub card_told : ℕ → Result Line LineFault → Result Card ConvertFault
 card_told line (Ok found) = Ok found.card
-card_told line (Err line-cases.TooLong) = Err (TooLong line)
-card_told line (Err line-cases.BadForm) = Err (Malformed line)
+card_told line (Err fault) = Err (BadLine line fault)
 
 -- the output, none for a file that is refused
 abbrev pub output_of : Conversion → List ℕ

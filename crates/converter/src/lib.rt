@@ -2,7 +2,8 @@
 // that a refusal touches nothing.
 #![tactic(auto)]
 
-ghost use Rattle.std.specs.Prelude.{◌≡◌, List, ℕ, ◌<◌, ◌≤◌, ◌^◌, length, IfSome};
+ghost use Rattle.std.specs.Prelude.{◌≡◌, List, ℕ, ◌<◌, ◌≤◌, ◌^◌, length, IfSome, Err};
+ghost use Rattle.spec.specs.Answers.{refusal_number, value_told};
 ghost use Rattle.cardfile.specs.Cards.{bytes_of, padded, spell};
 ghost use Rattle.cardfile.specs.Lines.{letter_of};
 ghost use Rattle.text.specs.Written.{Written, Put};
@@ -23,10 +24,32 @@ const SIGNS: usize = 4;
 // Why there is no output: converted_of in specs/Convert.antt. A line is named by its number, counted from 1.
 #[derive(Clone, Copy)]
 pub enum ConvertFault {
-    TooLong(usize),
-    Malformed(usize),
+    BadLine(usize, LineFault),
     SameSpelling(usize),
     TooSmall,
+}
+
+impl ConvertFault {
+    // The refusal's number: this alone tells 24 and 25.
+    pub fn number(self) -> u32
+        ensures { result ≡ refusal_number (converted_of (Err self)) }
+    {
+        match self {
+            ConvertFault::BadLine(_, fault) => fault.number(),
+            ConvertFault::SameSpelling(_) => 24,
+            ConvertFault::TooSmall => 25,
+        }
+    }
+
+    // The line that it names.
+    pub fn line(self) -> Option<usize>
+        ensures { result ≡ value_told (converted_of (Err self)) }
+    {
+        match self {
+            ConvertFault::BadLine(line, _) | ConvertFault::SameSpelling(line) => Some(line),
+            ConvertFault::TooSmall => None,
+        }
+    }
 }
 
 // ---- the first pass: every line is tested, and the output counted
@@ -56,11 +79,8 @@ fn count_more(room: Option<usize>, size: usize, most: usize) -> Option<usize>
 fn card_of(found: Result<Line, LineFault>, line: usize) -> Result<Card, ConvertFault>
     ensures { result ≡ card_told line found }
 {
-    match found {
-        Ok(found) => Ok(found.card),
-        Err(LineFault::TooLong) => Err(ConvertFault::TooLong(line)),
-        Err(LineFault::BadForm) => Err(ConvertFault::Malformed(line)),
-    }
+    let found = found.map_err(|fault| ConvertFault::BadLine(line, fault))?;
+    Ok(found.card)
 }
 
 // The answer for a text and a buffer of so many bytes.
@@ -88,7 +108,7 @@ fn put_padded(w: &mut Writer, count: usize, unit: u64, n: u64)
     ensures { Put w.old w.new (padded count n) }
 {
     let mut u = unit;
-    for _k in 0..count {
+    for _ in 0..count {
         u /= 10;
         w.put(b'0' + (n / u % 10) as u8);
     }

@@ -6,10 +6,10 @@ use converter::{ConvertFault, convert};
 use std::io;
 use trial::number;
 
-fn refused(rt: &impl Print, why: usize, line: usize) -> io::Result<()> {
+fn refused(rt: &impl Print, why: ConvertFault) -> io::Result<()> {
     rt.write_all(b"refused")?;
-    number(rt, why)?;
-    number(rt, line)
+    number(rt, why.number())?;
+    number(rt, why.line().unwrap_or(0))
 }
 
 fn show_answer(rt: &impl Print, answer: Result<usize, ConvertFault>) -> io::Result<()> {
@@ -18,10 +18,7 @@ fn show_answer(rt: &impl Print, answer: Result<usize, ConvertFault>) -> io::Resu
             rt.write_all(b"length")?;
             number(rt, n)?;
         }
-        Err(ConvertFault::TooLong(line)) => refused(rt, 20, line)?,
-        Err(ConvertFault::Malformed(line)) => refused(rt, 21, line)?,
-        Err(ConvertFault::SameSpelling(line)) => refused(rt, 24, line)?,
-        Err(ConvertFault::TooSmall) => refused(rt, 25, 0)?,
+        Err(fault) => refused(rt, fault)?,
     }
     rt.write_all(b"\n")
 }

@@ -3,21 +3,13 @@
 #![tactic(auto)]
 
 use block::{block_in, load, load2};
-use spec::{DiskBlock, Limits, Phase, Session};
+use mounted::{Mounted, SMALLEST};
+use spec::{DiskBlock, Phase, Session};
 use std::io;
 use trial::{number, stage};
 
-// At most n advances.
-fn advance(device: &mut [u8], work: &[u8], s: Session, n: usize) -> Session {
-    let mut t = s;
-    for _ in 0..n {
-        t = store::advance(device, work, t).session;
-    }
-    t
-}
-
-// The session after a cut: recovering where the header lists a target, else ready.
-fn reopen(device: &[u8]) -> Session {
+// The session after a cut: recovering where the header lists a target, else ready. The blocks stored are no sound store, so it is not opened by the call.
+fn reopened(device: &[u8]) -> Session {
     let head = block_in(device, DiskBlock(0));
     if load2(head, 0) == 0 {
         return Session::opened(64, Phase::Ready);
@@ -39,41 +31,35 @@ fn new_blocks(device: &[u8]) -> [bool; 3] {
     ]
 }
 
-// The session of a commit of three blocks.
-fn commit_three(device: &[u8], work: &mut [u8]) -> Session {
-    let one = stage(work, Session::opened(64, Phase::Ready), 34, 1);
-    let two = stage(work, one, 50, 2);
-    let three = stage(work, two, 42, 3);
-    let begun = store::commit(device, work, three);
-    begun.session
+// Block b staged with 512 times a byte.
+fn stage_block(t: &mut Mounted<SMALLEST>, b: u32, byte: u8) {
+    t.session = stage(&mut t.work, t.session, b, byte);
 }
 
-// The same on an empty store.
-fn begin(device: &mut [u8], work: &mut [u8]) -> Session {
-    store::format(device, Session::never_opened());
-    commit_three(device, work)
+// The commit of three blocks on an empty store begun.
+fn commit_three() -> Mounted<SMALLEST> {
+    let mut t = Mounted::empty();
+    stage_block(&mut t, 34, 1);
+    stage_block(&mut t, 50, 2);
+    stage_block(&mut t, 42, 3);
+    let _ = t.commit();
+    t
 }
 
 // A cut, and so many stores of the recovery.
-fn cut(device: &mut [u8], work: &[u8], n: usize) {
-    let s = reopen(device);
-    advance(device, work, s, n);
+fn cut(t: &mut Mounted<SMALLEST>, n: usize) {
+    t.session = reopened(&t.device);
+    t.advance_by(n);
 }
 
 // The blocks that are new after cuts behind i stores of the commit, j of a recovery and m of the next one, and a recovery to the end.
 fn after_cuts(i: usize, j: usize, m: usize) -> [bool; 3] {
-    let mut device = [0u8; 32768];
-    let mut work = [9u8; Limits::WORK_SIZE];
-    cut_thrice(&mut device, &mut work, i, j, m)
-}
-
-fn cut_thrice(device: &mut [u8], work: &mut [u8], i: usize, j: usize, m: usize) -> [bool; 3] {
-    let s = begin(device, work);
-    advance(device, work, s, i);
-    cut(device, work, j);
-    cut(device, work, m);
-    cut(device, work, 4);
-    new_blocks(device)
+    let mut t = commit_three();
+    t.advance_by(i);
+    cut(&mut t, j);
+    cut(&mut t, m);
+    cut(&mut t, 4);
+    new_blocks(&t.device)
 }
 
 fn print_if(rt: &impl Print, word: &[u8], n: u64) -> io::Result<()> {

@@ -22,8 +22,8 @@ use Rattle.transaction.proofs.Laws.{shows-view}
 use Rattle.inode.specs.declared.Cursor.{Cursor}
 use Rattle.inode.specs.declared.Step.{Step}
 use Rattle.inode.specs.declared.Step.TheVariants.{Leaf}
-use Rattle.inode.specs.Walk.{Slot, live, leaf, rest, start_of, Onward, Ended, Steps}
-use Rattle.inode.proofs.Walk.{walk-leaf, walk_end, extents-start, block_start, slot_of, step-leaf, no-leaf, step-node, step_end}
+use Rattle.inode.specs.Walk.{Slot, live, rest, start_of, Onward, Inward, Ended, Steps}
+use Rattle.inode.proofs.Walk.{walk-leaf, walk_end, extents-start, block_start, slot_of, step-leaf}
 use Rattle.extents.specs.declared.Scan.{Scan}
 use Rattle.std.specs.Prelude.{Option as Returned, Some, None, slice_get, option_map}
 use Rattle.extents.specs.Stretches.{run_of}
@@ -203,50 +203,24 @@ left-start v i from n tb c t s = rw t (blocks-left v (block_of_inode i) c ∙ s.
 -- ---- one slot or node of a stretch
 
 module _ (v : Disk) (tb : ℕ) (c : Scan) where
-  -- the cursor behind the first slot
-  abbrev behind : Cursor
-  behind = record { block = c.at.block; at = c.at.at + 4; left = c.at.left - 1; top = c.at.top; tops = c.at.tops }
-
-  module _ (X : List ℕ) (x : X ≡ v c.at.block) (e : Extent) (r : Bool) (s : Slot X c.at.at e) (l : r ≡ live c.at.left e) where
-    onward : r ≡ true → Onward v tb c.at e behind
-    onward h = step-leaf v tb c.at e r (slot_of X (v c.at.block) c.at.at e x s) l h
-
-    pub slot-piece : r ≡ true → c.skip < e.count → 0 < c.room → (m : ℕ) → m ≡ min (e.count - c.skip) c.room
-        → TakesPiece v tb c (extent (e.first + c.skip) m) (record { at = behind; skip = 0; room = c.room - m })
+  -- over the first slot
+  module _ (e : Extent) (d : Cursor) (o : Onward v tb c.at e d) where
+    pub slot-piece : d.block ≡ c.at.block → c.skip < e.count → 0 < c.room → (m : ℕ) → m ≡ min (e.count - c.skip) c.room
+        → TakesPiece v tb c (extent (e.first + c.skip) m) (record { at = d; skip = 0; room = c.room - m })
     unfolding left_at
-    slot-piece h k p m q =
-        let o = onward h in
-        record {
-          pieces = rw o.extents (cut-in c.skip c.room m e (rest v tb behind) k p q);
-          some = omega arith;
-          less = o.less;
-          block = refl;
-        }
+    slot-piece b k p m q = record { pieces = rw o.extents (cut-in c.skip c.room m e (rest v tb d) k p q); some = omega arith; less = o.less; block = b }
 
-    pub slot-passed : r ≡ true → e.count ≤ c.skip
-        → GoesOn v tb c (record { at = behind; skip = c.skip - e.count; room = c.room })
+    pub slot-passed : e.count ≤ c.skip → GoesOn v tb c (record { at = d; skip = c.skip - e.count; room = c.room })
     unfolding left_at
-    slot-passed h k =
-        let o = onward h in
-        record { pieces = rw o.extents (cut-past c.skip c.room e (rest v tb behind) k); less = o.less }
+    slot-passed k = record { pieces = rw o.extents (cut-past c.skip c.room e (rest v tb d) k); less = o.less }
 
-    pub slot-unused : r ≡ false → leaf v c.at.block c.at.at c.at.left ≡ []
-    slot-unused h = no-leaf v c.at.block c.at.at c.at.left e r (slot_of X (v c.at.block) c.at.at e x s) l h
+  pub node-next : (b : ℕ) (d : Cursor) → Inward v tb c.at b d → GoesOn v tb c (record { at = d; skip = c.skip; room = c.room })
+  unfolding left_at
+  node-next b d i = record { pieces = ap (λ (es : List Extent). pieces c.skip c.room es) i.extents; less = i.less }
 
-  module _ (X : List ℕ) (x : X ≡ v tb) (t : Extent) (r : Bool) (s : Slot X c.at.top t) (l : r ≡ live c.at.tops t)
-      (none_left : leaf v c.at.block c.at.at c.at.left ≡ []) where
-    pub node-next : r ≡ true
-        → GoesOn v tb c (record { at = record { block = t.first; at = 0; left = 128; top = c.at.top + 4; tops = c.at.tops - 1 }; skip = c.skip; room = c.room })
-    unfolding left_at
-    node-next h =
-        let i = step-node v tb c.at t r none_left (slot_of X (v tb) c.at.top t x s) l h in
-        record { pieces = ap (λ (es : List Extent). pieces c.skip c.room es) i.extents; less = i.less }
-
-    pub node-none : r ≡ false → left_at v tb c ≡ []
-    unfolding left_at pieces
-    node-none h =
-        let i = step_end v tb c.at t r none_left (slot_of X (v tb) c.at.top t x s) l h in
-        ap (λ (es : List Extent). pieces c.skip c.room es) i.extents
+  pub node-none : Ended v tb c.at → left_at v tb c ≡ []
+  unfolding left_at pieces
+  node-none i = ap (λ (es : List Extent). pieces c.skip c.room es) i.extents
 
 -- slots passed, one by one
 module _ (c : Scan) (X : List ℕ) (at left skip : ℕ) where
@@ -258,7 +232,8 @@ module _ (c : Scan) (X : List ℕ) (at left skip : ℕ) where
     pub pass-more : e.count ≤ skip → (v : Disk) (tb : ℕ) → X ≡ v c.at.block → Passes v tb c (moved c (at + 4) (left - 1) (skip - e.count))
     pass-more k v tb x =
         let p = h v tb x in
-        let g = slot-passed v tb (moved c at left skip) X x e r s l live-one k in
+        let o = step-leaf v tb (moved c at left skip).at e r (slot_of X (v c.at.block) at e x s) l live-one in
+        let g = slot-passed v tb (moved c at left skip) e _ o k in
         record { pieces = p.pieces ∙ g.pieces; less = omega (arith, p.less, g.less); block = refl }
 
 pub pass-end : (c d : Scan) (X : List ℕ) (at left skip : ℕ) → d ≡ moved c at left skip → ((v : Disk) (tb : ℕ) → X ≡ v c.at.block → Passes v tb c (moved c at left skip))

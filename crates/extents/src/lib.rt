@@ -102,15 +102,8 @@ fn take_slot(block: &SlotBlock, scan: Scan) -> AtSlot
     requires { 0 < scan.room }
     ensures { (v : Disk) (tb : ℕ) → exactly 512 block.now.bytes.now ≡ v scan.at.block → SlotSteps v tb scan result }
 {
-    let cur = scan.at;
-    let e = block.slot(cur.at);
-    if !is_live(cur.left, e) {
+    let Some((e, then)) = scan.at.pass(block) else {
         return AtSlot::Unused;
-    }
-    let then = Cursor {
-        at: cur.at + Limits::SLOT_SIZE,
-        left: cur.left - 1,
-        ..cur
     };
     let room = scan.room;
     let count = e.count as usize;
@@ -180,19 +173,8 @@ fn take_node(table: &SlotBlock, scan: Scan) -> Option<(DiskBlock, Scan)>
     ensures { (v : Disk) (tb : ℕ) → exactly 512 table.now.bytes.now ≡ v tb
         → leaf v scan.at.block scan.at.at scan.at.left ≡ [] → NodeSteps v tb scan result }
 {
-    let cur = scan.at;
-    let t = table.slot(cur.top);
-    if !is_live(cur.tops, t) {
-        return None;
-    }
-    let then = Cursor {
-        block: t.first,
-        at: 0,
-        left: Limits::SLOTS_PER_NODE,
-        top: cur.top + Limits::SLOT_SIZE,
-        tops: cur.tops - 1,
-    };
-    Some((DiskBlock(t.first), Scan { at: then, ..scan }))
+    let (b, at) = scan.at.enter(table)?;
+    Some((b, Scan { at, ..scan }))
 }
 
 // The maximal runs of a stretch, one by one: pieces that touch, as a damaged file may have them, are joined. A run that may go on is held, of no blocks where there is none: a test of its count is as plain as an Option, and the ghost fields speak of its numbers either way.

@@ -63,7 +63,7 @@ fn copy_run(copy: &WorkingCopy, run: Piece, skip: usize, to: &mut [u8])
 {
     let from = Limits::BLOCK_SIZE * (run.extent.first as usize) + skip;
     let end = from + to.len();
-    if (copy.staged.len() == 0) & (end <= copy.device.len()) {
+    if (copy.staged.list.len() == 0) & (end <= copy.device.len()) {
         to.copy_from_slice(&copy.device[from..end]);
     } else {
         copy_blocks(copy, run, skip, to);

@@ -4,7 +4,7 @@
 
 use fsck::{Damage, find_damage, is_sound};
 use std::io;
-use trial::{put, put_slot};
+use trial::{put, put_files, put_slot};
 
 // An empty store: bits 0 to 41 and from 64 up are 1.
 fn empty(device: &mut [u8; 32768]) {
@@ -15,23 +15,12 @@ fn empty(device: &mut [u8; 32768]) {
     put(device, 16903, &[0]);
 }
 
-// Record 0: 700 bytes in blocks 42 and 43. Record 1: no byte. Record 2: 2,560 bytes in blocks 46, 48, .. 54, which node 44 names.
+// Three files with the names 1, 2 and 3.
 fn files(device: &mut [u8; 32768]) {
+    put_files(device);
     put(device, 17408, &[1]);
-    put(device, 17416, &700u16.to_le_bytes());
-    put_slot(device, 17424, 42, 2);
     put(device, 17440, &[2]);
     put(device, 17472, &[3]);
-    put(device, 17480, &2560u16.to_le_bytes());
-    put(device, 17484, &[1]);
-    put_slot(device, 17488, 44, 5);
-    put_slot(device, 22528, 46, 1);
-    put_slot(device, 22532, 48, 1);
-    put_slot(device, 22536, 50, 1);
-    put_slot(device, 22540, 52, 1);
-    put_slot(device, 22544, 54, 1);
-    put(device, 16901, &[95]);
-    put(device, 16902, &[85]);
 }
 
 // The last extent of record 2 taken away: four are left, which would fit the record.

@@ -4,7 +4,7 @@ use mathlib.Core.Path.{◌≡◌, refl, sym, ap, ◌∙◌}
 use mathlib.Core.Bool.{Bool, true, false, not, true≢false}
 use mathlib.Core.List.{List, [], ◌∷◌, append-nil}
 use native.Mathlib.Omega.{arith}
-use lib.ListN.{length, take, drop, get_or, get_or-eq_default}
+use lib.ListN.{length, take, drop, get_or, get_or-eq_default, length-drop}
 use lib.Seq.{get_or-take, get_or-drop, drop-drop, take_all}
 use lib.Dec.{eqb, ltb}
 use borrow.Author.Tests.{eqb-true, eqb-false, ltb-true, eq-eqb, ne_eqb, lt-ltb, not-true}
@@ -39,11 +39,11 @@ module _ (block : List ℕ) (at : ℕ) (few : length block ≤ 512) where
         inside = λ k. omega arith;
       }
 
-  pub slot-part : (e : Extent) → at + 4 ≤ length block
-      → (e ≡ slot_in 0 (take (at + 4 - at) (drop at block))) × (e.first < 65536) × (e.count < 65536) → Slot (exactly 512 block) at e
-  slot-part e h f =
-      slot_read (take (at + 4 - at) (drop at block)) e (omega arith) f
-      (λ i k. get_or-take (at + 4 - at) (drop at block) i 0 (omega arith) ∙ get_or-drop at block i 0)
+  pub slot-part : (bytes : List ℕ) (e : Extent) → at < length block → bytes ≡ take 4 (take (length block - at) (drop at block))
+      → (e ≡ slot_in 0 bytes) × (e.first < 65536) × (e.count < 65536) → Slot (exactly 512 block) at e
+  slot-part bytes e h same f =
+      let rest-of : take (length block - at) (drop at block) ≡ drop at block = take_all (length block - at) (drop at block) (rw length-drop (omega arith)) in
+      slot_read bytes e h f (λ i k. rw (same, rest-of) (get_or-take 4 (drop at block) i 0 k ∙ get_or-drop at block i 0))
 
   -- one that the block cuts
   pub slot-cut : (e : Extent) (p q r s : ℕ) → at < length block → p ≡ get_or block at 0 → q ≡ get_or block (at + 1) 0 → r ≡ get_or block (at + 2) 0 → s ≡ get_or block (at + 3) 0
@@ -92,7 +92,7 @@ not_live m e h = go (eqb e.count 0) refl
     go false z = let k = rw (lt-ltb 0 (suc m) (omega arith), z) at h in absurd (true≢false k)
 
 -- the first of some slots
-slots-first : (m at : ℕ) (xs : List ℕ) → slots_in (suc m) (drop at xs) ≡ slot_in at xs ∷ slots_in m (drop (at + 4) xs)
+pub slots-first : (m at : ℕ) (xs : List ℕ) → slots_in (suc m) (drop at xs) ≡ slot_in at xs ∷ slots_in m (drop (at + 4) xs)
 unfolding slots_in
 slots-first m at xs =
     let z : at + 0 ≡ at = omega arith in

@@ -1,5 +1,6 @@
 -- The walk over a file's tree: what is left of it at a cursor, and what a step does.
 use Rattle.std.specs.Prelude.{ℕ, ◌+◌, ◌*◌, ◌<◌, ◌≡◌, Bool, cond, not, ◌&&◌, List, [], ◌∷◌, ◌++◌, map, drop, eqb, ltb, Option, Some, None}
+use Rattle.spec.specs.declared.DiskBlock.{DiskBlock}
 use Rattle.spec.specs.declared.Extent.{Extent}
 use Rattle.spec.specs.Bytes.{number2}
 use Rattle.spec.specs.Disk.{Disk}
@@ -56,6 +57,16 @@ pub record Inward (v : Disk) (tb : ℕ) (c : Cursor) (b : ℕ) (d : Cursor) : Ty
 pub record Ended (v : Disk) (tb : ℕ) (c : Cursor) : Type 0 where
   pub extents : rest v tb c ≡ []
   pub nodes : rest_nodes v tb c ≡ []
+
+-- a step over a leaf slot, in the same block
+abbrev pub Passed : Disk → ℕ → Cursor → Option (Extent × Cursor) → Type 0
+Passed v tb c (Some (e, d)) = Onward v tb c e d × (d.block ≡ c.block)
+Passed v tb c None = leaf v c.block c.at c.left ≡ []
+
+-- a step that finds no leaf slot: into the node b, in whose block d is
+abbrev pub Enters : Disk → ℕ → Cursor → Option (DiskBlock × Cursor) → Type 0
+Enters v tb c (Some (b, d)) = Inward v tb c b.0 d × (d.block ≡ b.0)
+Enters v tb c None = Ended v tb c
 
 abbrev pub Steps : Disk → ℕ → Cursor → Option (Step × Cursor) → Type 0
 Steps v tb c (Some (Leaf e, d)) = Onward v tb c e d

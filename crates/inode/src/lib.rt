@@ -2,16 +2,16 @@
 #![tactic(auto)]
 
 ghost use Rattle.std.specs.List.{AllPass};
-ghost use Rattle.std.specs.Prelude.{◌≡◌, true, not, List, ℕ, ◌+◌, ◌*◌, ◌<◌, ◌≤◌, length, take, get_or, IfSome};
+ghost use Rattle.std.specs.Prelude.{◌≡◌, true, not, List, [], ℕ, ◌+◌, ◌*◌, ◌<◌, ◌≤◌, length, take, get_or, IfSome};
 ghost use Rattle.spec.specs.Bytes.{exactly, all_zero};
 ghost use Rattle.spec.specs.Disk.{Disk, blocks_of};
 ghost use Rattle.spec.specs.Inode.{inode_of, block_of_inode, find, find_empty, blocks_for, nodes_for};
 ghost use Rattle.transaction.specs.Volumes.{working};
 ghost use Rattle.block.specs.Keys.{key_of, Name};
 ghost use Rattle.inode.specs.Records.{record_in, named, found_of, lowest_to, number_told, is_table};
-ghost use Rattle.inode.specs.Walk.{slot_in, Slot, live, Steps, start_of};
+ghost use Rattle.inode.specs.Walk.{slot_in, live, leaf, Passed, Enters, Steps, start_of};
 
-use block::{area_of, copy_of, key_of, load, load4, place_in_block};
+use block::{area_of, byte, copy_of, key_of, load, load4, place_in_block};
 use spec::{Area, DiskBlock, Extent, Limits};
 use transaction::WorkingCopy;
 
@@ -40,7 +40,7 @@ pub fn inode_block<'a>(copy: &WorkingCopy<'a>, i: InodeNumber) -> &'a [u8]
     ensures { (exactly 512 result.now ≡ working copy.now (block_of_inode i.n)) × (length result.now ≤ 512) }
 {
     let device = copy.device;
-    if (copy.staged.len() == 0) & (TABLE_END <= device.len()) {
+    if (copy.staged.list.len() == 0) & (TABLE_END <= device.len()) {
         let at = TABLE_START + Limits::BLOCK_SIZE * (i.n / Limits::INODES_PER_BLOCK);
         let end = at + Limits::BLOCK_SIZE;
         return &device[at..end];
@@ -62,27 +62,20 @@ pub fn depth_of(table: &[u8], i: usize) -> u32
     load(table, place_in_block(i) + 12)
 }
 
-fn byte_in(table: &[u8], at: usize) -> u8
-    requires { at < 512 }
-    ensures { result ≡ get_or table.now at 0 }
-{
-    load(table, at) as u8
-}
-
 // The name of record i.
 pub fn name_of(table: &[u8], i: usize) -> [u8; 8]
     ensures { result ≡ take 8 (record_in table.now i) }
 {
     let p = place_in_block(i);
     [
-        byte_in(table, p),
-        byte_in(table, p + 1),
-        byte_in(table, p + 2),
-        byte_in(table, p + 3),
-        byte_in(table, p + 4),
-        byte_in(table, p + 5),
-        byte_in(table, p + 6),
-        byte_in(table, p + 7),
+        byte(table, p),
+        byte(table, p + 1),
+        byte(table, p + 2),
+        byte(table, p + 3),
+        byte(table, p + 4),
+        byte(table, p + 5),
+        byte(table, p + 6),
+        byte(table, p + 7),
     ]
 }
 
@@ -192,7 +185,7 @@ pub fn find(copy: &WorkingCopy, name: &[u8]) -> Option<InodeNumber>
         return None;
     }
     let key = key_of(name);
-    if TABLE_END <= copy.device.len() && is_table_committed(copy.staged) {
+    if TABLE_END <= copy.device.len() && is_table_committed(copy.staged.list) {
         return find_committed(copy.device, key);
     }
     find_key(copy, key)
@@ -216,6 +209,43 @@ pub struct Cursor {
     pub tops: usize,
 }
 
+impl Cursor {
+    // The next extent of the leaf, which is the block of the cursor, and the cursor behind it.
+    pub fn pass(&self, leaf: &SlotBlock) -> Option<(Extent, Cursor)>
+        ensures { (v : Disk) (tb : ℕ) → exactly 512 leaf.now.bytes.now ≡ v self.now.block → Passed v tb self.now result }
+    {
+        let e = leaf.slot(self.at);
+        if !is_live(self.left, e) {
+            return None;
+        }
+        let then = Cursor {
+            at: self.at + Limits::SLOT_SIZE,
+            left: self.left - 1,
+            ..*self
+        };
+        Some((e, then))
+    }
+
+    // Where no leaf slot is left: the next node, named by a slot of the record's block, and the cursor before its extents.
+    pub fn enter(&self, table: &SlotBlock) -> Option<(DiskBlock, Cursor)>
+        ensures { (v : Disk) (tb : ℕ) → exactly 512 table.now.bytes.now ≡ v tb
+            → leaf v self.now.block self.now.at self.now.left ≡ [] → Enters v tb self.now result }
+    {
+        let t = table.slot(self.top);
+        if !is_live(self.tops, t) {
+            return None;
+        }
+        let then = Cursor {
+            block: t.first,
+            at: 0,
+            left: Limits::SLOTS_PER_NODE,
+            top: self.top + Limits::SLOT_SIZE,
+            tops: self.tops - 1,
+        };
+        Some((DiskBlock(t.first), then))
+    }
+}
+
 // What a step of the walk finds: an extent, or a node, whose extents follow.
 #[derive(Clone, Copy)]
 pub enum Step {
@@ -224,24 +254,14 @@ pub enum Step {
 }
 
 // A slot's four bytes.
-fn slot_of(bytes: &[u8]) -> Extent
-    requires { length bytes.now ≡ 4 }
+fn slot_of(bytes: &[u8; Limits::SLOT_SIZE]) -> Extent
     ensures { (result ≡ slot_in 0 bytes.now) × (result.first < 65536) × (result.count < 65536) }
 {
+    let [a, b, c, d] = *bytes;
     Extent {
-        first: u32::from(bytes[0]) + 256 * u32::from(bytes[1]),
-        count: u32::from(bytes[2]) + 256 * u32::from(bytes[3]),
+        first: u32::from(u16::from_le_bytes([a, b])),
+        count: u32::from(u16::from_le_bytes([c, d])),
     }
-}
-
-// The slot at a byte of block b.
-fn slot_at(copy: &WorkingCopy, b: DiskBlock, at: usize) -> Extent
-    ensures { Slot (working copy.now b.0) at result }
-{
-    SlotBlock {
-        bytes: copy.block(b),
-    }
-    .slot(at)
 }
 
 // Whether slots are left and the first of them is used.
@@ -255,31 +275,17 @@ pub fn is_live(n: usize, e: Extent) -> bool
 pub fn next(copy: &WorkingCopy, tb: DiskBlock, cur: Cursor) -> Option<(Step, Cursor)>
     ensures { Steps (working copy.now) tb.0 cur result }
 {
-    let at = cur.at;
-    let left = cur.left;
-    let e = slot_at(copy, DiskBlock(cur.block), at);
-    if is_live(left, e) {
-        let then = Cursor {
-            at: at + Limits::SLOT_SIZE,
-            left: left - 1,
-            ..cur
-        };
+    let block = SlotBlock {
+        bytes: copy.block(DiskBlock(cur.block)),
+    };
+    if let Some((e, then)) = cur.pass(&block) {
         return Some((Step::Leaf(e), then));
     }
-    let top = cur.top;
-    let tops = cur.tops;
-    let t = slot_at(copy, tb, top);
-    if !is_live(tops, t) {
-        return None;
-    }
-    let then = Cursor {
-        block: t.first,
-        at: 0,
-        left: Limits::SLOTS_PER_NODE,
-        top: top + Limits::SLOT_SIZE,
-        tops: tops - 1,
+    let table = SlotBlock {
+        bytes: copy.block(tb),
     };
-    Some((Step::Node(DiskBlock(t.first)), then))
+    let (b, then) = cur.enter(&table)?;
+    Some((Step::Node(b), then))
 }
 
 // The cursor before the first extent of record i.

@@ -2,8 +2,8 @@
 ghost use Rattle.std.specs.Prelude.{◌≤◌, length};
 
 use crate::slot_of;
-use block::load;
-use spec::{Extent, Limits};
+use block::byte;
+use spec::Extent;
 
 // The bytes of a block, as lent: no more than a block has, and zeros follow where they end.
 #[derive(Clone, Copy)]
@@ -24,16 +24,14 @@ impl<'a> SlotBlock<'a> {
         if block.len() <= at {
             return Extent { first: 0, count: 0 };
         }
-        let end = at + Limits::SLOT_SIZE;
-        if end <= block.len() {
-            return slot_of(&block[at..end]);
+        match block[at..].first_chunk() {
+            Some(bytes) => slot_of(bytes),
+            None => slot_of(&[
+                byte(block, at),
+                byte(block, at + 1),
+                byte(block, at + 2),
+                byte(block, at + 3),
+            ]),
         }
-        let cut = [
-            load(block, at) as u8,
-            load(block, at + 1) as u8,
-            load(block, at + 2) as u8,
-            load(block, at + 3) as u8,
-        ];
-        slot_of(&cut)
     }
 }

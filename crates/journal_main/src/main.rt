@@ -3,8 +3,9 @@
 
 ghost use Rattle.std.specs.Prelude.{◌<◌};
 
-use spec::{Answered, BlockStored, DiskBlock, Limits, Phase, Refusal, Session};
+use spec::{BlockStored, DiskBlock, Limits, Phase, Refusal, Session};
 use std::io;
+use transaction::Staged;
 use trial::{number, stage};
 
 // ---- headers
@@ -127,90 +128,88 @@ fn show_device(rt: &impl Print, device: &[u8]) -> io::Result<()> {
     rt.write_all(b"\n")
 }
 
-fn idle(session: Session) -> Answered<Option<BlockStored>> {
-    Answered {
-        session,
-        answer: Ok(None),
-    }
+// A device with the work space and session that are lent with it.
+#[derive(Drop)]
+struct Lent {
+    device: [u8; 32768],
+    work: [u8; Limits::WORK_SIZE],
+    session: Session,
 }
 
-// The next store of what is under way.
-fn advance(device: &mut [u8], work: &[u8], s: Session) -> Answered<Option<BlockStored>> {
-    let blocks = s.blocks;
-    if blocks != 64 {
-        return idle(s);
+impl Lent {
+    // Nothing staged yet.
+    fn new(session: Session) -> Lent {
+        Lent {
+            device: [7; 32768],
+            work: [9; Limits::WORK_SIZE],
+            session,
+        }
     }
-    if device.len() != 32768 {
-        return idle(s);
-    }
-    let p = s.phase;
-    let l = s.staged;
-    let n = transaction::staged_count(s);
-    let answer = journal::advance_in(device, work, blocks, p, &l[0..n]);
-    Answered {
-        session: journal::after(p, s, answer),
-        answer,
-    }
-}
 
-fn run(
-    rt: &impl Print,
-    device: &mut [u8],
-    work: &[u8],
-    s: Session,
-    steps: usize,
-) -> io::Result<()> {
-    let mut t = s;
-    for _ in 0..steps {
-        let r = advance(device, work, t);
-        show_answer(rt, r.answer)?;
-        t = r.session;
-        show_session(rt, t)?;
-        show_device(rt, device)?;
+    // Block b with 512 times a byte, where there is room.
+    fn stage(&mut self, b: u32, byte: u8) {
+        self.session = stage(&mut self.work, self.session, b, byte);
     }
-    Ok(())
+
+    // The next store of what is under way.
+    fn advance(&mut self) -> Result<Option<BlockStored>, Refusal> {
+        let s = self.session;
+        let staged = Staged::of(&s.staged, s.count);
+        let answer = journal::advance_in(&mut self.device, &self.work, s.blocks, s.phase, staged);
+        self.session = journal::after(s.phase, s, answer);
+        answer
+    }
+
+    fn run(&mut self, rt: &impl Print, steps: usize) -> io::Result<()> {
+        for _ in 0..steps {
+            let answer = self.advance();
+            show_answer(rt, answer)?;
+            show_session(rt, self.session)?;
+            show_device(rt, &self.device)?;
+        }
+        Ok(())
+    }
 }
 
 // Blocks 63, 33 and 34 staged and committed, and one step more.
 fn commit(rt: &impl Print) -> io::Result<()> {
-    let mut device = [7u8; 32768];
-    let mut work = [9u8; Limits::WORK_SIZE];
-    let fresh = Session::opened(64, Phase::Ready);
-    let one = stage(&mut work, fresh, 63, 1);
-    let two = stage(&mut work, one, 33, 2);
-    let three = stage(&mut work, two, 34, 3);
-    let s = three.in_phase(Phase::Committing(0));
-    run(rt, &mut device, &work, s, 9)
+    let mut lent = Lent::new(Session::opened(64, Phase::Ready));
+    lent.stage(63, 1);
+    lent.stage(33, 2);
+    lent.stage(34, 3);
+    lent.session = lent.session.in_phase(Phase::Committing(0));
+    lent.run(rt, 9)
 }
 
 // A block staged that no log may list; nothing staged; a place past the end.
 fn commit_nothing(rt: &impl Print) -> io::Result<()> {
-    let mut device = [7u8; 32768];
-    let mut work = [9u8; Limits::WORK_SIZE];
     let fresh = Session::opened(64, Phase::Committing(0));
-    run(rt, &mut device, &work, fresh, 1)?;
-    let low = stage(&mut work, fresh, 32, 1);
-    run(rt, &mut device, &work, low, 1)?;
-    let high = stage(&mut work, fresh, 64, 1);
-    run(rt, &mut device, &work, high, 1)?;
-    let one = stage(&mut work, fresh, 33, 1);
-    let past = one.in_phase(Phase::Committing(4));
-    run(rt, &mut device, &work, past, 1)
+    let mut lent = Lent::new(fresh);
+    lent.run(rt, 1)?;
+    lent.session = fresh;
+    lent.stage(32, 1);
+    lent.run(rt, 1)?;
+    lent.session = fresh;
+    lent.stage(64, 1);
+    lent.run(rt, 1)?;
+    lent.session = Session::opened(64, Phase::Committing(4));
+    lent.stage(33, 1);
+    lent.run(rt, 1)
 }
 
 // Two targets listed, in no order; then one outside the device.
 fn recover(rt: &impl Print) -> io::Result<()> {
-    let mut device = [7u8; 32768];
-    let work = [9u8; Limits::WORK_SIZE];
-    block::clear_block(&mut device, DiskBlock(0));
-    block::store2(&mut device, 0, 63);
-    block::store2(&mut device, 16, 33);
-    device[512] = 1;
-    device[1024] = 2;
-    let s = Session::opened(64, Phase::Recovering(0));
-    run(rt, &mut device, &work, s, 4)?;
-    block::store2(&mut device, 0, 64);
-    run(rt, &mut device, &work, s, 1)
+    let recovering = Session::opened(64, Phase::Recovering(0));
+    let mut lent = Lent::new(recovering);
+    block::clear_block(&mut lent.device, DiskBlock(0));
+    block::store2(&mut lent.device, 0, 63);
+    block::store2(&mut lent.device, 16, 33);
+    lent.device[512] = 1;
+    lent.device[1024] = 2;
+    lent.run(rt, 4)?;
+    lent.session = recovering;
+    block::store2(&mut lent.device, 0, 64);
+    lent.run(rt, 1)
 }
 
 fn main(rt: HostRuntime) -> io::Result<()> {

@@ -4,7 +4,7 @@
 use listing::{LISTING_SIZE, list_image};
 use spec::{Limits, Session};
 use std::io;
-use trial::{put, put_slot};
+use trial::{put, put_files, put_slot};
 
 // The blocks named below: the last of the log, the bitmap, the first of the data.
 const LAST_LOG: u16 = Limits::LOG_LENGTH as u16;
@@ -34,29 +34,17 @@ fn e3() -> [u8; 32768] {
     device
 }
 
-// Record 0: 700 bytes in blocks 42 and 43. Record 1: no byte. Record 2: 2,560 bytes in blocks 46, 48, .. 54, which extent block 44 names.
-// Record 17: 513 bytes in blocks 60 and 62.
+// Three files with the names AB .., .. CD and 03 .., and in record 17 one of the name FF .. with 513 bytes in blocks 60 and 62.
 fn files() -> [u8; 32768] {
     let mut device = empty();
+    put_files(&mut device);
     put(&mut device, 17408, &[171]);
-    put(&mut device, 17416, &700u16.to_le_bytes());
-    put_slot(&mut device, 17424, DATA, 2);
     put(&mut device, 17447, &[205]);
     put(&mut device, 17472, &[3]);
-    put(&mut device, 17480, &2560u16.to_le_bytes());
-    put(&mut device, 17484, &[1]);
-    put_slot(&mut device, 17488, 44, 5);
-    put_slot(&mut device, 22528, 46, 1);
-    put_slot(&mut device, 22532, 48, 1);
-    put_slot(&mut device, 22536, 50, 1);
-    put_slot(&mut device, 22540, 52, 1);
-    put_slot(&mut device, 22544, 54, 1);
     put(&mut device, 17952, &[255]);
     put(&mut device, 17960, &513u16.to_le_bytes());
     put_slot(&mut device, 17968, 60, 1);
     put_slot(&mut device, 17972, 62, 1);
-    put(&mut device, 16901, &[95]);
-    put(&mut device, 16902, &[85]);
     put(&mut device, 16903, &[80]);
     device
 }

@@ -37,7 +37,7 @@ fn numbers_at(next: usize) -> CLoaded
     }
 }
 
-// A step's answer and the place behind it in numbers. That of crate convertapi tells another answer: the two share nothing but the name and the numbers 20 and 21. These are told to C in these two places alone, and else by the programs that print them.
+// A step's answer and the place behind it in numbers. That of crate convertapi tells another answer: the two share nothing but the name.
 #[tactic(auto, unfolding(crate::specs::Loads::load_numbers))]
 fn numbers_of(answer: Result<Loaded, LoadFault>, next: usize) -> CLoaded
     ensures { result ≡ load_numbers (loaded_of answer) next }
@@ -64,8 +64,7 @@ fn numbers_of(answer: Result<Loaded, LoadFault>, next: usize) -> CLoaded
             let (refusal, line) = match fault {
                 LoadFault::Refused(why) => (why.number(), why.fault().unwrap_or(0)),
                 LoadFault::LineRefused(line, why) => (why.number(), line),
-                LoadFault::TooLong(line) => (20, line),
-                LoadFault::Malformed(line) => (21, line),
+                LoadFault::BadLine(line, fault) => (fault.number(), line),
             };
             CLoaded {
                 refusal,
@@ -80,12 +79,7 @@ fn numbers_of(answer: Result<Loaded, LoadFault>, next: usize) -> CLoaded
 fn leaves_all(answer: Result<Loaded, LoadFault>) -> bool
     ensures { result ≡ leaves_all (loaded_of answer) }
 {
-    match answer {
-        Ok(Loaded::Started(_)) => false,
-        Ok(Loaded::Advanced(_)) => false,
-        Ok(Loaded::NoneLeft) => true,
-        Err(_) => true,
-    }
+    matches!(answer, Ok(Loaded::NoneLeft) | Err(_))
 }
 
 // What a step leaves in the numbers and cells: nothing new where it leaves all as it was.

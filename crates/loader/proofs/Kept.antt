@@ -3,29 +3,17 @@ use Prim.Native.Nat.{ℕ}
 use mathlib.Core.Path.{◌≡◌, refl, sym, ap, ◌∙◌}
 use mathlib.Core.Bool.{Bool, true, false, cond, true≢false}
 use mathlib.Core.List.{List}
-use native.Mathlib.Omega.{arith}
-use lib.ListN.{length}
-use lib.Dec.{eqb}
 use Rattle.spec.specs.declared.Phase.{Phase}
 use Rattle.spec.specs.declared.Phase.TheVariants.{Closed, Ready, Committing, Recovering}
-use Rattle.spec.specs.declared.Refusal.TheVariants.{NotReady}
-use Rattle.spec.specs.Session.{staged_in}
-use Rattle.spec.specs.Answers.{Answer, is_refused, Result, refuse, accept, require, ◌>>◌}
+use Rattle.spec.specs.Answers.{Answer, is_refused, Result, refuse, accept}
 use Rattle.spec.specs.Transaction.{State}
-use Rattle.spec.specs.Calls.{Outcome, outcome, ready_ok, create, write, commit}
+use Rattle.spec.specs.Calls.{Outcome, outcome, create, write, commit}
 use Rattle.promises.specs.Ready.{create-ready, write-ready, commit-starts}
 use Rattle.promises.specs.Advance.{advance-keeps}
 use Rattle.cardfile.specs.Cards.{name_of, amount_bytes}
 use Rattle.cardfile.specs.Lines.{Standing, card, too_long, malformed, nothing, standing, line_number}
+use Rattle.loader.proofs.Laws.{idle-ready}
 use Rattle.loader.specs.Load.{idle_ok, store_line, answered, loaded, naming, taken_up, take_line, after_begin, advancing, load_in, load_step, leaves_all}
-
-pub idle-ready : (s : State) (t : Bool) → idle_ok s ≡ accept t → (u : Bool) × (ready_ok s ≡ accept u)
-unfolding idle_ok
-idle-ready s t h = go (ready_ok s) h
-  where
-    go : (r : Result Bool) → (r >> require (eqb (length (staged_in s.session)) 0) NotReady) ≡ accept t → (u : Bool) × (r ≡ accept u)
-    go (refuse r) q = let z : ◌≡◌ {A = ℕ} 0 1 = cc in absurd (omega arith)
-    go (accept u) q = (u, refl)
 
 -- a line behind which create and write are accepted is committed
 pub line-commits : (s : State) (t : Bool) → idle_ok s ≡ accept t → (name amount : List ℕ) → is_refused (create s name).answer ≡ false

@@ -5,6 +5,7 @@ use mathlib.Core.Bool.{Bool, true, false, cond, true≢false}
 use mathlib.Core.List.{List, [], ◌∷◌}
 use Rattle.std.specs.Prelude.{Option, Some, Ok, Err}
 use Rattle.std.specs.Prelude.{Result as Returned}
+use Rattle.std.specs.Result.{MatchResult, IsOkAnd, IsErrAnd}
 use native.Mathlib.Omega.{arith}
 use borrow.Author.Tests.{ne_eqb}
 use lib.ListN.{length}
@@ -12,13 +13,14 @@ use lib.Dec.{eqb}
 use Rattle.spec.specs.declared.Phase.{Phase}
 use Rattle.spec.specs.declared.Phase.TheVariants.{Closed, Ready, Committing, Recovering}
 use Rattle.spec.specs.declared.Session.{Session}
+use Rattle.spec.specs.declared.BlockStored.{BlockStored}
 use Rattle.spec.specs.declared.Refusal.{Refusal}
 use Rattle.spec.specs.declared.Refusal.TheVariants.{NotReady}
 use Rattle.spec.specs.Disk.{Slice, slice_of, blocks_of}
 use Rattle.spec.specs.Session.{staged_in}
-use Rattle.spec.specs.Answers.{Answer, refused, done, started, stored, idle, counted, file, no_file, run, no_run, refusal_of, done_of, started_of, is_refused, Result, refuse, accept, require, ◌>>◌}
+use Rattle.spec.specs.Answers.{Answer, refused, done, started, stored, idle, counted, file, no_file, run, no_run, refusal_of, done_of, started_of, stored_of, is_refused, Result, refuse, accept, require, ◌>>◌}
 use Rattle.spec.specs.Transaction.{State, state_of}
-use Rattle.spec.specs.Calls.{Outcome, outcome, left, settle, lent_ok, ready_ok, name_ok, start_commit, create, write, commit, advance}
+use Rattle.spec.specs.Calls.{Outcome, outcome, left, settle, lent_ok, ready_ok, start_commit, create, write, commit, advance}
 use Rattle.promises.specs.Ready.{refusal_is, refused-is}
 use Rattle.promises.specs.Restored.{stored_in, restored, create-keeps, write_keeps, lent-work}
 use Rattle.cardfile.specs.Cards.{amount_bytes}
@@ -26,7 +28,9 @@ use Rattle.cardfile.specs.Lines.{Standing, card, standing, line_at, line_number,
 use Rattle.cardfile.specs.declared.Line.{Line}
 use Rattle.cardfile.specs.declared.LineFault.{LineFault}
 use Rattle.cardfile.proofs.Places.{found_at}
+use Rattle.loader.specs.declared.Loaded.{Loaded}
 use Rattle.loader.specs.declared.Loaded.TheVariants as loaded-cases
+use Rattle.loader.specs.declared.LoadFault.{LoadFault}
 use Rattle.loader.specs.declared.LoadFault.TheVariants as fault-cases
 use Rattle.loader.specs.Load.{idle_ok, begin, or_back, store_line, answered, LoadOutcome, loaded, naming, taken_up, take_line, after_begin, advancing, load_in, load_step, loaded_of, left_load}
 use Rattle.loader.specs.Parts.{finish_line, take_named}
@@ -110,16 +114,28 @@ idle-says s t h = go (ready_ok s) (length (staged_in s.session)) refl h
         let z : refuse NotReady ≡ accept t = rw (ne_eqb (suc k) 0 (λ (n : suc k ≡ 0). omega arith)) at q in
         absurd (refuse≢accept z)
 
+-- what was accepted is behind its first test
+first-passed : (r m : Result Bool) (t : Bool) → (r >> m) ≡ accept t → (u : Bool) × (r ≡ accept u)
+first-passed (refuse r) m t q = absurd (refuse≢accept q)
+first-passed (accept u) m t q = (u, refl)
+
+pub idle-ready : (s : State) (t : Bool) → idle_ok s ≡ accept t → (u : Bool) × (ready_ok s ≡ accept u)
+unfolding idle_ok
+idle-ready s t h = first-passed (ready_ok s) _ t h
+
+ready-lent : (s : State) (t : Bool) → ready_ok s ≡ accept t → (u : Bool) × (lent_ok s ≡ accept u)
+unfolding ready_ok
+ready-lent s t h = first-passed (lent_ok s) _ t h
+
+-- a begin that was accepted had its work space lent
+pub begin-lent : (s : Session) (d w : List ℕ) → outcome (state_of s d w) done ≡ begin (state_of s d w) → length w ≡ 16384
+begin-lent s d w e =
+    let i = idle-is (state_of s d w) done e refl in
+    let r = idle-ready (state_of s d w) i.0 i.1 in
+    let l = ready-lent (state_of s d w) r.0 r.1 in
+    lent-work s d w l.0 (sym l.1)
+
 -- ---- a line
-
--- what was done is behind its first test
-first-test : (s : State) (r m : Result Bool) (f : Result Outcome) → is_refused (settle (outcome s) ((r >> m) >> f)).answer ≡ false → (u : Bool) × (accept u ≡ r)
-first-test s (refuse r) m f q = absurd (true≢false (sym (refused-is r) ∙ q))
-first-test s (accept u) m f q = (u, refl)
-
-created-lent : (s : State) (name : List ℕ) → is_refused (create s name).answer ≡ false → (u : Bool) × (accept u ≡ lent_ok s)
-unfolding create name_ok
-created-lent s name h = first-test s (lent_ok s) _ _ h
 
 -- a refused line's state is the one that it began with
 kept-work : (s : State) (name : List ℕ) → is_refused (create s name).answer ≡ true → (create s name).after ≡ s
@@ -149,12 +165,6 @@ module _ (s t : Session) (d w x name amount : List ℕ) (a : Done) (eq : left t 
       let same : slice_of x ≡ slice_of w = ap (λ (u : State). u.work) (after_is ∙ kept-work (state_of s d w) name g) in
       stops (left s d x (refusal_of r))
       (ap₂ (λ (u : Slice) (b : Answer). outcome (record { session = s; device = slice_of d; work = u }) b) same f) g
-
-  -- a create that was done had its work space lent
-  pub line-lent : a ≡ Ok tt → length w ≡ 16384
-  line-lent h =
-      let l = created-lent (state_of s d w) name (ap is_refused (sym answer-is) ∙ ap (λ (y : Done). is_refused (done_of y)) h) in
-      lent-work s d w l.0 l.1
 
   pub line-goes-on : a ≡ (Ok tt) → staged_in s ≡ [] → (kept : List ℕ) → kept ≡ blocks_of w 0 → (o : Outcome)
       → o ≡ finish_line (state_of t d x) s kept name amount → o ≡ store_line (state_of s d w) name amount
@@ -224,6 +234,16 @@ module _ (s : State) (text : List ℕ) (at number : ℕ) (r : Returned (Option L
       (e ∙ ap₂ (λ (n : List ℕ) (m : ℕ). taken_up s at x.next number (store_line s n (amount_bytes m))) f.name f.amount)
 
 -- ---- the next line, and a step
+
+-- an advance's answer as a step's
+pub told-advanced : (a : Returned (Option BlockStored) Refusal) (m : Returned Loaded Refusal) (r : Returned Loaded LoadFault)
+    → MatchResult a (λ x. IsOkAnd m (λ y. y ≡ loaded-cases.Advanced x)) (λ e. m ≡ Err e)
+    → MatchResult m (λ x. r ≡ Ok x) (λ e. IsErrAnd r (λ f. f ≡ fault-cases.Refused e)) → loaded_of r ≡ answered (stored_of a)
+told-advanced (Ok x) (Ok y) r h k = rw (k, h) refl
+told-advanced (Ok x) (Err d) r h k = absurd h
+told-advanced (Err e) (Ok y) r h k = let z : ◌≡◌ {A = ℕ} 0 1 = cc in absurd (omega arith)
+told-advanced (Err e) (Err d) (Ok y) h k = absurd k
+told-advanced (Err e) (Err d) (Err f) h k = let g : d ≡ e = cc in rw (k, g) refl
 
 module _ (s : State) (text : List ℕ) (at : ℕ) where
   pub next-stops : (a : Done) (r : Refusal) → outcome s (done_of a) ≡ begin s → a ≡ Err r → loaded s at (answered (refusal_of r)) ≡ after_begin s text at (idle_ok s)

@@ -10,7 +10,7 @@ use Rattle.spec.specs.Answers.{Answer, refused, done, started, stored, idle, cou
 use Rattle.spec.specs.Transaction.{State, state_of}
 use Rattle.spec.specs.Calls.{Outcome, outcome, settle, ready_ok, create, write, commit, advance}
 use Rattle.cardfile.specs.Cards.{name_of, amount_bytes}
-use Rattle.cardfile.specs.Lines.{Standing, card, too_long, malformed, nothing, standing, line_number}
+use Rattle.cardfile.specs.Lines.{Standing, card, too_long, malformed, nothing, standing, line_number, line_fault_number}
 use Rattle.loader.specs.declared.Loaded.{Loaded}
 use Rattle.loader.specs.declared.Loaded.TheVariants as loaded-cases
 use Rattle.loader.specs.declared.LoadFault.{LoadFault}
@@ -112,8 +112,7 @@ loaded_of (Ok (loaded-cases.Advanced a)) = answered (stored_of (Ok a))
 loaded_of (Ok loaded-cases.NoneLeft) = none_left
 loaded_of (Err (fault-cases.Refused r)) = answered (refusal_of r)
 loaded_of (Err (fault-cases.LineRefused line r)) = answered (naming line (refusal_of r))
-loaded_of (Err (fault-cases.TooLong line)) = answered (refused 20 (line ∷ []))
-loaded_of (Err (fault-cases.Malformed line)) = answered (refused 21 (line ∷ []))
+loaded_of (Err (fault-cases.BadLine line fault)) = answered (refused (line_fault_number fault) (line ∷ []))
 
 abbrev pub left_load : Session → List ℕ → List ℕ → ℕ → LoadAnswer → LoadOutcome
 left_load s device work next a = loaded (state_of s device work) next a

@@ -29,13 +29,12 @@ pub enum Loaded {
     NoneLeft,
 }
 
-// Why it is refused, in four cases. A line is named by its number, counted from 1.
+// Why it is refused, in three cases. A line is named by its number, counted from 1.
 #[derive(Clone, Copy)]
 pub enum LoadFault {
     Refused(Refusal),
     LineRefused(usize, Refusal),
-    TooLong(usize),
-    Malformed(usize),
+    BadLine(usize, LineFault),
 }
 
 // A step's answer, the session, and the load's place in the text.
@@ -60,19 +59,17 @@ pub fn begin(device: &[u8], work: &[u8], session: Session) -> Result<(), Refusal
     Ok(())
 }
 
-// The first image of the work space, of one that is no shorter.
-fn first_image(work: &[u8]) -> [u8; Limits::BLOCK_SIZE]
-    ensures { length work.now ≡ 16384 → result ≡ blocks_of work.now 0 }
+// The first image of the work space.
+fn first_image(work: &[u8; Limits::WORK_SIZE]) -> [u8; Limits::BLOCK_SIZE]
+    ensures { result ≡ blocks_of work.now 0 }
 {
-    match work.first_chunk() {
-        Some(image) => *image,
-        None => [0; Limits::BLOCK_SIZE],
-    }
+    let mut image = [0; Limits::BLOCK_SIZE];
+    image.copy_from_slice(&work[..Limits::BLOCK_SIZE]);
+    image
 }
 
 // It becomes this one.
-fn put_back(work: &mut [u8], image: &[u8; Limits::BLOCK_SIZE])
-    requires { length work.old ≡ 16384 }
+fn put_back(work: &mut [u8; Limits::WORK_SIZE], image: &[u8; Limits::BLOCK_SIZE])
     ensures { slice_of work.new ≡ stored_in (slice_of work.old) 0 image.now }
 {
     work[..Limits::BLOCK_SIZE].copy_from_slice(image);
@@ -81,14 +78,13 @@ fn put_back(work: &mut [u8], image: &[u8; Limits::BLOCK_SIZE])
 // The amount written into the file just made, and the transaction committed; refused, the first image is put back.
 fn finish_line(
     device: &[u8],
-    work: &mut [u8],
+    work: &mut [u8; Limits::WORK_SIZE],
     session: Session,
     made: Session,
     kept: &[u8; Limits::BLOCK_SIZE],
     name: &[u8],
     amount: &[u8],
 ) -> Answered<usize>
-    requires { length work.old ≡ 16384 }
     ensures { left result.session device.now work.new (started_of result.answer)
         ≡ finish_line (state_of made device.now work.old) session kept.now name.now amount.now }
 {
@@ -107,7 +103,7 @@ fn finish_line(
 // One line: create, write, commit. A refusal leaves all as it was, the work space too.
 fn store_line(
     device: &[u8],
-    work: &mut [u8],
+    work: &mut [u8; Limits::WORK_SIZE],
     idle: Unstaged,
     name: &[u8],
     amount: &[u8],
@@ -131,7 +127,7 @@ fn store_line(
 // The line of a card. Its number is counted where it is refused.
 fn take_card(
     device: &[u8],
-    work: &mut [u8],
+    work: &mut [u8; Limits::WORK_SIZE],
     idle: Unstaged,
     text: &[u8],
     at: usize,
@@ -158,15 +154,20 @@ fn take_card(
 }
 
 // What stands at the place, taken up.
-fn take_line(device: &[u8], work: &mut [u8], idle: Unstaged, text: &[u8], at: usize) -> LoadStep
+fn take_line(
+    device: &[u8],
+    work: &mut [u8; Limits::WORK_SIZE],
+    idle: Unstaged,
+    text: &[u8],
+    at: usize,
+) -> LoadStep
     ensures { left_load result.session device.now work.new result.next (loaded_of result.answer)
         ≡ take_line (state_of idle.session device.now work.old) at (line_number text.now at) (standing text.now at) }
 {
     let answer = match line_at(text, at) {
         Ok(Some(line)) => return take_card(device, work, idle, text, at, line),
         Ok(None) => Ok(Loaded::NoneLeft),
-        Err(LineFault::TooLong) => Err(LoadFault::TooLong(line_number(text, at))),
-        Err(LineFault::BadForm) => Err(LoadFault::Malformed(line_number(text, at))),
+        Err(fault) => Err(LoadFault::BadLine(line_number(text, at), fault)),
     };
     LoadStep {
         session: idle.session,
@@ -187,6 +188,10 @@ fn next_line(device: &[u8], work: &mut [u8], session: Session, text: &[u8], at: 
             next: at,
         };
     }
+    // Begin has told its size.
+    let Some(work) = work.as_mut_array() else {
+        unreachable!()
+    };
     let idle = Unstaged { session };
     take_line(device, work, idle, text, at)
 }
@@ -204,14 +209,9 @@ pub fn step(
 {
     if let Phase::Committing(_) = session.phase {
         let a = advance(device, work, session);
-        let after = a.session;
-        let answer = match a.answer {
-            Ok(stored) => Ok(Loaded::Advanced(stored)),
-            Err(why) => Err(LoadFault::Refused(why)),
-        };
         return LoadStep {
-            session: after,
-            answer,
+            session: a.session,
+            answer: a.answer.map(Loaded::Advanced).map_err(LoadFault::Refused),
             next: at,
         };
     }

@@ -1,25 +1,22 @@
 -- The cases of a look-up. Assumes nothing.
-use Prim.Native.Nat.{ℕ, ◌-◌, ◌≤◌, min}
+use Prim.Native.Nat.{ℕ, ◌≤◌}
 use mathlib.Core.Path.{◌≡◌, refl, sym, ap, ◌∙◌}
 use mathlib.Core.Bool.{Bool, true, false, not, true≢false}
 use mathlib.Core.Option.{Option, none, some}
 use mathlib.Core.List.{List}
-use lib.ListN.{length, take, drop}
+use lib.ListN.{length}
 use Rattle.spec.specs.Disk.{Disk}
 use Rattle.spec.specs.Inode.{is_name, find, find_empty}
-use Rattle.spec.specs.declared.Phase.{Phase}
 use Rattle.spec.specs.declared.Session.{Session}
 use Rattle.spec.specs.declared.Refusal.{Refusal}
 use Rattle.spec.specs.declared.Refusal.TheVariants.{BadName, TooLarge, NotReady, Unknown, Taken, NoInode}
 use Rattle.spec.specs.Answers.{Result, refuse, accept, require, ◌>>=◌, ◌>>◌}
-use Rattle.spec.specs.Session.{staged_in}
 use Rattle.spec.specs.Transaction.{State, state_of, view}
-use Rattle.transaction.specs.Places.{session_of}
 use Rattle.transaction.specs.Volumes.{working, Shows}
 use Rattle.transaction.specs.declared.volume.Volume.{Volume}
-use Rattle.transaction.proofs.Laws.{staged-lent, staged-parts, cells-lent, shows-view}
+use Rattle.transaction.proofs.Laws.{shows-view}
 use Rattle.spec.specs.Calls.{lent_ok, name_ok, size_fits, is_ready, is_taken, known, empty_inode, file_ok, sized_ok}
-use Rattle.checks.specs.Checks.{Seen, names_ok, name_size_ok}
+use Rattle.checks.specs.Checks.{names_ok, name_size_ok}
 use Rattle.checks.proofs.Laws.{accept≢refuse, then-passed, require-passed, named-says, names-say, sized-says}
 use Rattle.inode.specs.Records.{found_of, number_told}
 use Rattle.inode.specs.declared.number.InodeNumber.{InodeNumber}
@@ -31,15 +28,6 @@ use Rattle.lookup.specs.Looks.{looked_of, new_ok, unless_taken, rename_ok}
 then-assoc : {A B C : Type 0} (a : Result A) (b : Result B) (x : Result C) → (a >> b) >> x ≡ a >> (b >> x)
 then-assoc (refuse r) b x = refl
 then-assoc (accept a) b x = refl
-
--- a session by value is seen by its parts
-pub seen-lent : (s : Session) (n : ℕ) → length s.staged ≡ 32 → n ≡ length (staged_in s) → Seen s.blocks s.phase (take (n - 0) (drop 0 s.staged)) s
-seen-lent s n h e = record { head = record { size = refl; at-phase = refl }; numbers = sym (staged-lent s h n e) }
-
--- a session of its parts, by those of its cells that are in use
-pub seen-cells : (blocks : ℕ) (phase : Phase) (cells : List ℕ) (count n : ℕ) → length cells ≡ 32 → n ≡ min count 32 → Seen blocks phase (take (n - 0) (drop 0 cells)) (session_of blocks phase cells count)
-seen-cells blocks phase cells count n h e =
-    record { head = record { size = refl; at-phase = refl }; numbers = staged-parts cells count blocks phase ∙ sym (cells-lent cells count n h e) }
 
 -- ---- 13, 14 and 15
 

@@ -1,12 +1,12 @@
 -- The cases of the calls that only read. Assumes nothing.
 use Prim.Native.Nat.{ℕ, ◌+◌, ◌*◌, ◌-◌, ◌%◌, ◌<◌, ◌≤◌}
-use mathlib.Core.Path.{◌≡◌, refl, sym, ap, ap₂, ◌∙◌}
+use mathlib.Core.Path.{◌≡◌, refl, ap, ap₂, ◌∙◌}
 use mathlib.Core.Bool.{Bool, true, false, cond}
-use mathlib.Core.List.{List, [], ◌∷◌}
+use mathlib.Core.List.{List}
 use borrow.Author.Tests.{le-leb, lt-leb, eq-eqb, ne_eqb}
 use native.Mathlib.Omega.{arith}
 use mathlib.Core.Option.{Option, none, some}
-use lib.ListN.{length, take, drop, get_or, get_elem?, length-take, length-drop}
+use lib.ListN.{length, take, drop, get_elem?}
 use Rattle.spec.specs.Bytes.{exactly, all_zero, found}
 use Rattle.spec.specs.Bitmap.{bits_of, free_bits}
 use Rattle.spec.specs.Inode.{Inode, inode_of, inode_at, block_of_inode}
@@ -27,35 +27,28 @@ use Rattle.file.specs.Bytes.{Filled}
 use Rattle.inode.specs.Records.{record_in}
 use Rattle.inode.proofs.Laws.{inode-at, record-at, empty-at, name-part}
 use Rattle.block.specs.Keys.{key_of}
-use Rattle.block.proofs.Keys.{eight, zero-key}
+use Rattle.block.proofs.Keys.{zero-key}
+use Rattle.std.specs.Array.{IsWholeChunk}
 use Rattle.spec.specs.Calls.{outcome, with_buffer, ready_ok, file_ok, read, size_of, free_count, record_at, runs_of, nth_extent}
 
 -- a block of the volume is one of a state that it shows
 pub block_of : (v : Volume) (s : State) (block : List ℕ) (b : ℕ) → Shows v s → exactly 512 block ≡ working v.copy b → exactly 512 block ≡ view s b
 block_of v s block b e f = f ∙ ap (λ (d : Disk). d b) (shows-view v s e)
 
--- ---- the name of record i, in a whole block of the table
+-- ---- what a whole block of the table tells of record i, by the name as the code reads it and its number
 
-module _ (t : List ℕ) (i at : ℕ) (p : at ≡ 32 * (i % 16)) (full : length t ≡ 512) where
-  abbrev own : List ℕ
-  own = take (at + 8 - at) (drop at t)
+module _ (t : List ℕ) (i at : ℕ) (p : at ≡ 32 * (i % 16)) (full : length t ≡ 512) (name : List ℕ)
+    (read : IsWholeChunk (take (at + 8 - at) (drop at t)) name 8) (k : ℕ) (key : k ≡ key_of name) where
+  own : name ≡ take 8 (record_in t i)
+  own = read.same ∙ name-part t i at p (omega arith)
 
-  own_is : own ≡ take 8 (record_in t i)
-  own_is = name-part t i at p (omega arith)
+  pub told-empty : k ≡ 0 → None ≡ record_told t i
+  unfolding record_told
+  told-empty z = rw (← own, ← zero-key name k key, eq-eqb k 0 z)
 
-  own-length : length own ≡ 8
-  own-length = simp (length-take, length-drop) (omega arith)
-
-  -- by its number
-  pub own-blank : (k : ℕ) → k ≡ key_of own → k ≡ 0 → all_zero (take 8 (record_in t i)) ≡ true
-  own-blank k e z = ap all_zero (sym own_is) ∙ sym (zero-key own k e) ∙ eq-eqb k 0 z
-
-  pub own-used : (k : ℕ) → k ≡ key_of own → (k ≡ 0 → ⊥) → all_zero (take 8 (record_in t i)) ≡ false
-  own-used k e z = ap all_zero (sym own_is) ∙ sym (zero-key own k e) ∙ ne_eqb k 0 z
-
-  -- byte by byte
-  pub own-bytes : get_or own 0 0 ∷ get_or own 1 0 ∷ get_or own 2 0 ∷ get_or own 3 0 ∷ get_or own 4 0 ∷ get_or own 5 0 ∷ get_or own 6 0 ∷ get_or own 7 0 ∷ [] ≡ take 8 (record_in t i)
-  own-bytes = sym (eight own own-length) ∙ own_is
+  pub told-used : (n : ℕ) → (k ≡ 0 → ⊥) → n ≡ (inode_of (record_in t i)).size → Some (record { name = name; size = n }) ≡ record_told t i
+  unfolding record_told
+  told-used n z e = rw (← own, ← zero-key name k key, ne_eqb k 0 z, e)
 
 -- what a block of the table tells of a record is what it tells of the block's copy
 pub copy-told : (table : List ℕ) (i : ℕ) → record_told (exactly 512 table) i ≡ record_told table i

@@ -84,10 +84,10 @@ fn free_of_copy(table: &[u8]) -> usize
 fn free_of(table: &[u8]) -> usize
     ensures { result ≡ free_bits (bits_of (exactly 512 table.now)) }
 {
-    if table.len() == Limits::BLOCK_SIZE {
-        return free_in(table);
+    match table.first_chunk() {
+        Some(whole) => free_in(whole),
+        None => free_of_copy(table),
     }
-    free_of_copy(table)
 }
 
 // How many blocks are free.
@@ -108,19 +108,15 @@ pub fn free_count<'a>(device: &'a [u8], work: &'a [u8], session: Session) -> Res
 }
 
 // What is told of record i by its block of the table.
-fn record_of(table: &[u8], i: usize) -> Option<FileRecord>
-    requires { length table.now ≡ 512 }
+fn record_of(table: &[u8; Limits::BLOCK_SIZE], i: usize) -> Option<FileRecord>
     ensures { result ≡ record_told table.now i }
 {
     let at = place_in_block(i);
     let end = at + Limits::NAME_SIZE;
-    let own = &table[at..end];
-    if key_of(own) == 0 {
+    let name: [u8; Limits::NAME_SIZE] = table[at..end].try_into().unwrap();
+    if key_of(&name) == 0 {
         return None;
     }
-    let name = [
-        own[0], own[1], own[2], own[3], own[4], own[5], own[6], own[7],
-    ];
     let size = size_of(table, i);
     Some(FileRecord { name, size })
 }
@@ -141,10 +137,10 @@ pub fn record_in(volume: &Volume, i: usize) -> Result<Option<FileRecord>, Refusa
         return Ok(None);
     }
     let table = inode_block(&volume.copy, InodeNumber { n: i });
-    if table.len() == Limits::BLOCK_SIZE {
-        return Ok(record_of(table, i));
-    }
-    Ok(record_of_copy(table, i))
+    Ok(match table.first_chunk() {
+        Some(whole) => record_of(whole, i),
+        None => record_of_copy(table, i),
+    })
 }
 
 // The same of a session.

@@ -5,8 +5,12 @@ use mathlib.Core.Bool.{Bool, true, false, ◌&&◌, true≢false}
 use mathlib.Core.List.{List, [], ◌∷◌, ◌++◌}
 use native.Mathlib.Omega.{arith}
 use native.Mathlib.Numerals.{add-one}
-use borrow.Author.Tests.{eqb-true, eqb-false, eq-eqb, ne_eqb, lt-ltb, ltb-true}
-use lib.Dec.{eqb, ltb}
+use borrow.Author.Tests.{eqb-true, eqb-false, eq-eqb, ne_eqb, lt-ltb, ltb-true, leb-true, leb-false, le-leb, lt-leb}
+use lib.Dec.{eqb, ltb, leb}
+use Rattle.std.specs.Prelude.{Option, Some, None, MatchOption, slice_range}
+use Rattle.std.specs.Option.{option_copied}
+use Rattle.std.specs.Borrow.{Bor}
+use mathlib.Core.Logic.{◌⊎◌, inl, inr}
 use lib.ListN.{length, take, get_or, set, replicate, length-set, length-append, length-replicate}
 use lib.Seq.{take_all, take-suc-set, take-append-le, take-set-lt, take-set-le, get_or-take, take-nil}
 use Rattle.spec.specs.declared.Extent.{Extent}
@@ -14,7 +18,7 @@ use Rattle.spec.specs.Bytes.{up_from}
 use Rattle.spec.specs.Inode.{extent, prepend, runs}
 use Rattle.runs.specs.declared.ExtentList.{ExtentList}
 use Rattle.runs.specs.Runs.{listed}
-use Rattle.runs.specs.Push.{Holds, Small, Pushed, end_from, grown, no_extents}
+use Rattle.runs.specs.Push.{Holds, Small, Pushed, list_with, end_from, grown, no_extents}
 
 -- ---- growing at the end
 
@@ -68,45 +72,45 @@ set-each P (x ∷ xs) (suc m) a p f (suc k) = set-each P xs m a p (λ j. f (suc 
 -- the four ways of `push`
 module _ (r : ExtentList) (b c : ℕ) where
   abbrev longer : Extent
-  longer = extent (get_or r.cells (r.len - 1) (extent 0 0)).first ((get_or r.cells (r.len - 1) (extent 0 0)).count + c)
+  longer = extent (get_or r.cells (r.end.len - 1) (extent 0 0)).first ((get_or r.cells (r.end.len - 1) (extent 0 0)).count + c)
 
-  module _ (some : 0 < r.len) (ends : r.next ≡ b) where
+  module _ (some : 0 < r.end.len) (ends : r.end.next ≡ b) where
     held-joined : (es : List Extent) → Holds r es → Longer es (grown es b c) 0 b c
     held-joined es h = let l : 0 < length es = omega (arith, h.many) in grown-longer es 0 b c l (sym (h.next l) ∙ ends)
 
-    pub push-joined : r.len ≤ length r.cells → Pushed r b c (record { cells = set r.cells (r.len - 1) longer; len = r.len; next = b + c })
+    pub push-joined : r.end.len ≤ length r.cells → Pushed r b c (list_with (set r.cells (r.end.len - 1) longer) (record { len = r.end.len; next = b + c }))
     push-joined l =
         record {
           holds = λ es h.
               let j = held-joined es h in
               let m = h.many in
-              let q : take r.len r.cells ≡ es = h.cells ∙ take_all (length r.cells) es (omega arith) in
-              let g : get_or r.cells (r.len - 1) (extent 0 0) ≡ get_or es (r.len - 1) (extent 0 0) =
-              sym (get_or-take r.len r.cells (r.len - 1) (extent 0 0) (omega arith)) ∙ ap (λ (t : List Extent). get_or t (r.len - 1) (extent 0 0)) q in
-              let z : length (set es (r.len - 1) longer) ≤ length r.cells = simp length-set (omega arith) in
-              let w : grown es b c ≡ set es (r.len - 1) longer = let i = j.is in rw g (rw (← m) at i) in
+              let q : take r.end.len r.cells ≡ es = h.cells ∙ take_all (length r.cells) es (omega arith) in
+              let g : get_or r.cells (r.end.len - 1) (extent 0 0) ≡ get_or es (r.end.len - 1) (extent 0 0) =
+              sym (get_or-take r.end.len r.cells (r.end.len - 1) (extent 0 0) (omega arith)) ∙ ap (λ (t : List Extent). get_or t (r.end.len - 1) (extent 0 0)) q in
+              let z : length (set es (r.end.len - 1) longer) ≤ length r.cells = simp length-set (omega arith) in
+              let w : grown es b c ≡ set es (r.end.len - 1) longer = let i = j.is in rw g (rw (← m) at i) in
               record {
                 many = m ∙ sym j.many;
                 cells =
                     rw (
-                      take-set-lt r.len r.cells (r.len - 1) longer (omega arith),
+                      take-set-lt r.end.len r.cells (r.end.len - 1) longer (omega arith),
                       q,
-                      length-set r.cells (r.len - 1) longer,
+                      length-set r.cells (r.end.len - 1) longer,
                       w,
-                      take_all (length r.cells) (set es (r.len - 1) longer) z,
+                      take_all (length r.cells) (set es (r.end.len - 1) longer) z,
                     );
                 next = λ z. sym j.next;
               };
           small = λ n s lo some. record {
-            full = length-set r.cells (r.len - 1) longer ∙ s.full;
-            first = set-each (λ e. e.first < 131072) r.cells (r.len - 1) longer (s.first (r.len - 1)) s.first;
-            count = set-each (λ e. e.count ≤ n + c) r.cells (r.len - 1) longer (omega (arith, s.count (r.len - 1))) (λ k. omega (arith, s.count k));
+            full = length-set r.cells (r.end.len - 1) longer ∙ s.full;
+            first = set-each (λ e. e.first < 131072) r.cells (r.end.len - 1) longer (s.first (r.end.len - 1)) s.first;
+            count = set-each (λ e. e.count ≤ n + c) r.cells (r.end.len - 1) longer (omega (arith, s.count (r.end.len - 1))) (λ k. omega (arith, s.count k));
             len = omega (arith, s.len);
             next = omega (arith, s.next);
           };
         }
 
-    pub push-joined-over : length r.cells < r.len → Pushed r b c (record { cells = r.cells; len = r.len; next = b + c })
+    pub push-joined-over : length r.cells < r.end.len → Pushed r b c (list_with r.cells (record { len = r.end.len; next = b + c }))
     push-joined-over l =
         record {
           holds = λ es h.
@@ -119,43 +123,43 @@ module _ (r : ExtentList) (b c : ℕ) where
           small = λ n s lo some. record { full = s.full; first = s.first; count = λ k. omega (arith, s.count k); len = omega (arith, s.len); next = omega (arith, s.next) };
         }
 
-  module _ (apart : 0 < r.len → r.next ≡ b → ⊥) where
+  module _ (apart : 0 < r.end.len → r.end.next ≡ b → ⊥) where
     held-another : (es : List Extent) → Holds r es → Another es (grown es b c) 0 b c
     held-another es h = grown-another es 0 b c (λ l e. apart (omega (arith, h.many)) (h.next l ∙ e))
 
-    many-another : (es : List Extent) → Holds r es → r.len + 1 ≡ length (grown es b c)
+    many-another : (es : List Extent) → Holds r es → r.end.len + 1 ≡ length (grown es b c)
     many-another es h = rw (held-another es h).is (rw (length-append es (extent b c ∷ [])) (omega (arith, h.many)))
 
-    pub push-another : r.len < length r.cells → Pushed r b c (record { cells = set r.cells r.len (extent b c); len = r.len + 1; next = b + c })
+    pub push-another : r.end.len < length r.cells → Pushed r b c (list_with (set r.cells r.end.len (extent b c)) (record { len = r.end.len + 1; next = b + c }))
     push-another l =
         record {
           holds = λ es h.
               let m = h.many in
-              let q : take r.len r.cells ≡ es = h.cells ∙ take_all (length r.cells) es (omega arith) in
+              let q : take r.end.len r.cells ≡ es = h.cells ∙ take_all (length r.cells) es (omega arith) in
               let z : length (es ++ (extent b c ∷ [])) ≤ length r.cells = simp length-append (omega arith) in
               record {
                 many = many-another es h;
                 cells =
                     rw (
-                      add-one r.len,
-                      take-suc-set r.cells r.len (extent b c) l,
+                      add-one r.end.len,
+                      take-suc-set r.cells r.end.len (extent b c) l,
                       q,
-                      length-set r.cells r.len (extent b c),
+                      length-set r.cells r.end.len (extent b c),
                       (held-another es h).is,
                       take_all (length r.cells) (es ++ (extent b c ∷ [])) z,
                     );
                 next = λ z. sym (held-another es h).next;
               };
           small = λ n s lo some. record {
-            full = length-set r.cells r.len (extent b c) ∙ s.full;
-            first = set-each (λ e. e.first < 131072) r.cells r.len (extent b c) lo s.first;
-            count = set-each (λ e. e.count ≤ n + c) r.cells r.len (extent b c) (omega arith) (λ k. omega (arith, s.count k));
+            full = length-set r.cells r.end.len (extent b c) ∙ s.full;
+            first = set-each (λ e. e.first < 131072) r.cells r.end.len (extent b c) lo s.first;
+            count = set-each (λ e. e.count ≤ n + c) r.cells r.end.len (extent b c) (omega arith) (λ k. omega (arith, s.count k));
             len = omega (arith, s.len);
             next = omega arith;
           };
         }
 
-    pub push-another-over : length r.cells ≤ r.len → Pushed r b c (record { cells = r.cells; len = r.len + 1; next = b + c })
+    pub push-another-over : length r.cells ≤ r.end.len → Pushed r b c (list_with r.cells (record { len = r.end.len + 1; next = b + c }))
     push-another-over l =
         record {
           holds = λ es h.
@@ -167,15 +171,15 @@ module _ (r : ExtentList) (b c : ℕ) where
                       (held-another es h).is,
                       take-append-le (length r.cells) es (extent b c ∷ []) (omega arith),
                       ← h.cells,
-                      take_all r.len r.cells l,
-                      take_all (r.len + 1) r.cells (omega arith),
+                      take_all r.end.len r.cells l,
+                      take_all (r.end.len + 1) r.cells (omega arith),
                     );
                 next = λ z. sym (held-another es h).next;
               };
           small = λ n s lo some. record { full = s.full; first = s.first; count = λ k. omega (arith, s.count k); len = omega (arith, s.len); next = omega arith };
         }
 
-pub holds-none : (r : ExtentList) → r.len ≡ 0 → Holds r []
+pub holds-none : (r : ExtentList) → r.end.len ≡ 0 → Holds r []
 holds-none r e = record { many = e; cells = rw e (sym (take-nil (length r.cells))); next = λ z. absurd (omega arith) }
 
 -- ---- the runs of more blocks
@@ -226,9 +230,57 @@ pushed-blocks r q b (suc c) p h bs holds = rw (runs-grown bs b c) (p.holds (runs
 
 -- ---- all extents, where the array holds them
 
-pub listed-is : (r : ExtentList) (es : List Extent) (n : ℕ) → Holds r es → Small r n → r.len ≤ 512 → listed r ≡ es
+-- as the array gives them
+pub listed-got : (r : ExtentList) (o : Option (Bor (List Extent))) → length r.cells ≡ 512
+    → MatchOption o ((r.end.len < 0) ⊎ (length r.cells < r.end.len)) (λ x. (0 ≤ r.end.len) × (r.end.len ≤ length r.cells) × (x.now ≡ slice_range r.cells 0 r.end.len) × (length x.now + 0 ≡ r.end.len))
+    → option_copied o ≡ listed r
 unfolding listed
-listed-is r es n h s l = h.cells ∙ take_all (length r.cells) es (omega (arith, h.many, s.full))
+listed-got r None full (inl l) = absurd (omega arith)
+listed-got r None full (inr l) = rw (lt-leb r.end.len 512 (omega arith)) refl
+listed-got r (Some x) full h =
+    let z : r.end.len - 0 ≡ r.end.len = omega arith in
+    rw (le-leb r.end.len 512 (omega (arith, h.1))) (ap (λ (xs : List Extent). Some xs) (h.2 ∙ rw z))
+
+-- there are too many
+pub listed-none : (r : ExtentList) → None ≡ listed r → 512 < r.end.len
+unfolding listed
+listed-none r e = go (leb r.end.len 512) refl
+  where
+    go : (t : Bool) → leb r.end.len 512 ≡ t → 512 < r.end.len
+    go true h = let z : None ≡ Some (take r.end.len r.cells) = rw h at e in cc
+    go false h = leb-false r.end.len 512 h
+
+module _ (r : ExtentList) (xs : List Extent) (e : Some xs ≡ listed r) where
+  listed-both : (r.end.len ≤ 512) × (xs ≡ take r.end.len r.cells)
+  unfolding listed
+  listed-both = go (leb r.end.len 512) refl
+    where
+      go : (t : Bool) → leb r.end.len 512 ≡ t → (r.end.len ≤ 512) × (xs ≡ take r.end.len r.cells)
+      go true h = let z : Some xs ≡ Some (take r.end.len r.cells) = rw h at e in (leb-true r.end.len 512 h, cc)
+      go false h = let z : Some xs ≡ None = rw h at e in cc
+
+  pub listed-few : r.end.len ≤ 512
+  listed-few = listed-both.0
+
+  module _ (n : ℕ) (s : Small r n) where
+    pub listed-is : (es : List Extent) → Holds r es → xs ≡ es
+    listed-is es h = listed-both.1 ∙ h.cells ∙ take_all (length r.cells) es (omega (arith, h.many, s.full, listed-few))
+
+    -- its numbers are small, as those of the array are
+    listed-each : (P : Extent → Type 0) → P (extent 0 0) → ((k : ℕ) → P (get_or r.cells k (extent 0 0))) → (k : ℕ) → P (get_or xs k (extent 0 0))
+    listed-each P p f k = rw listed-both.1 (taken r.end.len r.cells k f)
+      where
+        taken : (m : ℕ) (ys : List Extent) (k : ℕ) → ((k : ℕ) → P (get_or ys k (extent 0 0))) → P (get_or (take m ys) k (extent 0 0))
+        taken zero ys k f = p
+        taken (suc m) [] k f = p
+        taken (suc m) (y ∷ ys) zero f = f 0
+        taken (suc m) (y ∷ ys) (suc k) f = taken m ys k (λ j. f (suc j))
+
+    pub listed-first : (k : ℕ) → (get_or xs k (extent 0 0)).first < 131072
+    listed-first k = listed-each (λ e. e.first < 131072) (omega arith) s.first k
+
+    pub listed-count : (k : ℕ) → (get_or xs k (extent 0 0)).count ≤ n
+    listed-count k = listed-each (λ e. e.count ≤ n) (omega arith) s.count k
 
 -- ---- numbers stay small
 

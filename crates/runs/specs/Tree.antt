@@ -1,17 +1,17 @@
 -- A file's extents and its tree after a change, as the list and the numbers that code holds tell them.
 use Rattle.std.specs.Prelude.{ℕ, List}
-use Rattle.runs.specs.declared.ExtentList.{ExtentList}
-use Rattle.runs.specs.declared.Nodes.{Nodes}
+use Rattle.spec.specs.declared.Extent.{Extent}
+use Rattle.runs.specs.declared.nodes.Nodes.{Nodes}
 
 -- the bitmap, the extents, the nodes, how many nodes and how many data blocks the file held before
 pub record Tree : Type 0 where
   pub table : List ℕ
-  pub runs : ExtentList
+  pub extents : List Extent
   pub node : List ℕ
   pub nodes : ℕ
   pub before : ℕ
   pub held : ℕ
 
 -- of a bitmap, extents and nodes as code holds them
-abbrev pub tree_with : List ℕ → ExtentList → Nodes → ℕ → ℕ → Tree
-tree_with table runs nodes before held = record { table = table; runs = runs; node = nodes.node; nodes = nodes.len; before = before; held = held }
+abbrev pub tree_with : List ℕ → List Extent → Nodes → ℕ → ℕ → Tree
+tree_with table extents nodes before held = record { table = table; extents = extents; node = nodes.node; nodes = nodes.len; before = before; held = held }

@@ -1,30 +1,65 @@
 // A file's extents, and growing them at their end.
 #![tactic(auto)]
 
+ghost use Rattle.std.specs.Option.{option_copied};
 ghost use Rattle.std.specs.Prelude.{◌≡◌, ◌+◌, ◌^◌, ◌<◌, ◌≤◌, length, take, sum_by};
 ghost use Rattle.runs.specs.Runs.{listed};
-ghost use Rattle.runs.specs.Push.{Pushed, last_count, no_extents};
+ghost use Rattle.runs.specs.Push.{Pushed, last_count, list_with, no_extents};
 
 use spec::{DiskBlock, Extent, Limits};
+
+mod nodes;
+
+pub use nodes::Nodes;
 
 // Which data block of a file: one of fewer than 2^32, so that its bytes can be counted.
 #[derive(Clone, Copy)]
 pub struct DataBlock(pub u32);
 
-// A file's first 512 extents, the number of all of them, and the block after the last one. An array and a number: there is no heap, and the number
-// counts the extents that the array does not hold.
+// How many extents a list has, and the block after the last one. It counts the extents that the list's array does not hold.
 #[derive(Clone, Copy)]
-pub struct ExtentList {
-    pub cells: [Extent; Limits::MAX_EXTENTS],
+pub struct ListEnd {
     pub len: usize,
     pub next: usize,
 }
 
-// The extent blocks of a file: the first `len` of four. An array and a length: there is no heap.
+// A file's first 512 extents, and where all of them end. An array and numbers: there is no heap.
 #[derive(Clone, Copy)]
-pub struct Nodes {
-    pub node: [u32; 4],
-    pub len: usize,
+pub struct ExtentList {
+    pub cells: [Extent; Limits::MAX_EXTENTS],
+    pub end: ListEnd,
+}
+
+impl ListEnd {
+    // c blocks from b on, behind the extents of a list whose array is lent: joined to the last one where that ends at b. The end goes by value, so that a loop
+    // over many extents keeps it in registers.
+    pub fn push(self, cells: &mut [Extent; Limits::MAX_EXTENTS], b: DiskBlock, c: u32) -> ListEnd
+        requires { (last_count (list_with cells.old self) + c < 4294967296) × (self.len < 1000000) × (self.next < 1000000000000) }
+        ensures { Pushed (list_with cells.old self) b.0 c (list_with cells.new result) }
+    {
+        let len = self.len;
+        let joins = (0 < len) & (self.next == b.0 as usize);
+        let next = b.0 as usize + c as usize;
+        if joins {
+            if len <= Limits::MAX_EXTENTS {
+                let last = cells[len - 1];
+                cells[len - 1] = Extent {
+                    first: last.first,
+                    count: last.count + c,
+                };
+            }
+            return ListEnd { len, next };
+        }
+        let longer = ListEnd { len: len + 1, next };
+        if Limits::MAX_EXTENTS <= len {
+            return longer;
+        }
+        cells[len] = Extent {
+            first: b.0,
+            count: c,
+        };
+        longer
+    }
 }
 
 impl ExtentList {
@@ -34,54 +69,15 @@ impl ExtentList {
     {
         ExtentList {
             cells: [Extent { first: 0, count: 0 }; Limits::MAX_EXTENTS],
-            len: 0,
-            next: 0,
+            end: ListEnd { len: 0, next: 0 },
         }
     }
 
     // The extents, where the array holds all of them.
-    pub fn listed(&self) -> &[Extent]
-        requires { self.now.len ≤ 512 }
-        ensures { (result.now ≡ listed self.now) × (length result.now ≡ self.now.len) }
+    pub fn listed(&self) -> Option<&[Extent]>
+        ensures { option_copied result ≡ listed self.now }
     {
-        &self.cells[..self.len]
-    }
-
-    // c blocks from b on, behind the others: joined to the last extent where that ends at b.
-    pub fn push(&mut self, b: DiskBlock, c: u32)
-        requires { (last_count self.old + c < 4294967296) × (self.old.len < 1000000) × (self.old.next < 1000000000000) }
-        ensures { Pushed self.old b.0 c self.new }
-    {
-        let len = self.len;
-        let joins = (0 < len) & (self.next == b.0 as usize);
-        self.next = b.0 as usize + c as usize;
-        if joins {
-            if len <= Limits::MAX_EXTENTS {
-                let last = self.cells[len - 1];
-                self.cells[len - 1] = Extent {
-                    first: last.first,
-                    count: last.count + c,
-                };
-            }
-            return;
-        }
-        self.len = len + 1;
-        if len < Limits::MAX_EXTENTS {
-            self.cells[len] = Extent {
-                first: b.0,
-                count: c,
-            };
-        }
-    }
-}
-
-impl Nodes {
-    // The blocks of the nodes.
-    pub fn blocks(&self) -> &[u32]
-        requires { self.now.len ≤ 4 }
-        ensures { (result.now ≡ take self.now.len self.now.node) × (length result.now ≡ self.now.len) }
-    {
-        &self.node[..self.len]
+        self.cells.get(..self.end.len)
     }
 }
 

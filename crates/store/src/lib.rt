@@ -16,7 +16,7 @@ use mkfs::make_empty;
 pub use query::{free_count, nth_extent, read, record_at, size};
 pub use runlist::run_list;
 use spec::{Answered, BlockStored, DiskBlock, Limits, Phase, Refusal, Session};
-use transaction::{Volume, staged_count};
+use transaction::{Staged, Volume};
 pub use update::{create, remove, rename, set_size, write};
 
 // Makes an empty store. The work space is not lent: whatever it holds stays.
@@ -61,9 +61,8 @@ pub fn advance(device: &mut [u8], work: &[u8], session: Session) -> Answered<Opt
 {
     let blocks = session.blocks;
     let phase = session.phase;
-    let l = session.staged;
-    let n = staged_count(session);
-    let answer = advance_in(device, work, blocks, phase, &l[0..n]);
+    let staged = Staged::of(&session.staged, session.count);
+    let answer = advance_in(device, work, blocks, phase, staged);
     let next = after(phase, session, answer);
     Answered {
         session: next,

@@ -14,7 +14,6 @@ use borrow.Author.Tests.{eqb-true, eqb-false, eq-eqb, ne_eqb}
 use Rattle.spec.specs.Bytes.{exactly, found, place, distinct, all}
 use Rattle.spec.specs.Disk.{Disk, Slice, blocks_of, slice_of, is_target, with_block}
 use Rattle.spec.specs.declared.Phase.{Phase}
-use Rattle.spec.specs.declared.Phase.TheVariants.{Closed}
 use Rattle.spec.specs.declared.Session.{Session}
 use Rattle.spec.specs.Session.{opened, staged_in, with_staged}
 use Rattle.spec.specs.Transaction.{State, state_of, view, BlockStore, put, Staged, stage, staged_of, with_staging}
@@ -173,37 +172,15 @@ module _ (s : Session) (h : length s.staged ≡ 32) where
       go (yes k) = let q : n ≡ s.count = omega (arith, l) in rw q
       go (no k) = take_all s.count s.staged (omega arith) ∙ sym (take_all n s.staged (omega (arith, l)))
 
-  -- the numbers staged, lent
-  pub staged-lent : (n : ℕ) → n ≡ length (staged_in s) → take (n - 0) (drop 0 s.staged) ≡ staged_in s
-  staged-lent n e = let z : n - 0 ≡ n = omega arith in rw z (sym (staged-is n e))
-
 pub settled_is : (s : Session) (n : ℕ) → length s.staged ≡ 32 → n ≡ length (staged_in s)
     → record { blocks = s.blocks; phase = s.phase; staged = s.staged; count = n } ≡ with_staged s (staged_in s)
 unfolding with_staged
 settled_is s n h e = rw (← e, staged-is s h n e, take-append-drop n s.staged)
 
 -- the cells in use, of every session with these
-module _ (cells : List ℕ) (count : ℕ) where
-  pub staged-parts : (N : ℕ) (p : Phase) → staged_in (session_of N p cells count) ≡ take count cells
-  unfolding staged_in
-  staged-parts N p = refl
-
-  module _ (n : ℕ) (h : length cells ≡ 32) (e : n ≡ min count 32) where
-    -- how many they are
-    pub cells-many : n ≡ length (take count cells)
-    cells-many = simp length-take (omega (arith, e, h))
-
-    -- and lent
-    pub cells-lent : take (n - 0) (drop 0 cells) ≡ take count cells
-    cells-lent = staged-lent (session_of 0 Closed cells count) h n (cells-many ∙ sym (ap length (staged-parts 0 Closed))) ∙ staged-parts 0 Closed
-
-    pub lent-cells : (N : ℕ) (p : Phase) → staged_in (session_of N p cells count) ≡ take (n - 0) (drop 0 cells)
-    lent-cells N p = staged-parts N p ∙ sym cells-lent
-
-    -- their working copy, of any session
-    pub cells-view : (N : ℕ) (p : Phase) (device work : List ℕ) → view_in (take (n - 0) (drop 0 cells)) device work ≡ view (state_of (session_of N p cells count) device work)
-    unfolding view view_in
-    cells-view N p device work = ap (λ (l : List ℕ). view_in l device work) (cells-lent ∙ sym (staged-parts N p))
+pub staged-parts : (cells : List ℕ) (count N : ℕ) (p : Phase) → staged_in (session_of N p cells count) ≡ take count cells
+unfolding staged_in
+staged-parts cells count N p = refl
 
 pub at_lt : (l : List ℕ) (b i : ℕ) → found_at (place b l) ≡ Some i → i < length l
 at_lt l b i e = place-lt b i l (found-some (place b l) i e)
@@ -233,11 +210,6 @@ module _ (l device work : List ℕ) (b : ℕ) where
 pub view_of : (s : Session) (device work l : List ℕ) → staged_in s ≡ l → view_in l device work ≡ view (state_of s device work)
 unfolding view view_in
 view_of s device work l e = rw (← e)
-
--- the same where they are lent
-pub view-lent : (s : Session) (device work : List ℕ) (n : ℕ) → length s.staged ≡ 32 → n ≡ length (staged_in s)
-    → view_in (take (n - 0) (drop 0 s.staged)) device work ≡ view (state_of s device work)
-view-lent s device work n h e = view_of s device work _ (sym (staged-lent s h n e))
 
 module _ (l : List ℕ) (b : ℕ) where
   -- as the code finds it
@@ -274,6 +246,11 @@ module _ (l : List ℕ) (b : ℕ) where
       go none e = rw e
       go (some i) e = let z : length l ≤ i = rw e at h in absurd (omega (arith, place-lt b i l e))
 
+-- the place among the cells in use of a session
+pub spot-staged : (s : Session) (l : List ℕ) (b i : ℕ) → i ≡ spot l b → l ≡ take s.count s.staged → i ≡ spot (staged_in s) b
+unfolding staged_in
+spot-staged s l b i e q = e ∙ ap (λ (l : List ℕ). spot l b) q
+
 -- a block stored once more over itself
 with-self : (k : ℕ) (d : Disk) → with_block k (d k) d ≡ d
 with-self k d = fun_ext (λ c. go c (eqb c k) refl)
@@ -298,38 +275,22 @@ module _ (l device work : List ℕ) (b k : ℕ) (at : k ≡ spot l b) where
       let e : found_at (place b l) ≡ None = spot-absent l b (omega (arith, at)) in
       is ∙ ap (λ (x : List ℕ). stored_in (slice_of work) k x) (block_read device from (exactly 512 from) b ef refl ∙ sym (view-new l device work b e))
 
-module _ (s : Session) (b : ℕ) where
+module _ (s : Session) (b n i : ℕ) (h : length s.staged ≡ 32) (e : n ≡ length (staged_in s)) (q : i ≡ spot (staged_in s) b) where
   -- the session's cells after staging: all as they were, or one more in use
-  pub with_at : (n i : ℕ) → length s.staged ≡ 32 → n ≡ length (staged_in s) → found_at (place b (staged_in s)) ≡ Some i
-      → record { blocks = s.blocks; phase = s.phase; staged = s.staged; count = n } ≡ with_staged s (blocks_with (staged_in s) b)
+  pub with_at : i < n → record { blocks = s.blocks; phase = s.phase; staged = s.staged; count = n } ≡ with_staged s (blocks_with (staged_in s) b)
   unfolding with_staged blocks_with
-  with_at n i h e q =
-      rw (found-some (place b (staged_in s)) i q, ← e, staged-is s h n e, take-append-drop n s.staged)
+  with_at l =
+      let f = spot-found (staged_in s) b (omega (arith, q, e)) in
+      rw (found-some (place b (staged_in s)) (spot (staged_in s) b) f, ← e, staged-is s h n e, take-append-drop n s.staged)
 
-  pub with-new : (n : ℕ) → length s.staged ≡ 32 → n ≡ length (staged_in s) → n < 32 → found_at (place b (staged_in s)) ≡ None
+  pub with-new : n ≤ i → i < 32
       → record { blocks = s.blocks; phase = s.phase; staged = set s.staged n b; count = n + 1 } ≡ with_staged s (blocks_with (staged_in s) b)
   unfolding with_staged blocks_with
-  with-new n h e k q =
+  with-new m k =
+      let f = spot-absent (staged_in s) b (omega (arith, q, e)) in
       let l : length (staged_in s ++ (b ∷ [])) ≡ suc n = length-append (staged_in s) (b ∷ []) ∙ omega arith in
-      rw (found-none (place b (staged_in s)) q, l, add-one n, set_split s.staged n b (omega arith), staged-is s h n e)
+      rw (found-none (place b (staged_in s)) f, l, add-one n, set_split s.staged n b (omega arith), staged-is s h n e)
       (ap (λ (x : List ℕ). record { blocks = s.blocks; phase = s.phase; staged = x; count = suc n }) (sym (append_snoc (take n s.staged) b (drop (suc n) s.staged))))
-
--- the same, of every session with these cells
-module _ (cells : List ℕ) (count b n i : ℕ) (h : length cells ≡ 32) (e : n ≡ min count 32) (q : i ≡ spot (take count cells) b) where
-  many : (N : ℕ) (p : Phase) → n ≡ length (staged_in (session_of N p cells count))
-  many N p = cells-many cells count n h e ∙ sym (ap length (staged-parts cells count N p))
-
-  pub with-cells-at : i < n → (N : ℕ) (p : Phase) → session_of N p cells n ≡ with_staged (session_of N p cells count) (blocks_with (take count cells) b)
-  unfolding staged_in
-  with-cells-at l N p =
-      with_at (session_of N p cells count) b n (spot (take count cells) b) h (many N p)
-      (spot-found (take count cells) b (omega (arith, q, cells-many cells count n h e)))
-
-  pub with-cells-new : n ≤ i → i < 32 → (N : ℕ) (p : Phase) → session_of N p (set cells n b) (n + 1) ≡ with_staged (session_of N p cells count) (blocks_with (take count cells) b)
-  unfolding staged_in
-  with-cells-new l k N p =
-      with-new (session_of N p cells count) b n h (many N p) (omega arith)
-      (spot-absent (take count cells) b (omega (arith, q, cells-many cells count n h e)))
 
 -- all of it: the session and the work space that `stage` leaves
 pub stage_is : (s : Session) (device work : List ℕ) (b : ℕ) (x : List ℕ)
@@ -353,7 +314,7 @@ stage-leaves s q device work left b i x e f g =
 -- ---- what a call that only reads sees
 
 pub working-length : (c : WorkingCopy) (b : ℕ) → length (working c b) ≡ 512
-working-length c = view-in-length c.staged.now c.device.now c.work.now
+working-length c = view-in-length c.staged.list.now c.device.now c.work.now
 
 -- its blocks, and all of it
 module _ (v : Volume) (s : State) (e : Shows v s) where

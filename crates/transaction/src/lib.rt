@@ -17,17 +17,19 @@ use block::{block_in, store_block, store_copy};
 use spec::{DiskBlock, Limits, Phase, Session};
 
 mod lent_session;
+mod staged;
 mod staging;
 mod volume;
 mod working_copy;
 
 pub use lent_session::LentSession;
+pub use staged::Staged;
 pub use staging::Staging;
 pub use volume::Volume;
 pub use working_copy::WorkingCopy;
 
 // How many of the 32 cells are in use: a count past them is read as all.
-pub fn staged_in(count: usize) -> usize
+fn staged_in(count: usize) -> usize
     ensures { (result ≡ min count 32) × (result ≤ 32) }
 {
     count.min(Limits::LOG_LENGTH)
@@ -47,20 +49,28 @@ fn first_place(cells: &[u32], want: u32) -> Option<usize>
     cells.iter().position(|x| *x == want)
 }
 
-// Where block b stands among these.
-pub fn place_in(staged: &[u32], b: DiskBlock) -> Option<usize>
-    ensures { result ≡ found_at (place b.0 staged.now) }
-{
-    first_place(staged, b.0)
-}
+impl<'a> Staged<'a> {
+    // Those of a session, in its cells in use.
+    pub fn of(cells: &'a [u32; Limits::LOG_LENGTH], count: usize) -> Staged<'a>
+        ensures { result.list.now ≡ take count cells.now }
+    {
+        let list = &cells[..staged_in(count)];
+        Staged { list }
+    }
 
-// Where block b stands among the staged blocks of a session.
-pub fn staged_at(s: Session, b: DiskBlock) -> Option<usize>
-    ensures { result ≡ found_at (place b.0 (staged_in s)) }
-{
-    let l = s.staged;
-    let n = staged_count(s);
-    place_in(&l[0..n], b)
+    // Where block b stands among them.
+    pub fn place_of(self, b: DiskBlock) -> Option<usize>
+        ensures { result ≡ found_at (place b.0 self.entry.list.now) }
+    {
+        first_place(self.list, b.0)
+    }
+
+    // The place among the images that block b has or gets.
+    pub fn spot(self, b: DiskBlock) -> usize
+        ensures { result ≡ spot self.entry.list.now b.0 }
+    {
+        self.place_of(b).unwrap_or(self.list.len())
+    }
 }
 
 impl<'a> WorkingCopy<'a> {
@@ -71,7 +81,7 @@ impl<'a> WorkingCopy<'a> {
         WorkingCopy {
             device,
             work: &[],
-            staged: &[],
+            staged: Staged { list: &[] },
         }
     }
 
@@ -79,7 +89,7 @@ impl<'a> WorkingCopy<'a> {
     pub fn block(&self, b: DiskBlock) -> &'a [u8]
         ensures { (exactly 512 result.now ≡ working self.now b.0) × (length result.now ≤ 512) }
     {
-        match place_in(self.staged, b) {
+        match self.staged.place_of(b) {
             Some(i) => block_in(self.work, DiskBlock(i as u32)),
             None => block_in(self.device, b),
         }
@@ -112,15 +122,13 @@ impl<'a> Volume<'a> {
     ) -> Volume<'a>
         ensures { Shows result (state_of (session_of blocks phase cells.now count) device.now work.now) }
     {
-        let n = staged_in(count);
-        let staged = &cells[0..n];
         Volume {
             blocks,
             phase,
             copy: WorkingCopy {
                 device,
                 work,
-                staged,
+                staged: Staged::of(cells, count),
             },
         }
     }
@@ -152,11 +160,10 @@ impl<'a> LentSession<'a> {
     }
 
     // The numbers of the staged blocks.
-    pub fn staged(&self) -> &[u32]
-        ensures { (result.now ≡ numbers_lent self.now) × (length result.now ≤ 32) }
+    pub fn staged(&self) -> Staged<'_>
+        ensures { result.list.now ≡ numbers_lent self.now }
     {
-        let cells: &[u32] = self.cells;
-        &cells[..staged_in(self.count)]
+        Staged::of(self.cells, self.count)
     }
 
     // Its working copy.
@@ -188,8 +195,7 @@ impl<'a> LentSession<'a> {
     pub fn spot(&self, b: DiskBlock) -> usize
         ensures { result ≡ spot (numbers_lent self.now) b.0 }
     {
-        let staged = self.staged();
-        place_in(staged, b).unwrap_or(staged.len())
+        self.staged().spot(b)
     }
 
     // Block b among the staged ones, at its place i.
@@ -199,7 +205,7 @@ impl<'a> LentSession<'a> {
         ensures bytes { self.new.work.now ≡ self.old.work.now }
         ensures numbers { session_lent self.new ≡ with_staged (session_lent self.old) (blocks_with (numbers_lent self.old) b.0) }
     {
-        let n = staged_in(self.count);
+        let n = self.staged().list.len();
         if i < n {
             self.count = n;
             return;
@@ -214,7 +220,7 @@ impl<'a> LentSession<'a> {
         ensures bytes { self.new.work.now ≡ self.old.work.now }
         ensures numbers { session_lent self.new ≡ with_staged (session_lent self.old) (numbers_lent self.old) }
     {
-        self.count = staged_in(self.count);
+        self.count = self.staged().list.len();
     }
 }
 
@@ -227,7 +233,7 @@ impl Staging<'_, '_> {
         ensures bytes { slice_of self.new.lent.now.work.now ≡ stored_in (slice_of self.old.lent.now.work.now) k (view (state_lent self.old.lent.now) b.0) }
     {
         let lent = &mut *self.lent;
-        if k < staged_in(lent.count) {
+        if k < lent.staged().list.len() {
             return;
         }
         let from = block_in(lent.device, b);
@@ -237,14 +243,19 @@ impl Staging<'_, '_> {
 }
 
 // Block b staged with content x: appended, or its image overwritten; the rest of the work space is unchanged.
-pub fn stage(work: &mut [u8], s: Session, b: DiskBlock, x: &[u8; Limits::BLOCK_SIZE]) -> Session
-    requires { (length work.old ≡ 16384) × (spot (staged_in s) b.0 < 32) }
+pub fn stage(
+    work: &mut [u8; Limits::WORK_SIZE],
+    s: Session,
+    b: DiskBlock,
+    x: &[u8; Limits::BLOCK_SIZE],
+) -> Session
+    requires { spot (staged_in s) b.0 < 32 }
     ensures { (device : List ℕ) → state_of result device work.new
         ≡ with_staging (state_of s device work.old) (stage (staged_of (state_of s device work.old)) (put b.0 x.now)) }
 {
     let phase = s.phase;
     let mut cells = s.staged;
-    let i = staged_at(s, b).unwrap_or(staged_count(s));
+    let i = Staged::of(&cells, s.count).spot(b);
     store_block(work, DiskBlock(i as u32), x);
     let device: &[u8] = &[];
     let mut lent = LentSession::new(device, work, s.blocks, phase, &mut cells, s.count);

@@ -3,40 +3,50 @@
 
 use spec::{DiskBlock, Limits, Phase, Session};
 use std::io;
-use transaction::Volume;
+use transaction::{Staged, Volume};
 use trial::{number, stage};
 
-// Blocks 40 to 79 staged, as far as there is room.
-fn stage_many(work: &mut [u8], s: Session) -> Session {
-    let mut t = s;
-    for b in 40..80 {
-        t = stage(work, t, b, 5);
-    }
-    t
+// A device with the work space and session that are lent with it.
+#[derive(Drop)]
+struct Lent {
+    device: [u8; 32768],
+    work: [u8; Limits::WORK_SIZE],
+    session: Session,
 }
 
-// A block's place among the staged ones, and the first byte of its working copy.
-fn show<'a>(
-    rt: &impl Print,
-    device: &'a [u8],
-    work: &'a [u8],
-    s: Session,
-    b: u32,
-) -> io::Result<()> {
-    number(rt, b)?;
-    match transaction::staged_at(s, DiskBlock(b)) {
-        Some(i) => {
-            rt.write_all(b" at")?;
-            number(rt, i)?;
-        }
-        None => {
-            rt.write_all(b" not staged")?;
+impl Lent {
+    // Block b with 512 times a byte, where there is room.
+    fn stage(&mut self, b: u32, byte: u8) {
+        self.session = stage(&mut self.work, self.session, b, byte);
+    }
+
+    // Blocks 40 to 79, as far as there is room.
+    fn stage_many(&mut self) {
+        for b in 40..80 {
+            self.stage(b, 5);
         }
     }
-    rt.write_all(b" holds")?;
-    let v = Volume::of(device, work, &s).copy.block(DiskBlock(b));
-    number(rt, block::load(v, 0))?;
-    rt.write_all(b"\n")
+
+    // A block's place among the staged ones, and the first byte of its working copy.
+    fn show(&self, rt: &impl Print, b: u32) -> io::Result<()> {
+        let s = self.session;
+        number(rt, b)?;
+        match Staged::of(&s.staged, s.count).place_of(DiskBlock(b)) {
+            Some(i) => {
+                rt.write_all(b" at")?;
+                number(rt, i)?;
+            }
+            None => {
+                rt.write_all(b" not staged")?;
+            }
+        }
+        rt.write_all(b" holds")?;
+        let v = Volume::of(&self.device, &self.work, &s)
+            .copy
+            .block(DiskBlock(b));
+        number(rt, block::load(v, 0))?;
+        rt.write_all(b"\n")
+    }
 }
 
 fn count(rt: &impl Print, s: Session) -> io::Result<()> {
@@ -46,21 +56,23 @@ fn count(rt: &impl Print, s: Session) -> io::Result<()> {
 }
 
 fn main(rt: HostRuntime) -> io::Result<()> {
-    let device = [7u8; 32768];
-    let mut work = [9u8; Limits::WORK_SIZE];
-    let fresh = Session::opened(64, Phase::Ready);
-    count(&rt, fresh)?;
-    let one = stage(&mut work, fresh, 34, 1);
-    let two = stage(&mut work, one, 33, 2);
-    let again = stage(&mut work, two, 34, 3);
-    count(&rt, again)?;
-    show(&rt, &device, &work, again, 33)?;
-    show(&rt, &device, &work, again, 34)?;
-    show(&rt, &device, &work, again, 42)?;
-    show(&rt, &device, &work, again, 64)?;
-    let full = stage_many(&mut work, again);
-    count(&rt, full)?;
-    show(&rt, &device, &work, full, 69)?;
-    show(&rt, &device, &work, full, 70)?;
+    let mut lent = Lent {
+        device: [7; 32768],
+        work: [9; Limits::WORK_SIZE],
+        session: Session::opened(64, Phase::Ready),
+    };
+    count(&rt, lent.session)?;
+    lent.stage(34, 1);
+    lent.stage(33, 2);
+    lent.stage(34, 3);
+    count(&rt, lent.session)?;
+    lent.show(&rt, 33)?;
+    lent.show(&rt, 34)?;
+    lent.show(&rt, 42)?;
+    lent.show(&rt, 64)?;
+    lent.stage_many();
+    count(&rt, lent.session)?;
+    lent.show(&rt, 69)?;
+    lent.show(&rt, 70)?;
     count(&rt, Session::never_opened())
 }

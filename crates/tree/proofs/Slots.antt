@@ -7,13 +7,13 @@ use native.Mathlib.Omega.{arith}
 use borrow.Author.Tests.{ne_eqb}
 use lib.Dec.{eqb}
 use lib.ListN.{length, drop}
-use lib.Seq.{drop-drop, get_or-drop}
 use Rattle.spec.specs.declared.Extent.{Extent}
 use Rattle.spec.specs.Bytes.{exactly, number2, all}
 use Rattle.spec.specs.Inode.{extent, slots_in, used}
 use Rattle.spec.specs.Sound.{slots_packed}
 use Rattle.block.proofs.Laws.{number2-exactly}
 use Rattle.inode.specs.Walk.{slot_in}
+use Rattle.inode.proofs.Walk.{slots-first}
 use Rattle.tree.specs.Reached.{is_unused}
 use Rattle.tree.proofs.Runs.{and_right}
 
@@ -21,13 +21,6 @@ use Rattle.tree.proofs.Runs.{and_right}
 pub slot_read : (t : List ℕ) (at x y : ℕ) → at + 4 ≤ 512 → x ≡ number2 at t → y ≡ number2 (at + 2) t → extent x y ≡ slot_in at (exactly 512 t)
 slot_read t at x y h p q =
     ap₂ extent (p ∙ sym (number2-exactly 512 t at (omega arith))) (q ∙ sym (number2-exactly 512 t (at + 2) (omega arith)))
-
-slots-first : (m at : ℕ) (xs : List ℕ) → slots_in (suc m) (drop at xs) ≡ slot_in at xs ∷ slots_in m (drop (at + 4) xs)
-unfolding slots_in
-slots-first m at xs =
-    let z : at + 0 ≡ at = omega arith in
-    let y : at + (2 + 1) ≡ at + 2 + 1 = omega arith in
-    rw (get_or-drop at xs 0 0, get_or-drop at xs 1 0, get_or-drop at xs 2 0, get_or-drop at xs (2 + 1) 0, drop-drop 4 at xs, z, y)
 
 -- the first of the slots that are left
 pub slots_next : (X : List ℕ) (p left : ℕ) (e : Extent) → 0 < left → e ≡ slot_in p X → slots_in left (drop p X) ≡ e ∷ slots_in (left - 1) (drop (p + 4) X)

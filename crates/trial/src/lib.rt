@@ -1,10 +1,10 @@
 // What the programs that run functions on concrete values share.
 #![tactic(auto)]
 
-ghost use Rattle.std.specs.Prelude.{◌≡◌, ◌+◌, ◌≤◌, length};
+ghost use Rattle.std.specs.Prelude.{◌≡◌, ◌+◌, ◌≤◌, length, get_or};
 ghost use Rattle.spec.specs.Bytes.{patch, bytes2};
 
-use spec::{DiskBlock, Limits, Session};
+use spec::{BlockStored, DiskBlock, Extent, Limits, Refusal, Session};
 use std::fmt::Display;
 use std::io;
 
@@ -14,12 +14,49 @@ pub fn number<D: Display + Drop>(rt: &impl Print, n: D) -> io::Result<()> {
     rt.print(n)
 }
 
+// That a call is refused, and why.
+pub fn refused(rt: &impl Print, why: Refusal) -> io::Result<()> {
+    rt.write_all(b" refused")?;
+    number(rt, why.number())
+}
+
+// That a call is done.
+pub fn done(rt: &impl Print, answer: Result<(), Refusal>) -> io::Result<()> {
+    match answer {
+        Ok(()) => rt.write_all(b" done"),
+        Err(why) => refused(rt, why),
+    }
+}
+
+// What a call counts.
+pub fn counted(rt: &impl Print, answer: Result<usize, Refusal>) -> io::Result<()> {
+    match answer {
+        Ok(n) => number(rt, n),
+        Err(why) => refused(rt, why),
+    }
+}
+
+// The block stored.
+pub fn stored(rt: &impl Print, stored: Option<BlockStored>) -> io::Result<()> {
+    match stored {
+        Some(stored) => number(rt, stored.block.0),
+        None => rt.write_all(b" idle"),
+    }
+}
+
+// An extent as its first block and how many it has.
+pub fn extent(rt: &impl Print, e: Extent) -> io::Result<()> {
+    number(rt, e.first)?;
+    rt.write_all(b"+")?;
+    rt.print(e.count)
+}
+
 // Block b staged with 512 times a byte, where there is room.
 pub fn stage(work: &mut [u8], s: Session, b: u32, byte: u8) -> Session {
     let x = [byte; Limits::BLOCK_SIZE];
-    if work.len() != Limits::WORK_SIZE {
+    let Some(work) = work.as_mut_array() else {
         return s;
-    }
+    };
     if Limits::LOG_LENGTH <= transaction::staged_count(s) {
         return s;
     }
@@ -41,4 +78,23 @@ pub fn put_slot(device: &mut [u8], at: usize, first: u16, count: u16)
 {
     put(device, at, &first.to_le_bytes());
     put(device, at.saturating_add(2), &count.to_le_bytes());
+}
+
+// Three files on an empty store of 64 blocks, but for their names. Record 0: 700 bytes in blocks 42 and 43. Record 1: no byte. Record 2: 2,560 bytes in
+// blocks 46, 48, .. 54, which extent block 44 names. The promise tells the bits of blocks 40 to 55.
+pub fn put_files(device: &mut [u8])
+    ensures { (length device.new ≡ length device.old)
+        × (16903 ≤ length device.old → (get_or device.new 16901 0 ≡ 95) × (get_or device.new 16902 0 ≡ 85)) }
+{
+    put(device, 17416, &700u16.to_le_bytes());
+    put_slot(device, 17424, 42, 2);
+    put(device, 17480, &2560u16.to_le_bytes());
+    put(device, 17484, &[1]);
+    put_slot(device, 17488, 44, 5);
+    put_slot(device, 22528, 46, 1);
+    put_slot(device, 22532, 48, 1);
+    put_slot(device, 22536, 50, 1);
+    put_slot(device, 22540, 52, 1);
+    put_slot(device, 22544, 54, 1);
+    put(device, 16901, &[95, 85]);
 }

@@ -17,21 +17,14 @@ use Rattle.spec.specs.Calls.{Outcome, outcome, settle, left, lent_ok, name_ok, f
 use Rattle.checks.specs.Checks.{names_ok}
 use Rattle.std.specs.Prelude.{Ok, Err}
 use Rattle.std.specs.Prelude.{Result as Returned}
-use Rattle.std.specs.Result.{IsErrAnd}
 use Rattle.alloc.specs.declared.Draft.{Draft}
 use Rattle.lookup.specs.Looks.{new_ok, unless_taken, rename_ok}
 use Rattle.spec.specs.Disk.{Disk}
-use Rattle.runs.specs.declared.ExtentList.{ExtentList}
 use Rattle.alloc.specs.Draft.{resized_at, result_with, Drafted}
 
--- an error passed on
-pub err-is : (t : Returned (Unit {0}) Refusal) (P : Refusal → Type 0) (e : Refusal) → IsErrAnd t P → ((r : Refusal) → P r → r ≡ e) → t ≡ Err e
-err-is (Ok u) P e h k = elim h [ ]
-err-is (Err r) P e h k = let z : r ≡ e = k r h in cc
-
 -- a plan of the working copy that a session sees, for the blocks of a size
-pub drafted-for : (u v : Disk) (i n size : ℕ) (table : List ℕ) (extents : ExtentList) (c : Returned Draft Refusal) → u ≡ v → n ≡ blocks_for size → Drafted u i n table extents c → Drafted v i (blocks_for size) table extents c
-drafted-for u v i n size table extents c e q d = subst (λ (w : Disk). Drafted w i (blocks_for size) table extents c) e (subst (λ (m : ℕ). Drafted u i m table extents c) q d)
+pub drafted-for : (u v : Disk) (i n size : ℕ) (table : List ℕ) (c : Returned Draft Refusal) → u ≡ v → n ≡ blocks_for size → Drafted u i n table c → Drafted v i (blocks_for size) table c
+drafted-for u v i n size table c e q d = subst (λ (w : Disk). Drafted w i (blocks_for size) table c) e (subst (λ (m : ℕ). Drafted u i m table c) q d)
 
 then-bind : {A B C : Type 0} (a : Result A) (b : Result B) (f : B → Result C) → (a >> b) >>= f ≡ a >> (b >>= f)
 then-bind (refuse r) b f = refl

@@ -17,12 +17,11 @@ use Rattle.spec.specs.Plan as plan
 use Rattle.spec.specs.Plan.{Edit, edit, if_changed, stores_of, inode_edit, bitmap_edit, node_edits, level_edits, data_edits, lowest_level, surplus, resized, fits, creates, removes, renames, rewrites}
 use Rattle.lists.specs.Extents.{runs-blocks}
 use Rattle.runs.specs.Tree.{Tree}
-use Rattle.runs.specs.Runs.{listed, nodes_in, levels_in}
+use Rattle.runs.specs.Runs.{nodes_in, levels_in}
 use Rattle.spec.specs.Answers.{accept}
 use Rattle.std.specs.Prelude.{Ok, Err}
 use Rattle.std.specs.Prelude.{Result as Returned}
 use Rattle.spec.specs.declared.Refusal.{Refusal}
-use Rattle.runs.specs.declared.ExtentList.{ExtentList}
 use Rattle.alloc.specs.declared.Draft.{Draft}
 use Rattle.alloc.specs.Draft.{resized_at, table_of, Built, result_with, Drafted}
 use Rattle.change.specs.Change.{Change}
@@ -81,8 +80,8 @@ never-refused : (c : Returned Draft Refusal) (t u : plan.Tree) (r : Refusal) →
 never-refused (Ok d) t u r e q = cc
 never-refused (Err z) t u r e q = cc
 
-pub emptied-fits : (v : Disk) (i : ℕ) (table : List ℕ) (extents : ExtentList) (c : Returned Draft Refusal) (r : Refusal) → Drafted v i 0 table extents c → c ≡ Err r → ⊥
-emptied-fits v i table extents c r h e =
+pub emptied-fits : (v : Disk) (i : ℕ) (table : List ℕ) (c : Returned Draft Refusal) (r : Refusal) → Drafted v i 0 table c → c ≡ Err r → ⊥
+emptied-fits v i table c r h e =
     never-refused c _ _ r (sym (emptied-accepts (bits_of (v 33)) (data_of v (inode_at v i)) (levels_of v (inode_at v i))) ∙ h.verdict) e
 
 -- the levels of a tree as code holds it: none, or one
@@ -124,8 +123,8 @@ module _ (v : Disk) where
     unfolding record_stores with_record
     record-other h = rw h
 
-  module _ (i : ℕ) (c : Change) (x : ℕ) (bytes : List ℕ) (nodes : nodes_in c.tree ≡ []) (extents : listed c.tree.runs ≡ []) where
-    both-alone : stores_of v (if_changed v (edit 33 (λ old. c.tree.table)) ++ if_changed v (inode_edit i c.record)) ≡ change_stores v i c x bytes
+  module _ (i : ℕ) (c : Change) (nodes : nodes_in c.tree ≡ []) (extents : c.tree.extents ≡ []) where
+    both-alone : stores_of v (if_changed v (edit 33 (λ old. c.tree.table)) ++ if_changed v (inode_edit i c.record)) ≡ change_stores v i c
     unfolding change_stores blocks_in
     both-alone = rw (nodes, extents, append-nil (if_changed v (inode_edit i c.record)))
 
@@ -139,27 +138,27 @@ module _ (v : Disk) where
   rename-stores i name = refl
 
   -- a tree without blocks
-  module _ (i : ℕ) (c : Change) (x : ℕ) (bytes : List ℕ) (b : Built v i 0 c.tree) where
-    pub remove-stores : c.record ≡ replicate 32 0 → removes v i ≡ change_stores v i c x bytes
+  module _ (i : ℕ) (c : Change) (b : Built v i 0 c.tree) where
+    pub remove-stores : c.record ≡ replicate 32 0 → removes v i ≡ change_stores v i c
     unfolding removes zeros
     remove-stores r =
         stores-if 33 (λ old. bytes_of (mark 0 (data_of v (inode_at v i) ++ nodes_of v (inode_at v i)) (mark 1 [] (bits_of old)))) (λ old. c.tree.table)
         (if_changed v (inode_edit i (zeros 32))) (if_changed v (inode_edit i c.record)) (sym (b.table ∙ emptied v i))
         (ap (λ (z : List ℕ). stores_of v (if_changed v (inode_edit i z))) (sym r))
-        ∙ both-alone i c x bytes (no-levels c.tree (b.levels ∙ empty-levels v i)) (b.extents ∙ empty-extents v i)
+        ∙ both-alone i c (no-levels c.tree (b.levels ∙ empty-levels v i)) (b.extents ∙ empty-extents v i)
 
   -- ---- write and set size
 
-  module _ (i wanted : ℕ) (c : Change) (x : ℕ) (bytes : List ℕ) (b : Built v i wanted c.tree) where
+  module _ (i wanted : ℕ) (c : Change) (b : Built v i wanted c.tree) where
     node-edits : level_edits v (levels_of v (inode_at v i)) (resized_at v i wanted).levels (resized_at v i wanted).extents
-        ≡ node_edits v c.tree.before (nodes_in c.tree) (listed c.tree.runs)
+        ≡ node_edits v c.tree.before (nodes_in c.tree) c.tree.extents
     node-edits =
         ap₂ (λ (l : List (List ℕ)) (es : List Extent). level_edits v (levels_of v (inode_at v i)) l es) (sym b.levels) (sym b.extents)
-        ∙ one-level v (levels_of v (inode_at v i)) c.tree (listed c.tree.runs)
-        ∙ ap (λ (n : ℕ). node_edits v n (nodes_in c.tree) (listed c.tree.runs)) (sym b.before)
+        ∙ one-level v (levels_of v (inode_at v i)) c.tree c.tree.extents
+        ∙ ap (λ (n : ℕ). node_edits v n (nodes_in c.tree) c.tree.extents) (sym b.before)
 
-    pub rewrite-stores : (name : List ℕ) (size : ℕ) → c.record ≡ bytes_of_inode (inode_with name size (listed c.tree.runs) (levels_in c.tree))
-        → c.old ≡ (inode_at v i).size → c.size ≡ size → rewrites v i name size x bytes (resized_at v i wanted) ≡ change_stores v i c x bytes
+    pub rewrite-stores : (name : List ℕ) (size : ℕ) → c.record ≡ bytes_of_inode (inode_with name size c.tree.extents (levels_in c.tree))
+        → c.old ≡ (inode_at v i).size → c.size ≡ size → rewrites v i name size c.x c.bytes (resized_at v i wanted) ≡ change_stores v i c
     unfolding rewrites change_stores table_of
     rewrite-stores name size r o z =
         stores-if 33 (bitmap_edit ((resized_at v i wanted).new_data ++ (resized_at v i wanted).new_nodes) (resized_at v i wanted).dropped).change (λ old. c.tree.table) _ _
@@ -169,6 +168,6 @@ module _ (v : Disk) where
         (ap₂ (λ (es : List Extent) (l : List (List ℕ)). bytes_of_inode (inode_with name size es l)) (sym b.extents) (sym b.levels) ∙ sym r)
         (ap₂ (λ (xs ys : List Edit). xs ++ ys) node-edits data-edits)))
       where
-        data-edits : data_edits (length (data_of v (inode_at v i))) (inode_at v i).size size x bytes (resized_at v i wanted).blocks
-            ≡ data_edits c.tree.held c.old c.size x bytes (blocks_in (listed c.tree.runs))
+        data-edits : data_edits (length (data_of v (inode_at v i))) (inode_at v i).size size c.x c.bytes (resized_at v i wanted).blocks
+            ≡ data_edits c.tree.held c.old c.size c.x c.bytes (blocks_in c.tree.extents)
         data-edits = rw (b.held, o, z, b.extents, resized-blocks v i wanted)

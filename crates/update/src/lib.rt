@@ -11,7 +11,7 @@ ghost use Rattle.update.specs.Records.{Differs, new_record, record_stores};
 use alloc::draft_of;
 use block::copy_of;
 use change::{Plan, apply, stage_record};
-use content::{Rewrite, record_bytes};
+use content::{RecordPrefix, Rewrite, record_bytes};
 use inode::{InodeNumber, blocks_for, inode_block, name_of, size_of, table_block};
 use lookup::{look_up, look_up_new, look_up_pair, look_up_sized};
 use runs::ExtentList;
@@ -23,18 +23,18 @@ use transaction::{LentSession, Staging};
 // for any call, while these state theirs in the words of the specification.
 
 // The first bytes of record i changed to others than they were, and nothing else: 18.
-fn change_record(images: &mut Staging, i: InodeNumber, bytes: &[u8]) -> Result<(), Refusal>
-    requires { (length bytes.now ≤ 32) × Differs (view (state_lent images.old.lent.now)) i.n bytes.now }
+fn change_record(images: &mut Staging, i: InodeNumber, new: RecordPrefix) -> Result<(), Refusal>
+    requires { Differs (view (state_lent images.old.lent.now)) i.n new.bytes.now }
     ensures parts { Held images.old images.new }
     ensures state { outcome (state_lent images.new.lent.now) (done_of result)
         ≡ settle (outcome (state_lent images.old.lent.now)) (staging (state_lent images.old.lent.now)
-        (record_stores (view (state_lent images.old.lent.now)) i.n bytes.now)) }
+        (record_stores (view (state_lent images.old.lent.now)) i.n new.entry.bytes.now)) }
 {
     let k = images.lent.spot(table_block(i));
     if Limits::LOG_LENGTH <= k {
         return Err(Refusal::TooManyStaged);
     }
-    stage_record(images, i, k, bytes);
+    stage_record(images, i, k, new);
     Ok(())
 }
 
@@ -55,7 +55,7 @@ pub fn create_in(lent: &mut LentSession, name: &[u8]) -> Result<(), Refusal>
 {
     let i = look_up_new(&lent.volume(), name)?;
     let record = new_record(name);
-    change_record(&mut Staging { lent }, i, &record)
+    change_record(&mut Staging { lent }, i, RecordPrefix { bytes: &record })
 }
 
 // The same of a session by value.
@@ -84,7 +84,7 @@ pub fn rename_in(lent: &mut LentSession, name: &[u8], new: &[u8]) -> Result<(), 
     ensures state { outcome (state_lent lent.new) (done_of result) ≡ rename (state_lent lent.old) name.now new.now }
 {
     let i = look_up_pair(&lent.volume(), name, new)?;
-    change_record(&mut Staging { lent }, i, new)
+    change_record(&mut Staging { lent }, i, RecordPrefix { bytes: new })
 }
 
 // The same of a session by value.
@@ -132,14 +132,15 @@ pub fn remove_in(lent: &mut LentSession, name: &[u8]) -> Result<(), Refusal>
         bytes: &name[0..0],
     };
     let plan = Plan {
+        number: i,
         table: &table,
-        extents: &extents,
+        extents: d.extents,
         nodes: d.nodes,
         before: d.before,
         inode: [0u8; Limits::INODE_SIZE],
         data,
     };
-    apply(&mut Staging { lent }, i, &plan)
+    apply(&mut Staging { lent }, &plan)
 }
 
 // The same of a session by value.
@@ -182,7 +183,7 @@ fn resize(
     let d = draft_of(&mut table, &mut extents, &copy, i, wanted)?;
     let records = inode_block(&copy, i);
     let old = size_of(records, i.n) as usize;
-    let inode = record_bytes(name_of(records, i.n), size, &extents, d.nodes);
+    let inode = record_bytes(name_of(records, i.n), size, d.extents, d.nodes);
     let data = Rewrite {
         held: d.held,
         old,
@@ -191,14 +192,15 @@ fn resize(
         bytes,
     };
     let plan = Plan {
+        number: i,
         table: &table,
-        extents: &extents,
+        extents: d.extents,
         nodes: d.nodes,
         before: d.before,
         inode,
         data,
     };
-    apply(images, i, &plan)
+    apply(images, &plan)
 }
 
 // "the size becomes the larger of the old size and x plus the data length, a gap is zeros"

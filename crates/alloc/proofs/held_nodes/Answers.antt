@@ -19,7 +19,7 @@ overflow_add-cur c =
     omega (arith, (c.loop-len.invariant v refl).few, c.loop-len-test.true, top-start v c.args.i.n, ap (λ (d : Cursor). d.top) (c.start_at-cur.ensures v refl))
 
 pub returns-then-not-is_live : goal.returns-then-not-is_live
-returns-then-not-is_live c = λ v e. gather-last v _ _ _ _ _ _ (c.loop-len.invariant v e) _ e _ _ c.slot-e.ensures c.is_live.ensures (c.if-not-is_live.true)
+returns-then-not-is_live c = λ v e. gather-last v _ _ _ _ _ _ (c.loop-len.invariant v e) _ e _ _ c.slot-e.ensures c.is_live.ensures c.if-not-is_live.true _ refl refl
 
 pub offset_bounds-node-len : goal.offset_bounds-node-len
 offset_bounds-node-len c = record { fits = omega (arith, (c.loop-len.invariant (λ (b : ℕ). exactly 512 c.args.table.now.bytes.now) refl).few, c.loop-len-test.true) }
@@ -41,5 +41,10 @@ loop-len-preserved c = λ v e.
 pub returns : goal.returns
 returns c = λ v e.
     let g = c.loop-len.invariant v e in
-    let z : c.loop-len.len ≡ c.start_at-cur.result.tops = omega (arith, c.loop-len.auto.len-end, c.loop-len-test.false) in
-    rw (← z) (gather_end v _ _ _ _ _ _ g (omega arith))
+    gather_end v _ _ _ _ _ _ g (omega (arith, c.loop-len-test.false)) _ refl (omega (arith, c.loop-len.auto.len-end, c.loop-len-test.false))
+
+pub invariant_of-result : goal.invariant_of-result
+invariant_of-result c = record { few = omega (arith, (c.loop-len.invariant (λ (b : ℕ). exactly 512 c.args.table.now.bytes.now) refl).few) }
+
+pub invariant_of-result-2 : goal.invariant_of-result-2
+invariant_of-result-2 c = record { few = omega (arith, (c.loop-len.invariant (λ (b : ℕ). exactly 512 c.args.table.now.bytes.now) refl).few, c.loop-len.auto.len-end, c.loop-len-test.false) }

@@ -7,15 +7,15 @@ use Rattle.alloc.proofs.take_data.Goals as goal
 pub loop-k-init : goal.loop-k-init
 loop-k-init c = take-start _ _ _
 
-pub push-requires : goal.push-requires
-push-requires c =
+pub push-end-requires : goal.push-end-requires
+push-end-requires c =
     let l = c.loop-k in
     let s = l.invariant.small c.args.kept c.requires.0 in
     let w = l.invariant.within in
-    (omega (arith, s.count (l.extents.len - 1), w, c.requires), omega (arith, s.len, w, c.requires), omega (arith, s.next, w, c.requires))
+    (omega (arith, s.count (l.end.len - 1), w, c.requires), omega (arith, s.len, w, c.requires), omega (arith, s.next, w, c.requires))
 
 pub loop-k-preserved : goal.loop-k-preserved
-loop-k-preserved c = take_more _ _ _ _ _ _ _ c.loop-k.invariant c.loop-k-test.true _ _ _ c.pick-b.ensures c.push.ensures
+loop-k-preserved c = take_more _ _ _ _ _ _ _ c.loop-k.invariant c.loop-k-test.true _ _ _ c.pick-b.ensures c.push-end.ensures
 
 pub returns : goal.returns
 returns c =

@@ -8,8 +8,8 @@ use Rattle.bitmap.proofs.free_in.Goals as goal
 
 pub loop-w-preserved : goal.loop-w-preserved
 loop-w-preserved c =
-    let w = word-says _ c.requires _ _ (omega arith) c.word_in-x.ensures.0 c.word_in-x.ensures.1 in
+    let w = word-says _ c.told-t _ _ (omega arith) c.word_in-x.ensures.0 c.word_in-x.ensures.1 in
     omega (arith, w)
 
 pub returns : goal.returns
-returns c = let e = all_words c.args.t.now c.loop-w.w c.requires (omega arith) in (omega (arith, ap free_bits e), omega arith)
+returns c = let e = all_words c.args.t.now c.loop-w.w c.told-t (omega arith) in (omega (arith, ap free_bits e), omega arith)

@@ -10,17 +10,16 @@ use Rattle.bitmap.proofs.lowest_free_from.Goals as goal
 
 pub returns-then-x-ne0 : goal.returns-then-x-ne0
 returns-then-x-ne0 c =
-    let w = word-says _ c.known.ensures.full _ _ (omega arith) c.word_in-x.ensures.0 c.word_in-x.ensures.1 in
-    (sym (ap found_of (w.found c.loop-at.invariant c.if-x-ne0.true)), c.known.ensures)
+    let w = word-says _ c.told-t _ _ (omega arith) c.word_in-x.ensures.0 c.word_in-x.ensures.1 in
+    (sym (ap found_of (w.found c.loop-at.invariant c.if-x-ne0.true)), record { full = c.told-t; bytes = c.fits-t })
 
 pub loop-at-preserved : goal.loop-at-preserved
 loop-at-preserved c =
-    let w = word-says _ c.known.ensures.full _ _ (omega arith) c.word_in-x.ensures.0 c.word_in-x.ensures.1 in
+    let w = word-says _ c.told-t _ _ (omega arith) c.word_in-x.ensures.0 c.word_in-x.ensures.1 in
     full-word _ _ _ w c.if-x-ne0.false ∙ c.loop-at.invariant
 
 pub returns : goal.returns
 returns c =
     let t = c.args.t.now in
-    let table = c.known.ensures in
-    let e = all_words t c.loop-at.at table.full (omega arith) in
-    (sym (ap found_of (none-placed (bits_of t) (sym (ap free_bits e) ∙ c.loop-at.invariant))), table)
+    let e = all_words t c.loop-at.at c.told-t (omega arith) in
+    (sym (ap found_of (none-placed (bits_of t) (sym (ap free_bits e) ∙ c.loop-at.invariant))), record { full = c.told-t; bytes = c.fits-t })

@@ -4,5 +4,5 @@ use Rattle.change.proofs.Images.{ready-loaded}
 use Rattle.change.proofs.ready_image.Goals as goal
 
 pub returns-clause-bytes : goal.returns-clause-bytes
-returns-clause-bytes c = λ i d x bytes e.
+returns-clause-bytes c = λ i d e.
     ready-loaded _ _ _ _ _ _ refl (omega (arith, c.requires.1, c.load.new.self.whole)) c.load.ensures.bytes

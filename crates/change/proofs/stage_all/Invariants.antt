@@ -7,16 +7,15 @@ use Rattle.change.specs.declared.plan.Plan.{Plan}
 use Rattle.change.specs.Contents.{change_of, content_by}
 use Rattle.change.proofs.Staging.{Going}
 use Rattle.change.proofs.stage_all.Given as goal
-use Prim.Native.Nat.{ℕ}
 use mathlib.Core.List.{List}
 
 -- the state in which all of it is staged
-abbrev pub all_staged : ℕ → Plan → State → List Planned → State
-all_staged i p s es = with_staging s (stage_each (staged_of s) (stores_by (content_by (view s) i p) es))
+abbrev pub all_staged : Plan → State → List Planned → State
+all_staged p s es = with_staging s (stage_each (staged_of s) (stores_by (content_by (view s) p) es))
 
 abbrev pub invariant-loop-e : goal.invariant-loop-e
 invariant-loop-e l = record {
   parts : Held l.initial.images l.images;
-  going : Going l.i.n (change_of l.plan) l.plan.data.x.0 l.plan.data.bytes.now (all_staged l.i.n l.plan (state_lent l.initial.images.lent.now) l.e-items)
+  going : Going l.plan.number.n (change_of l.plan) (all_staged l.plan (state_lent l.initial.images.lent.now) l.e-items)
       (state_lent l.images.lent.now) (drop l.e-index l.e-items);
 }

@@ -22,6 +22,6 @@ returns-clause-state c =
     let a = c.add.new.self in
     ap (λ (d : List ℕ). state_of (session_lent a) d a.work.now) (c.add.ensures.parts.device ∙ c.ready_image.ensures.parts.parts.device)
     ∙ image-staged (session_lent l) (session_lent a) l.device.now l.work.now r.lent.now.work.now b _
-    (content_of c.args.i.n (change_of p) p.data.x.0 p.data.bytes.now c.args.planned.content) _ c.spot-k.ensures (omega (arith, r.whole, c.spot-k.ensures, c.requires))
-    (c.ready_image.ensures.bytes c.args.i.n (change_of p) p.data.x.0 p.data.bytes.now refl) c.edit_image.ensures (search rules) _ c.add.ensures.bytes
+    (content_of c.args.plan.now.number.n (change_of p) c.args.planned.content) _ c.spot-k.ensures (omega (arith, r.whole, c.spot-k.ensures, c.requires))
+    (c.ready_image.ensures.bytes c.args.plan.now.number.n (change_of p) refl) c.edit_image.ensures (search rules) _ c.add.ensures.bytes
     (c.add.ensures.numbers ∙ ap (λ (s : Session). with_staged s (blocks_with (staged_in s) b)) c.ready_image.ensures.numbers)

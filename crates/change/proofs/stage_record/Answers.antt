@@ -20,9 +20,9 @@ returns-clause-state c =
     let r = c.load.new.self in
     let a = c.add.new.self in
     let st = state_lent l in
-    let k : c.args.k ≡ spot (numbers_lent l) b = c.requires.1 ∙ ap (spot (numbers_lent l)) (sym c.table_block-b.ensures) in
+    let k : c.args.k ≡ spot (numbers_lent l) b = c.requires.0 ∙ ap (spot (numbers_lent l)) (sym c.table_block-b.ensures) in
     ap (λ (d : List ℕ). state_of (session_lent a) d a.work.now) (c.add.ensures.parts.device ∙ c.load.ensures.parts.parts.device)
-    ∙ image-staged (session_lent l) (session_lent a) l.device.now l.work.now r.lent.now.work.now b _ (with_record c.args.i.n c.args.new.now) _ k (omega (arith, r.whole, c.requires.2))
-    (ready-loaded _ _ _ _ _ _ refl (omega (arith, r.whole, c.requires.2)) c.load.ensures.bytes) c.lay_record.ensures (search rules) _ c.add.ensures.bytes
+    ∙ image-staged (session_lent l) (session_lent a) l.device.now l.work.now r.lent.now.work.now b _ (with_record c.args.i.n c.args.new.bytes.now) _ k (omega (arith, r.whole, c.requires.1))
+    (ready-loaded _ _ _ _ _ _ refl (omega (arith, r.whole, c.requires.1)) c.load.ensures.bytes) c.lay_in_image.ensures (search rules) _ c.add.ensures.bytes
     (c.add.ensures.numbers ∙ ap (λ (s : Session). with_staged s (blocks_with (staged_in s) b)) c.load.ensures.numbers)
-    ∙ ap (λ (b : ℕ). with_staging st (stage (staged_of st) (put b (with_record c.args.i.n c.args.new.now (view st b))))) c.table_block-b.ensures
+    ∙ ap (λ (b : ℕ). with_staging st (stage (staged_of st) (put b (with_record c.args.i.n c.args.new.bytes.now (view st b))))) c.table_block-b.ensures

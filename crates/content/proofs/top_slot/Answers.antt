@@ -10,13 +10,13 @@ pub returns-then-nodes-eq0 : goal.returns-then-nodes-eq0
 returns-then-nodes-eq0 c = top-flat (tree_of c.args.extents.now c.args.nodes) c.args.k c.if-nodes-eq0.true _ c.extent_at.ensures
 
 pub block_count-requires : goal.block_count-requires
-block_count-requires c = omega (arith, below-few c.args.extents.now c.args.k c.extents_of.result.now c.extents_of.ensures, c.requires.1.blocks)
+block_count-requires c = omega (arith, below-few c.args.extents.now c.args.k c.extents_of.result.now c.extents_of.ensures, c.requires)
 
 pub returns-then-k-nodes : goal.returns-then-k-nodes
 returns-then-k-nodes c =
     let a = c.args in
     let l : length a.nodes.node ≡ 4 = search rules in
-    top-node (tree_of a.extents.now a.nodes) a.k c.if-nodes-eq0.false c.if-k-nodes.true (omega (arith, c.requires.1.nodes)) _
+    top-node (tree_of a.extents.now a.nodes) a.k c.if-nodes-eq0.false c.if-k-nodes.true (omega (arith, a.nodes.few)) _
     (below-is a.extents.now a.k c.extents_of.result.now c.extents_of.ensures _ c.block_count.ensures)
 
 pub returns : goal.returns

@@ -1,7 +1,7 @@
 use Rattle.std.proofs.Common.{◌≡◌, ◌+◌, sym, ap, ◌∙◌, Err, rules, arith}
 use Rattle.std.specs.Iterator.Adapters.{enumerate_source, enumerate_count}
 use Rattle.cardfile.specs.Lines.{letter_of}
-use Rattle.converter.proofs.Passes.{tested-none, tested-fault, tested-card, tested-end, tested-same, tested-more, seen, numbered, bytes_fit, digits-fit, apart}
+use Rattle.converter.proofs.Passes.{tested-none, tested-here, tested-fault, tested-card, tested-end, tested-same, tested-more, seen, bytes_fit, digits-fit, apart}
 use Rattle.converter.proofs.test_lines.Goals as goal
 
 pub loop-k-init : goal.loop-k-init
@@ -14,53 +14,41 @@ loop-k-init c =
 
 pub returns-in_err-card : goal.returns-in_err-card
 returns-in_err-card c =
-    let i = c.loop-k.invariant in
-    let l = enumerate_source c.loop-k.k-iterator in
     let p = c.in-Some.ensures.steps in
     let e : c.from_residual.result ≡ Err c.in_err-card.field-0.0 = search rules in
-    rw e (tested-fault _ _ _ _ _ _ (numbered _ _ _ _ _ _ i.1 _ p.1) _ (seen _ l _ _ i.0 p.0) _ c.in_err-card.ensures)
+    rw e (tested-fault p.0 p.1 c.loop-k.invariant _ c.in_err-card.ensures)
 
 pub returns-then-eq : goal.returns-then-eq
 returns-then-eq c =
     let i = c.loop-k.invariant in
-    let l = enumerate_source c.loop-k.k-iterator in
     let p = c.in-Some.ensures.steps in
-    let t = numbered _ _ _ _ _ _ i.1 _ p.1 in
-    let s = tested-card _ _ _ _ _ _ t _ (seen _ l _ _ i.0 p.0) _ p.0.behind _ c.in_ok-card.ensures in
     let e : c.in_ok-card.card.spelling ≡ c.args.wanted = search rules in
-    tested-same _ _ _ _ _ _ t _ _ s (ap letter_of (sym e))
+    tested-same _ _ _ _ _ _ (tested-here p.0 p.1 i) _ _ (tested-card p.0 p.1 i _ c.in_ok-card.ensures) (ap letter_of (sym e))
 
 pub spelt_size-requires : goal.spelt_size-requires
 spelt_size-requires c =
-    let i = c.loop-k.invariant in
-    let l = enumerate_source c.loop-k.k-iterator in
     let p = c.in-Some.ensures.steps in
-    bytes_fit _ _ _ _ _ (tested-card _ _ _ _ _ _ (numbered _ _ _ _ _ _ i.1 _ p.1) _ (seen _ l _ _ i.0 p.0) _ p.0.behind _ c.in_ok-card.ensures)
+    bytes_fit _ _ _ _ _ (tested-card p.0 p.1 c.loop-k.invariant _ c.in_ok-card.ensures)
 
 pub overflow_add-size : goal.overflow_add-size
 overflow_add-size c =
-    let i = c.loop-k.invariant in
-    let l = enumerate_source c.loop-k.k-iterator in
     let p = c.in-Some.ensures.steps in
-    omega (arith, digits-fit _ _ _ _ _ (tested-card _ _ _ _ _ _ (numbered _ _ _ _ _ _ i.1 _ p.1) _ (seen _ l _ _ i.0 p.0) _ p.0.behind _ c.in_ok-card.ensures))
+    omega (arith, digits-fit _ _ _ _ _ (tested-card p.0 p.1 c.loop-k.invariant _ c.in_ok-card.ensures))
 
 pub overflow_add-size-in-loop-k : goal.overflow_add-size-in-loop-k
 overflow_add-size-in-loop-k c =
-    let i = c.loop-k.invariant in
-    let l = enumerate_source c.loop-k.k-iterator in
     let p = c.in-Some.ensures.steps in
-    omega (arith, digits-fit _ _ _ _ _ (tested-card _ _ _ _ _ _ (numbered _ _ _ _ _ _ i.1 _ p.1) _ (seen _ l _ _ i.0 p.0) _ p.0.behind _ c.in_ok-card.ensures))
+    omega (arith, digits-fit _ _ _ _ _ (tested-card p.0 p.1 c.loop-k.invariant _ c.in_ok-card.ensures))
 
 pub loop-k-preserved : goal.loop-k-preserved
 loop-k-preserved c =
     let i = c.loop-k.invariant in
-    let l = enumerate_source c.loop-k.k-iterator in
     let p = c.in-Some.ensures.steps in
-    let t = numbered _ _ _ _ _ _ i.1 _ p.1 in
-    let s = tested-card _ _ _ _ _ _ t _ (seen _ l _ _ i.0 p.0) _ p.0.behind _ c.in_ok-card.ensures in
     let o : c.in_ok-card.card.spelling ≡ c.args.wanted → ⊥ = search rules in
-    let n : enumerate_count c.next.new.self ≡ c.in-Some.k + 1 = omega arith in
-    (p.0.text ∙ i.0, rw n (tested-more _ _ _ _ _ _ t _ _ s (apart _ _ o) _ c.spelt_size.ensures.0 _ c.count_more-room.ensures.more c.count_more-room.ensures.fits))
+    let n : enumerate_count c.next.new.self ≡ c.in-Some.k + 1 = omega arith in (
+      p.0.text ∙ i.0,
+      rw n (tested-more _ _ _ _ _ _ (tested-here p.0 p.1 i) _ _ (tested-card p.0 p.1 i _ c.in_ok-card.ensures) (apart _ _ o) _ c.spelt_size.ensures.0 _ c.count_more-room.ensures.more c.count_more-room.ensures.fits),
+    )
 
 pub returns : goal.returns
 returns c =

@@ -1,17 +1,8 @@
-use mathlib.Core.Path.{refl}
-use native.Mathlib.Omega.{arith}
-use Rattle.inode.proofs.Walk.{live-left, live_inside}
 use Rattle.extents.proofs.Laws.{node-next, node-none}
 use Rattle.extents.proofs.take_node.Goals as goal
 
-pub returns-then-not-is_live : goal.returns-then-not-is_live
-returns-then-not-is_live c = λ v tb x n. node-none v tb c.args.scan _ x _ _ c.slot-t.ensures c.is_live.ensures n (c.if-not-is_live.true)
-
-pub overflow_add-then : goal.overflow_add-then
-overflow_add-then c = omega (arith, live_inside _ _ _ _ _ c.slot-t.ensures c.is_live.ensures (c.if-not-is_live.false))
-
-pub overflow_sub-then : goal.overflow_sub-then
-overflow_sub-then c = live-left _ _ _ c.is_live.ensures (c.if-not-is_live.false)
+pub returns-in_err-b : goal.returns-in_err-b
+returns-in_err-b c = λ v tb x n. rw c.from_residual.ensures (node-none v tb c.args.scan (c.in_err-b.ensures v tb x n))
 
 pub returns : goal.returns
-returns c = λ v tb x n. (node-next v tb c.args.scan _ x _ _ c.slot-t.ensures c.is_live.ensures n (c.if-not-is_live.false), refl)
+returns c = λ v tb x n. let e = c.in_ok-b.ensures v tb x n in (node-next v tb c.args.scan _ _ e.0, e.1)

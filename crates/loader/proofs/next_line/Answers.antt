@@ -1,5 +1,8 @@
+use Rattle.std.proofs.Common.{◌∙◌, ap, List, ℕ}
 use Rattle.spec.specs.Transaction.{state_of}
-use Rattle.loader.proofs.Laws.{may-begin, next-stops, next-goes}
+use Rattle.cardfile.specs.Lines.{line_number, standing}
+use Rattle.loader.specs.Load.{take_line}
+use Rattle.loader.proofs.Laws.{begin-lent, may-begin, next-stops, next-goes}
 use Rattle.loader.proofs.next_line.Goals as goal
 
 pub invariant_of-idle : goal.invariant_of-idle
@@ -15,4 +18,8 @@ returns-in-Err c =
 pub returns : goal.returns
 returns c =
     let a = c.args in
-    next-goes (state_of a.session a.device.now a.work.now) a.text.now a.at _ c.in_default.ensures c.take_line.ensures
+    next-goes (state_of a.session a.device.now a.work.now) a.text.now a.at _ c.in_default.ensures
+    (c.take_line.ensures ∙ ap (λ (w : List ℕ). take_line (state_of a.session a.device.now w) a.at (line_number a.text.now a.at) (standing a.text.now a.at)) c.in-Some.ensures.cases.same)
+
+pub unreachable-requires : goal.unreachable-requires
+unreachable-requires c = c.in_default-as_mut_array.ensures.cases (begin-lent c.args.session _ _ c.in_default.ensures)

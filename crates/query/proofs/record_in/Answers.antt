@@ -1,6 +1,7 @@
 use Rattle.std.proofs.lemmas.Result.{err_from_is_err_and}
 use Rattle.spec.specs.Calls.{record_at}
 use native.Mathlib.Omega.{arith}
+use Rattle.block.proofs.Laws.{exactly-first}
 use Rattle.query.proofs.Laws.{block_of, record-past, record-fine, copy-told}
 use Rattle.query.proofs.record_in.Goals as goal
 
@@ -15,15 +16,15 @@ returns-then-i-ge-INODE_COUNT c =
     let a = c.args in
     λ s q. record-past s a.i (c.in_ok-ready.ensures s q) (omega arith)
 
-pub returns-then-table-eq-BLOCK_SIZE : goal.returns-then-table-eq-BLOCK_SIZE
-returns-then-table-eq-BLOCK_SIZE c =
+pub returns-in-Some : goal.returns-in-Some
+returns-in-Some c =
     let a = c.args in
     let t = c.inode_block-table in
-    λ s q. rw c.record_of.ensures
+    λ s q. rw (c.record_of.ensures, exactly-first 512 t.result.now _ c.in-Some.ensures.cases.enough c.in-Some.ensures.cases.same, copy-told t.result.now a.i)
     (record-fine s a.i t.result.now (c.in_ok-ready.ensures s q) (omega arith) (block_of a.volume.now s t.result.now _ q t.ensures.0))
 
-pub returns : goal.returns
-returns c =
+pub returns-in-None : goal.returns-in-None
+returns-in-None c =
     let a = c.args in
     let t = c.inode_block-table in
     λ s q. rw (c.record_of_copy.ensures, copy-told t.result.now a.i)

@@ -1,40 +1,31 @@
-use mathlib.Core.Path.{◌≡◌, sym, ap, ap₂, ◌∙◌}
+use mathlib.Core.Path.{sym, ap, ◌∙◌}
 use native.Mathlib.Omega.{arith}
 use borrow.Author.Rules.{rules}
-use Rattle.std.specs.Option.{unwrap_or}
 use Rattle.spec.specs.declared.Session.{Session}
 use Rattle.spec.specs.Disk.{slice_of}
 use Rattle.spec.specs.Session.{staged_in, with_staged}
 use Rattle.transaction.specs.Places.{spot, blocks_with}
-use Rattle.transaction.proofs.Laws.{spot-is, stage-leaves, lent-is, lent-back}
+use Rattle.transaction.proofs.Laws.{spot-staged, stage-leaves, lent-is, lent-back}
 use Rattle.transaction.proofs.stage.Goals as goal
 
 -- `at` is the place that the block has or gets, among all that are staged.
 
 pub overflow_cast-i : goal.overflow_cast-i
-overflow_cast-i c =
-    let l = staged_in c.args.s in
-    let at : c.unwrap_or-i.result ≡ spot l c.args.b.0 = c.unwrap_or-i.ensures ∙ ap₂ (λ o n. unwrap_or o n) c.staged_at.ensures c.staged_count.ensures.0 ∙ spot-is l c.args.b.0 in
-    record { fits = omega (arith, at, c.requires.1) }
+overflow_cast-i c = record { fits = omega (arith, spot-staged c.args.s _ c.args.b.0 _ c.spot-i.ensures c.of.ensures, c.requires) }
 
 pub store_block-requires : goal.store_block-requires
-store_block-requires c =
-    let l = staged_in c.args.s in
-    let at : c.unwrap_or-i.result ≡ spot l c.args.b.0 = c.unwrap_or-i.ensures ∙ ap₂ (λ o n. unwrap_or o n) c.staged_at.ensures c.staged_count.ensures.0 ∙ spot-is l c.args.b.0 in
-    omega (arith, at, c.requires.0, c.requires.1)
+store_block-requires c = omega (arith, spot-staged c.args.s _ c.args.b.0 _ c.spot-i.ensures c.of.ensures, c.requires)
 
 pub add-requires : goal.add-requires
 add-requires c =
-    let l = staged_in c.args.s in
-    let at : c.unwrap_or-i.result ≡ spot l c.args.b.0 = c.unwrap_or-i.ensures ∙ ap₂ (λ o n. unwrap_or o n) c.staged_at.ensures c.staged_count.ensures.0 ∙ spot-is l c.args.b.0 in
+    let at = spot-staged c.args.s _ c.args.b.0 _ c.spot-i.ensures c.of.ensures in
     let p = c.new-lent.ensures.parts in
     let is = lent-is c.new-lent.result c.args.s p.2 p.3 p.4 p.5 in
-    (at ∙ ap (λ (s : Session). spot (staged_in s) c.args.b.0) (sym is), omega (arith, at, c.requires.1))
+    (at ∙ ap (λ (s : Session). spot (staged_in s) c.args.b.0) (sym is), omega (arith, at, c.requires))
 
 pub returns : goal.returns
 returns c = λ device.
-    let l = staged_in c.args.s in
-    let at : c.unwrap_or-i.result ≡ spot l c.args.b.0 = c.unwrap_or-i.ensures ∙ ap₂ (λ o n. unwrap_or o n) c.staged_at.ensures c.staged_count.ensures.0 ∙ spot-is l c.args.b.0 in
+    let at = spot-staged c.args.s _ c.args.b.0 _ c.spot-i.ensures c.of.ensures in
     let p = c.new-lent.ensures.parts in
     let is = lent-is c.new-lent.result c.args.s p.2 p.3 p.4 p.5 in
     stage-leaves c.args.s _ device _ _ _ _ _ at (ap slice_of ((search rules) ∙ c.add.ensures.bytes ∙ p.1) ∙ c.store_block.ensures)

@@ -6,4 +6,4 @@ use Rattle.trial.proofs.stage.Goals as goal
 pub stage-requires : goal.stage-requires
 stage-requires c =
     let s = c.args.s in
-    (omega arith, omega (arith, spot-le (staged_in s) c.args.b, c.staged_count.ensures.0))
+    omega (arith, spot-le (staged_in s) c.args.b, c.staged_count.ensures.0)

@@ -16,7 +16,7 @@ pub returns-then-k-ge-LOG_LENGTH-clause-state : goal.returns-then-k-ge-LOG_LENGT
 returns-then-k-ge-LOG_LENGTH-clause-state c =
     let l = c.args.images.now.lent.now in
     let at : c.spot-k.result ≡ spot (numbers_lent l) (block_of_inode c.args.i.n) = c.spot-k.ensures ∙ ap (spot (numbers_lent l)) c.table_block.ensures in
-    record-full (session_lent l) l.device.now l.work.now c.args.i.n c.args.bytes.now (few-lent l) c.requires.1 (omega (arith, at, c.if-k-ge-LOG_LENGTH.true))
+    record-full (session_lent l) l.device.now l.work.now c.args.i.n c.args.new.bytes.now (few-lent l) c.requires (omega (arith, at, c.if-k-ge-LOG_LENGTH.true))
 
 pub returns-clause-state : goal.returns-clause-state
 returns-clause-state c =
@@ -25,5 +25,5 @@ returns-clause-state c =
     let at : c.spot-k.result ≡ spot (numbers_lent l) (block_of_inode c.args.i.n) = c.spot-k.ensures ∙ ap (spot (numbers_lent l)) c.table_block.ensures in
     let d = c.stage_record.ensures.parts.parts.device in
     ap (λ (d : List ℕ). left (session_lent q) d q.work.now done) d
-    ∙ record-staged (session_lent l) l.device.now l.work.now c.args.i.n c.args.bytes.now (few-lent l) c.requires.1 (omega (arith, at, c.if-k-ge-LOG_LENGTH.false)) (session_lent q) q.work.now
+    ∙ record-staged (session_lent l) l.device.now l.work.now c.args.i.n c.args.new.bytes.now (few-lent l) c.requires (omega (arith, at, c.if-k-ge-LOG_LENGTH.false)) (session_lent q) q.work.now
     (ap (λ (d : List ℕ). state_of (session_lent q) d q.work.now) (sym d) ∙ c.stage_record.ensures.state)

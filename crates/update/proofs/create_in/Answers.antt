@@ -1,4 +1,4 @@
-use mathlib.Core.Path.{◌≡◌, ap, ◌∙◌}
+use mathlib.Core.Path.{◌≡◌, ◌∙◌}
 use borrow.Author.Rules.{rules}
 use Rattle.spec.specs.Answers.{done_of}
 use Rattle.spec.specs.Transaction.{view}
@@ -7,14 +7,14 @@ use Rattle.transaction.specs.LentSessions.{session_lent, state_lent}
 use Rattle.lookup.proofs.Laws.{new-says, new-free}
 use Rattle.update.proofs.Records.{new-record, new-length, new-name, named-anew}
 use Rattle.update.proofs.Stores.{create-stores}
-use Rattle.update.proofs.Laws.{err-is, create-bad, create-fine}
+use Rattle.change.proofs.Steps.{passed-on}
+use Rattle.update.proofs.Laws.{create-bad, create-fine}
 use Rattle.update.proofs.create_in.Goals as goal
 
 pub returns-in_err-i-clause-state : goal.returns-in_err-i-clause-state
 returns-in_err-i-clause-state c =
     let l = c.args.lent.now in
-    ap (λ r. outcome (state_lent l) (done_of r)) (err-is c.from_residual.result _ _ c.from_residual.ensures.1 (λ r z. z))
-    ∙ create-bad (session_lent l) l.device.now l.work.now c.args.name.now _ (c.in_err-i.ensures _ c.volume.ensures)
+    passed-on _ _ _ _ c.from_residual.ensures.1 (create-bad (session_lent l) l.device.now l.work.now c.args.name.now _ (c.in_err-i.ensures _ c.volume.ensures))
 
 pub new_record-record-requires : goal.new_record-record-requires
 new_record-record-requires c =
@@ -34,7 +34,7 @@ change_record-requires c =
     let e = c.in_ok-i.ensures _ c.volume.ensures in
     let n = new-says s l.device.now l.work.now name _ e in
     let few = new-length name _ n.1 c.new_record-record.ensures in
-    (few, named-anew s l.device.now l.work.now _ name _ few n.1 (new-name name _ n.1 c.new_record-record.ensures) (new-free s l.device.now l.work.now name _ e) c.in_ok-i.i.low)
+    named-anew s l.device.now l.work.now _ name _ few n.1 (new-name name _ n.1 c.new_record-record.ensures) (new-free s l.device.now l.work.now name _ e) c.in_ok-i.i.low
 
 pub returns-clause-state : goal.returns-clause-state
 returns-clause-state c =

@@ -1,4 +1,4 @@
-use mathlib.Core.Path.{◌≡◌, refl, sym, ap, subst, ◌∙◌}
+use mathlib.Core.Path.{◌≡◌, refl, sym, subst, ◌∙◌}
 use mathlib.Core.List.{[]}
 use native.Mathlib.Omega.{arith}
 use borrow.Author.Rules.{rules}
@@ -16,21 +16,21 @@ use Rattle.runs.proofs.Laws.{small-none}
 use Rattle.alloc.specs.Draft.{Built, tree_in}
 use Rattle.change.specs.Change.{Change}
 use Rattle.update.proofs.Stores.{emptied-fits, remove-stores}
-use Rattle.update.proofs.Laws.{err-is, remove-bad, remove-fine}
+use Rattle.change.proofs.Steps.{passed-on}
+use Rattle.update.proofs.Laws.{remove-bad, remove-fine}
 use Rattle.update.proofs.remove_in.Goals as goal
 
 pub returns-in_err-i-clause-state : goal.returns-in_err-i-clause-state
 returns-in_err-i-clause-state c =
     let l = c.args.lent.now in
-    ap (λ r. outcome (state_lent l) (done_of r)) (err-is c.from_residual.result _ _ c.from_residual.ensures.1 (λ r z. z))
-    ∙ remove-bad (session_lent l) l.device.now l.work.now c.args.name.now _ (c.in_err-i.ensures _ c.volume-volume.ensures)
+    passed-on _ _ _ _ c.from_residual.ensures.1 (remove-bad (session_lent l) l.device.now l.work.now c.args.name.now _ (c.in_err-i.ensures _ c.volume-volume.ensures))
 
 pub draft_of-requires : goal.draft_of-requires
 draft_of-requires c =
     (omega arith, c.copy_of-table.ensures ∙ c.block.ensures.0, subst (λ (e : ExtentList). Small e 0) (sym c.empty-extents.ensures) small-none)
 
 pub returns-in_err-d-clause-state : goal.returns-in_err-d-clause-state
-returns-in_err-d-clause-state c = absurd (emptied-fits _ _ _ _ _ _ c.draft_of.ensures c.in_err-d.was)
+returns-in_err-d-clause-state c = absurd (emptied-fits _ _ _ _ _ c.draft_of.ensures c.in_err-d.was)
 
 pub invariant_of-plan : goal.invariant_of-plan
 invariant_of-plan c = record { bounded = (c.draft_of.ensures.tree _ c.in_ok-d.was).bounded }
@@ -45,10 +45,10 @@ returns-clause-state c =
     let l = c.args.lent.now in
     let v = view (state_lent l) in
     let i = c.in_ok-i.i.n in
-    let t = tree_in c.draft_of.new.table c.draft_of.new.extents c.in_ok-d.d in
+    let t = tree_in c.draft_of.new.table c.in_ok-d.d in
     let built = subst (λ (v : Disk). Built v i 0 t) (shows-view _ _ c.volume-volume.ensures) (c.draft_of.ensures.tree _ c.in_ok-d.was) in
-    let d : Change = record { tree = t; «record» = replicate 32 0; old = 0; size = 0 } in
+    let d : Change = record { tree = t; «record» = replicate 32 0; old = 0; size = 0; x = 0; bytes = [] } in
     let h : outcome (state_lent c.apply.new.images.lent.now) (done_of c.apply.result) ≡ remove (state_lent l) c.args.name.now =
-    remove-fine (session_lent l) l.device.now l.work.now c.args.name.now _ _ _ (c.in_ok-i.ensures _ c.volume-volume.ensures) (remove-stores v i d 0 [] built refl) c.apply.ensures.state
+    remove-fine (session_lent l) l.device.now l.work.now c.args.name.now _ _ _ (c.in_ok-i.ensures _ c.volume-volume.ensures) (remove-stores v i d built refl) c.apply.ensures.state
     in
     search (rules, h)

@@ -1,4 +1,4 @@
-use mathlib.Core.Path.{◌≡◌, ap, ◌∙◌}
+use mathlib.Core.Path.{◌≡◌}
 use native.Mathlib.Omega.{arith}
 use borrow.Author.Rules.{rules}
 use lib.Seq.{take_all}
@@ -9,14 +9,14 @@ use Rattle.transaction.specs.LentSessions.{session_lent, state_lent}
 use Rattle.lookup.proofs.Laws.{rename-says, rename-free}
 use Rattle.update.proofs.Records.{named-anew}
 use Rattle.update.proofs.Stores.{rename-stores}
-use Rattle.update.proofs.Laws.{err-is, rename-bad, rename-fine}
+use Rattle.change.proofs.Steps.{passed-on}
+use Rattle.update.proofs.Laws.{rename-bad, rename-fine}
 use Rattle.update.proofs.rename_in.Goals as goal
 
 pub returns-in_err-i-clause-state : goal.returns-in_err-i-clause-state
 returns-in_err-i-clause-state c =
     let l = c.args.lent.now in
-    ap (λ r. outcome (state_lent l) (done_of r)) (err-is c.from_residual.result _ _ c.from_residual.ensures.1 (λ r z. z))
-    ∙ rename-bad (session_lent l) l.device.now l.work.now c.args.name.now c.args.new.now _ (c.in_err-i.ensures _ c.volume.ensures)
+    passed-on _ _ _ _ c.from_residual.ensures.1 (rename-bad (session_lent l) l.device.now l.work.now c.args.name.now c.args.new.now _ (c.in_err-i.ensures _ c.volume.ensures))
 
 pub invariant_of-change_record : goal.invariant_of-change_record
 invariant_of-change_record c =
@@ -30,7 +30,7 @@ change_record-requires c =
     let new = c.args.new.now in
     let e = c.in_ok-i.ensures _ c.volume.ensures in
     let n = (rename-says s l.device.now l.work.now c.args.name.now _ new e).1 in
-    (omega (arith, n), named-anew s l.device.now l.work.now _ new new (omega (arith, n)) n (take_all 8 new (omega (arith, n))) (rename-free s l.device.now l.work.now c.args.name.now _ new e) c.in_ok-i.i.low)
+    named-anew s l.device.now l.work.now _ new new (omega (arith, n)) n (take_all 8 new (omega (arith, n))) (rename-free s l.device.now l.work.now c.args.name.now _ new e) c.in_ok-i.i.low
 
 pub returns-clause-state : goal.returns-clause-state
 returns-clause-state c =
@@ -40,3 +40,9 @@ returns-clause-state c =
     (rename-stores (view (state_lent l)) _ c.args.new.now) c.change_record.ensures.state
     in
     search (rules, h)
+
+pub invariant_of-change_record-2 : goal.invariant_of-change_record-2
+invariant_of-change_record-2 c =
+    let l = c.args.lent.now in
+    let n = (rename-says (session_lent l) l.device.now l.work.now c.args.name.now _ c.args.new.now (c.in_ok-i.ensures _ c.volume.ensures)).1 in
+    record { short = omega (arith, n) }

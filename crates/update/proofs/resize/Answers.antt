@@ -1,23 +1,23 @@
 use mathlib.Core.Path.{refl, sym, ap, subst, ◌∙◌}
 use Prim.Native.Nat.{ℕ}
+use native.Mathlib.Omega.{arith}
 use mathlib.Core.List.{List}
 use Rattle.spec.specs.Disk.{Disk}
 use Rattle.spec.specs.Inode.{name_at, inode_with, bytes_of_inode, block_of_inode}
-use Rattle.spec.specs.Answers.{done_of}
 use Rattle.spec.specs.Transaction.{view}
-use Rattle.spec.specs.Calls.{outcome}
 use Rattle.transaction.specs.LentSessions.{session_lent, state_lent}
 use Rattle.runs.specs.Push.{Small}
 use Rattle.runs.specs.declared.ExtentList.{ExtentList}
-use Rattle.runs.specs.Runs.{listed, levels_in}
+use Rattle.runs.specs.Runs.{levels_in}
 use Rattle.runs.proofs.Laws.{small-none}
 use Rattle.content.specs.Content.{tree_of}
 use Rattle.alloc.specs.Draft.{tree_in}
 use Rattle.change.specs.Change.{Change}
-use Rattle.content.proofs.Record.{parts-levels, parts-bounded}
+use Rattle.content.proofs.Record.{parts-levels}
 use Rattle.update.proofs.Records.{kept_record, kept-size}
 use Rattle.update.proofs.Stores.{rewrite-stores}
-use Rattle.update.proofs.Laws.{err-is, drafted-for, rewrite-bad, rewrite-fine}
+use Rattle.change.proofs.Steps.{passed-on}
+use Rattle.update.proofs.Laws.{drafted-for, rewrite-bad, rewrite-fine}
 use Rattle.update.proofs.resize.Goals as goal
 
 pub draft_of-requires : goal.draft_of-requires
@@ -28,13 +28,11 @@ pub returns-in_err-d-clause-state : goal.returns-in_err-d-clause-state
 returns-in_err-d-clause-state c =
     let a = c.args in
     let l = a.images.now.lent.now in
-    let plan = drafted-for _ _ a.i.n _ a.size _ _ _ c.copy-copy.ensures c.blocks_for-wanted.ensures.0 c.draft_of.ensures in
-    ap (λ r. outcome (state_lent l) (done_of r)) (err-is c.from_residual.result _ _ c.from_residual.ensures.1 (λ r z. z))
-    ∙ rewrite-bad (session_lent l) l.device.now l.work.now a.i.n a.size a.x.0 a.bytes.now _ plan.verdict _ c.in_err-d.was
+    let plan = drafted-for _ _ a.i.n _ a.size _ _ c.copy-copy.ensures c.blocks_for-wanted.ensures.0 c.draft_of.ensures in
+    passed-on _ _ _ _ c.from_residual.ensures.1 (rewrite-bad (session_lent l) l.device.now l.work.now a.i.n a.size a.x.0 a.bytes.now _ plan.verdict _ c.in_err-d.was)
 
 pub record_bytes-inode-requires : goal.record_bytes-inode-requires
-record_bytes-inode-requires c =
-    (parts-bounded c.draft_of.new.table c.draft_of.new.extents c.in_ok-d.d.nodes c.in_ok-d.d.before c.in_ok-d.d.held (c.draft_of.ensures.tree _ c.in_ok-d.was).bounded, c.requires.1)
+record_bytes-inode-requires c = (omega (arith, (c.draft_of.ensures.tree _ c.in_ok-d.was).bounded.blocks), c.requires.1)
 
 pub invariant_of-plan : goal.invariant_of-plan
 invariant_of-plan c = record { bounded = (c.draft_of.ensures.tree _ c.in_ok-d.was).bounded }
@@ -45,15 +43,15 @@ returns-clause-state c =
     let l = a.images.now.lent.now in
     let v = view (state_lent l) in
     let seen = c.copy-copy.ensures in
-    let plan = drafted-for _ _ a.i.n _ a.size _ _ _ seen c.blocks_for-wanted.ensures.0 c.draft_of.ensures in
+    let plan = drafted-for _ _ a.i.n _ a.size _ _ seen c.blocks_for-wanted.ensures.0 c.draft_of.ensures in
     let draft = c.in_ok-d.d in
-    let t = tree_in c.draft_of.new.table c.draft_of.new.extents draft in
+    let t = tree_in c.draft_of.new.table draft in
     let block = c.inode_block-records.ensures.0 ∙ ap (λ (u : Disk). u (block_of_inode a.i.n)) seen in
-    let d : Change = record { tree = t; «record» = c.record_bytes-inode.result; old = c.size_of-old.result; size = a.size } in
+    let d : Change = record { tree = t; «record» = c.record_bytes-inode.result; old = c.size_of-old.result; size = a.size; x = a.x.0; bytes = a.bytes.now } in
     rewrite-fine (session_lent l) l.device.now l.work.now a.i.n a.size a.x.0 a.bytes.now _ plan.verdict _ _ draft c.in_ok-d.was
-    (rewrite-stores v a.i.n _ d a.x.0 a.bytes.now (plan.tree draft c.in_ok-d.was) _ a.size
+    (rewrite-stores v a.i.n _ d (plan.tree draft c.in_ok-d.was) _ a.size
     (c.record_bytes-inode.ensures
-    ∙ kept_record v a.i.n _ _ a.size (listed t.runs) (levels_in (tree_of t.runs draft.nodes)) c.name_of.ensures block
-    ∙ ap (λ (ls : List (List ℕ)). bytes_of_inode (inode_with (name_at v a.i.n) a.size (listed t.runs) ls)) (parts-levels t.table t.runs draft.nodes t.before t.held))
+    ∙ kept_record v a.i.n _ _ a.size t.extents (levels_in (tree_of t.extents draft.nodes)) c.name_of.ensures block
+    ∙ ap (λ (ls : List (List ℕ)). bytes_of_inode (inode_with (name_at v a.i.n) a.size t.extents ls)) (parts-levels t.table t.extents draft.nodes t.before t.held))
     (kept-size v a.i.n _ _ c.size_of-old.ensures block) refl)
     c.apply.ensures.state

@@ -1,4 +1,4 @@
-use mathlib.Core.Path.{◌≡◌, ap, ◌∙◌}
+use mathlib.Core.Path.{◌≡◌}
 use Prim.Native.Nat.{◌+◌}
 use native.Mathlib.Omega.{arith}
 use borrow.Author.Rules.{rules}
@@ -6,15 +6,15 @@ use Rattle.spec.specs.Answers.{done_of}
 use Rattle.spec.specs.Calls.{outcome, set_size}
 use Rattle.transaction.specs.LentSessions.{session_lent, state_lent}
 use Rattle.lookup.proofs.Laws.{size-says}
-use Rattle.update.proofs.Laws.{err-is, set-size-bad, set-size-fine}
+use Rattle.change.proofs.Steps.{passed-on}
+use Rattle.update.proofs.Laws.{set-size-bad, set-size-fine}
 use Rattle.update.proofs.set_size_in.Goals as goal
 
 pub returns-in_err-i-clause-state : goal.returns-in_err-i-clause-state
 returns-in_err-i-clause-state c =
     let a = c.args in
     let l = a.lent.now in
-    ap (λ r. outcome (state_lent l) (done_of r)) (err-is c.from_residual.result _ _ c.from_residual.ensures.1 (λ r z. z))
-    ∙ set-size-bad (session_lent l) l.device.now l.work.now a.name.now a.size _ (c.in_err-i.ensures _ c.volume.ensures)
+    passed-on _ _ _ _ c.from_residual.ensures.1 (set-size-bad (session_lent l) l.device.now l.work.now a.name.now a.size _ (c.in_err-i.ensures _ c.volume.ensures))
 
 pub invariant_of-resize : goal.invariant_of-resize
 invariant_of-resize c =

@@ -12,15 +12,15 @@ use Rattle.transaction.specs.LentSessions.{session_lent, state_lent}
 use Rattle.transaction.proofs.Laws.{shows-view}
 use Rattle.lookup.proofs.Laws.{size-says}
 use Rattle.update.proofs.Records.{kept-end}
-use Rattle.update.proofs.Laws.{err-is, write-bad, write-fine}
+use Rattle.change.proofs.Steps.{passed-on}
+use Rattle.update.proofs.Laws.{write-bad, write-fine}
 use Rattle.update.proofs.write_in.Goals as goal
 
 pub returns-in_err-i-clause-state : goal.returns-in_err-i-clause-state
 returns-in_err-i-clause-state c =
     let a = c.args in
     let l = a.lent.now in
-    ap (λ r. outcome (state_lent l) (done_of r)) (err-is c.from_residual.result _ _ c.from_residual.ensures.1 (λ r z. z))
-    ∙ write-bad (session_lent l) l.device.now l.work.now a.name.now a.x.0 a.bytes.now _ (c.in_err-i.ensures _ c.volume-volume.ensures)
+    passed-on _ _ _ _ c.from_residual.ensures.1 (write-bad (session_lent l) l.device.now l.work.now a.name.now a.x.0 a.bytes.now _ (c.in_err-i.ensures _ c.volume-volume.ensures))
 
 pub overflow_add-x : goal.overflow_add-x
 overflow_add-x c =

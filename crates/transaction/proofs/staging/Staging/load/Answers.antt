@@ -1,23 +1,20 @@
-use mathlib.Core.Path.{◌≡◌, refl, ap, sym, ◌∙◌}
+use mathlib.Core.Path.{refl, ap, ◌∙◌}
 use native.Mathlib.Omega.{arith}
 use lib.ListN.{length}
 use Rattle.spec.specs.Disk.{Disk, slice_of}
 use Rattle.block.specs.Stores.{stored_in}
 use Rattle.transaction.specs.LentSessions.{session_lent, numbers_lent}
-use Rattle.transaction.proofs.Laws.{cells-many, staged-parts, image-held, image-new, view_of}
+use Rattle.transaction.proofs.Laws.{image-held, image-new, view_of}
 use Rattle.transaction.proofs.staging.Staging.load.Goals as goal
 
--- how many are staged
-pub returns-then-k-staged_in-clause-bytes : goal.returns-then-k-staged_in-clause-bytes
-returns-then-k-staged_in-clause-bytes c =
+pub returns-then-k-staged-clause-bytes : goal.returns-then-k-staged-clause-bytes
+returns-then-k-staged-clause-bytes c =
     let l = c.args.self.now.lent.now in
-    let n : c.staged_in.result ≡ length (numbers_lent l) = cells-many l.cells.now l.count _ l.full c.staged_in.ensures.0 ∙ sym (ap length (staged-parts l.cells.now l.count l.blocks l.phase)) in
-    image-held (numbers_lent l) l.device.now l.work.now c.args.b.0 c.args.k c.requires.0 (omega (arith, n, c.if-k-staged_in.true))
+    image-held (numbers_lent l) l.device.now l.work.now c.args.b.0 c.args.k c.requires.0 (omega (arith, ap length c.staged.ensures, c.if-k-staged.true))
     ∙ ap (λ (v : Disk). stored_in (slice_of l.work.now) c.args.k (v c.args.b.0)) (view_of (session_lent l) l.device.now l.work.now (numbers_lent l) refl)
 
 pub returns-clause-bytes : goal.returns-clause-bytes
 returns-clause-bytes c =
     let l = c.args.self.now.lent.now in
-    let n : c.staged_in.result ≡ length (numbers_lent l) = cells-many l.cells.now l.count _ l.full c.staged_in.ensures.0 ∙ sym (ap length (staged-parts l.cells.now l.count l.blocks l.phase)) in
-    image-new (numbers_lent l) l.device.now l.work.now c.args.b.0 c.args.k c.requires.0 _ _ (omega (arith, n, c.if-k-staged_in.false)) c.block_in-from.ensures c.store_copy.ensures
+    image-new (numbers_lent l) l.device.now l.work.now c.args.b.0 c.args.k c.requires.0 _ _ (omega (arith, ap length c.staged.ensures, c.if-k-staged.false)) c.block_in-from.ensures c.store_copy.ensures
     ∙ ap (λ (v : Disk). stored_in (slice_of l.work.now) c.args.k (v c.args.b.0)) (view_of (session_lent l) l.device.now l.work.now (numbers_lent l) refl)

@@ -1,8 +1,7 @@
-use mathlib.Core.Path.{refl}
-use borrow.Author.Rules.{rules}
-use Rattle.transaction.proofs.Laws.{lent-cells}
+use mathlib.Core.Path.{refl, sym, ◌∙◌}
+use Rattle.transaction.proofs.Laws.{staged-parts}
 use Rattle.transaction.proofs.volume.Volume.of_parts.Goals as goal
 
 pub returns : goal.returns
 returns c = let a = c.args in
-    record { size = refl; at-phase = refl; numbers = lent-cells a.cells.now a.count _ (search rules) c.staged_in-n.ensures.0 a.blocks a.phase; device = refl; work = refl }
+    record { size = refl; at-phase = refl; numbers = staged-parts a.cells.now a.count a.blocks a.phase ∙ sym c.of.ensures; device = refl; work = refl }

@@ -1,0 +1,3 @@
+pub mod Names
+pub mod Rounds
+pub mod States

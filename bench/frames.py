@@ -4,7 +4,7 @@
     bench/frames.py target/staticlib/libcapi.a
 
 Every path through a function is followed, whatever it tests, with the bytes by which the stack pointer has moved. The address to go back to is
-counted, and so is what lies below the stack pointer (the red zone of x86-64); what memcpy and memset use beyond their address is not. An
+counted, and so is what lies below the stack pointer (the red zone of x86-64); what memcpy, memmove and memset use beyond their address is not. An
 instruction that moves the stack pointer in another way ends the program.
 """
 import re
@@ -78,7 +78,7 @@ def moved(mnemonic, operands):
 
 def depth(name, all_functions, all_tables, known):
     """The most bytes below the caller's stack pointer, the address to go back to included."""
-    if name in ("memcpy", "memset"):
+    if name in ("memcpy", "memmove", "memset"):
         return 8
     if name in known:
         if known[name] is None:

@@ -114,7 +114,7 @@ fn put_padded(w: &mut Writer, count: usize, unit: u64, n: u64)
     }
 }
 
-// A card's serial in the wanted spelling. Its bytes stand in the card's name, behind their number. What is asked stands here and in put_card alone: as a ghost
+// A card's serial in the wanted spelling. Its bytes stand in the card's name, behind their number. Both facts together are asked here and in put_card alone: as a ghost
 // field of Serial it would have to be proved in each definition that tells a serial.
 fn put_serial(w: &mut Writer, card: Card, wanted: Spelling)
     requires { (card.serial.bytes ≤ 7) × (card.serial.number < 256 ^ card.serial.bytes) }

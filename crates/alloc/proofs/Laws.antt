@@ -3,36 +3,41 @@ use Prim.Native.Nat.{ℕ, zero, suc, ◌+◌, ◌*◌, ◌-◌, ◌/◌, ◌<◌
 use mathlib.Core.Path.{◌≡◌, refl, sym, ap, ◌∙◌}
 use mathlib.Core.Bool.{Bool, true, false}
 use mathlib.Core.List.{List, [], ◌∷◌, ◌++◌, append_assoc, append-nil}
-use mathlib.Core.Logic.{◌⊎◌, inl, inr}
 use native.Mathlib.Nat.{add-zero}
 use native.Mathlib.Numerals.{add-one}
 use native.Mathlib.Omega.{arith}
-use lib.ListN.{length, take, drop, get_or, set, replicate, length-take, length-drop, length-set, drop_of_length-le}
-use lib.Seq.{set_out, take_all, take-take, take-suc-set, get_or-take, drop-cons, take-append_seam, drop-append_seam}
+use lib.ListN.{length, take, drop, set, length-append, length-take, length-drop, drop_of_length-le}
+use lib.Seq.{take_all, take-append_seam, drop-append_seam}
 use Rattle.spec.specs.Bytes.{up_from, place}
 use Rattle.spec.specs.Disk.{Disk}
-use Rattle.spec.specs.Bitmap.{bits_of_byte, bits_of, free_bits, mark, pick, picks}
+use Rattle.spec.specs.Bitmap.{bits_of, free_bits, mark, pick, picks}
 use Rattle.spec.specs.declared.DiskBlock.{DiskBlock}
 use Rattle.spec.specs.declared.Extent.{Extent}
 use Rattle.spec.specs.Inode.{inode_at, data_of, block_of_inode, blocks_in, runs, slots_in}
-use Rattle.block.proofs.Laws.{lt-or-le}
 use lib.Dec.{eqb}
-use Rattle.std.specs.Prelude.{Some, Option as Returned}
+use Rattle.std.specs.Prelude.{Some, None, Option as Returned}
+use Rattle.std.specs.Borrow.{Bor}
+use Rattle.std.specs.Iterator.{Yields}
+use Rattle.std.specs.Iterator.Adapters.{skip_count, skip_source, skip_steps}
+use Rattle.std.specs.Slice.Iter.{iter_rest, iter_steps}
+use Rattle.std.specs.declared.slice.Iter.{Iter}
+use Rattle.std.specs.declared.iter.Skip.{Skip}
 use Rattle.std.specs.Option.{is_some}
 use Rattle.bitmap.specs.Words.{Table, found_of}
-use Rattle.bitmap.proofs.Laws.{length-bits, none_free, next-free}
+use Rattle.bitmap.proofs.Laws.{none_free, next-free}
+use Rattle.bitmap.proofs.Runs.{mark-more}
 use mathlib.Core.Option.{Option, none, some}
 use Rattle.inode.specs.declared.Cursor.{Cursor}
 use Rattle.inode.specs.Walk.{Slot, live, leaf, rest_nodes, start_of}
 use Rattle.inode.proofs.Walk.{live-left, nodes-start, weight-start, step-node, step_end}
 use Rattle.extents.specs.Stretches.{blocks_at}
-use Rattle.extents.proofs.Laws.{length_up, piece-counts}
+use Rattle.extents.proofs.Laws.{piece-counts}
 use Rattle.runs.specs.declared.ExtentList.{ExtentList}
 use Rattle.runs.specs.Push.{Holds, Small, Pushed}
 use Rattle.runs.proofs.Laws.{pushed-blocks}
-use Rattle.lists.specs.Bits.{mark-append}
-use Rattle.runs.specs.declared.nodes.Nodes.{Nodes}
-use Rattle.alloc.specs.Parts.{data_at, nodes_at, Picked, KeptOf, GaveBack, HeldNodes, TookNodes}
+use Rattle.lists.specs.Bits.{mark-append, length-picks}
+use Rattle.lists.specs.Counts.{length-up_from}
+use Rattle.alloc.specs.Parts.{data_at, nodes_at, Picked, KeptOf, GaveBack, TookNodes}
 
 -- ---- picks and marks
 
@@ -40,10 +45,6 @@ picks_more : (bits : List ℕ) (k : ℕ) → picks bits (suc k) ≡ picks bits k
 unfolding picks mark
 picks_more bits zero = refl
 picks_more bits (suc k) = ap (λ (l : List ℕ). pick bits ∷ l) (picks_more (set bits (pick bits) 1) k)
-
-mark-more : (v : ℕ) (bs : List ℕ) (b : ℕ) (bits : List ℕ) → mark v (bs ++ (b ∷ [])) bits ≡ set (mark v bs bits) b v
-unfolding mark
-mark-more v bs b bits = mark-append v bs (b ∷ []) bits
 
 pub mark-none : (v : ℕ) (bits : List ℕ) → bits ≡ mark v [] bits
 unfolding mark
@@ -69,70 +70,6 @@ some-free t r h e = rw e (go (place 0 (bits_of t)) refl)
     go : (o : Option ℕ) → place 0 (bits_of t) ≡ o → is_some (found_of o) ≡ true
     go none q = absurd (omega (arith, h, none_free (bits_of t) q))
     go (some i) q = refl
-
-pub past-table : (t : List ℕ) (b : ℕ) → Table t → 4096 ≤ b → bits_of t ≡ set (bits_of t) b 0
-past-table t b table h = sym (set_out (bits_of t) b 0 (omega (arith, length-bits t, table.full)))
-
--- ---- a run given back
-
-up_more : (b k : ℕ) → up_from b (suc k) ≡ up_from b k ++ ((b + k) ∷ [])
-up_more b zero = rw (add-zero b)
-up_more b (suc k) = let e : suc b + k ≡ b + suc k = omega arith in ap (λ (l : List ℕ). b ∷ l) (up_more (suc b) k ∙ rw e)
-
-pub run_more : (bits x y : List ℕ) (b k : ℕ) → x ≡ mark 0 (up_from b k) bits → y ≡ set x (b + k) 0 → y ≡ mark 0 (up_from b (k + 1)) bits
-run_more bits x y b k e h = h ∙ rw (e, add-one k, up_more b k, mark-more 0 (up_from b k) (b + k) bits)
-
-up-append : (b k n : ℕ) → up_from b (k + n) ≡ up_from b k ++ up_from (b + k) n
-up-append b zero n = let e : 0 + n ≡ n = omega arith in rw (e, add-zero b)
-up-append b (suc k) n = let e : suc b + k ≡ b + suc k = omega arith in let f : suc k + n ≡ suc (k + n) = omega arith in rw f (ap (λ (l : List ℕ). b ∷ l) (up-append (suc b) k n ∙ rw e))
-
--- the next m blocks
-pub run-part : (bits x y : List ℕ) (b k c m : ℕ) → x ≡ mark 0 (up_from b k) bits → c ≡ b + k → y ≡ mark 0 (up_from c m) x → y ≡ mark 0 (up_from b (k + m)) bits
-run-part bits x y b k c m e q h = h ∙ rw (q, e, up-append b k m) (sym (mark-append 0 (up_from b k) (up_from (b + k) m) bits))
-
-up-mark-append : (bits : List ℕ) (b k m : ℕ) → mark 0 (up_from b (k + m)) bits ≡ mark 0 (up_from (b + k) m) (mark 0 (up_from b k) bits)
-up-mark-append bits b k m = ap (λ (bs : List ℕ). mark 0 bs bits) (up-append b k m) ∙ mark-append 0 (up_from b k) (up_from (b + k) m) bits
-
--- whole bytes of the table cleared
-set-behind : (xs ys : List ℕ) (n k v : ℕ) → n ≡ length xs + k → set (xs ++ ys) n v ≡ xs ++ set ys k v
-set-behind [] ys n k v e = let z : n ≡ k = omega arith in rw z
-set-behind (x ∷ xs) ys zero k v e = absurd (omega arith)
-set-behind (x ∷ xs) ys (suc n) k v e = ap (λ (l : List ℕ). x ∷ l) (set-behind xs ys n k v (omega arith))
-
-mark-behind : (v : ℕ) (xs ys : List ℕ) (a b n : ℕ) → a ≡ length xs + b → mark v (up_from a n) (xs ++ ys) ≡ xs ++ mark v (up_from b n) ys
-unfolding mark
-mark-behind v xs ys a b zero e = refl
-mark-behind v xs ys a b (suc n) e =
-    ap (mark v (up_from (suc a) n)) (set-behind xs ys a b v e) ∙ mark-behind v xs (set ys b v) (suc a) (suc b) n (omega arith)
-
--- n bytes of it from i on
-abbrev cleared : List ℕ → ℕ → ℕ → List ℕ
-cleared t i n = take i t ++ (replicate n 0 ++ drop n (drop i t))
-
-zeros-first : (t : List ℕ) (n : ℕ) → n ≤ length t → bits_of (replicate n 0 ++ drop n t) ≡ mark 0 (up_from 0 (8 * n)) (bits_of t)
-unfolding bits_of mark
-zeros-first t zero h = refl
-zeros-first [] (suc n) h = absurd (omega arith)
-zeros-first (x ∷ t) (suc n) h =
-    let e : 8 * suc n ≡ 8 + 8 * n = omega arith in
-    rw (e, zeros-first t n (omega arith))
-    (sym (up-mark-append (bits_of_byte x ++ bits_of t) 0 8 (8 * n) ∙ mark-behind 0 (bits_of_byte 0) (bits_of t) 8 0 (8 * n) refl))
-
-pub bytes-cleared : (t : List ℕ) (i n : ℕ) → i + n ≤ length t → bits_of (cleared t i n) ≡ mark 0 (up_from (8 * i) (8 * n)) (bits_of t)
-unfolding bits_of mark
-bytes-cleared t zero n h = zeros-first t n (omega arith)
-bytes-cleared [] (suc i) n h = absurd (omega arith)
-bytes-cleared (x ∷ t) (suc i) n h =
-    let e : 8 * suc i ≡ 8 + 8 * i = omega arith in
-    rw e (ap (λ (l : List ℕ). bits_of_byte x ++ l) (bytes-cleared t i n (omega arith)) ∙ sym (mark-behind 0 (bits_of_byte x) (bits_of t) (8 + 8 * i) (8 * i) (8 * n) refl))
-
--- as a fill leaves them
-pub bytes_filled : (t zs : List ℕ) (i n : ℕ) → length t ≡ 512 → i + n ≤ 512 → zs ≡ replicate (length (take (i + n - i) (drop i t))) 0
-    → bits_of (take i t ++ (zs ++ drop (i + n - i) (drop i t))) ≡ mark 0 (up_from (8 * i) (8 * n)) (bits_of t)
-bytes_filled t zs i n l h z =
-    let m : i + n - i ≡ n = omega arith in
-    let w : length (take n (drop i t)) ≡ n = omega (arith, length-take n (drop i t), length-drop i t) in
-    rw (z, m, w) (bytes-cleared t i n (omega arith))
 
 -- ---- the blocks of a stretch, piece by piece
 
@@ -167,7 +104,7 @@ module _ (all : List ℕ) (ps : List Extent) (n : ℕ) (p : Passed all ps n) whe
 
     more : Split all (up_from e.first e.count) (blocks_in qs) n (n + e.count)
     more =
-        split n (n + e.count) all (up_from e.first e.count) (blocks_in qs) (omega (arith, length_up e.first e.count)) p.within
+        split n (n + e.count) all (up_from e.first e.count) (blocks_in qs) (omega (arith, length-up_from e.first e.count)) p.within
         (sym p.rest ∙ blocks)
 
     left : length (drop n all) ≡ e.count + length (blocks_in qs)
@@ -303,29 +240,25 @@ take_more t₀ t q₀ q from n k s l u b r p h =
 abbrev nodes_from : ℕ → ℕ → Cursor
 nodes_from top tops = record { block = 0; at = 0; left = 0; top = top; tops = tops }
 
-pub record Gathering (v : Disk) (tb : ℕ) (nodes : List ℕ) (top tops : ℕ) (node : List ℕ) (len : ℕ) : Type 0 where
-  pub few : len + tops ≤ 4
-  pub full : length node ≡ 4
-  pub is : take len node ++ rest_nodes v tb (nodes_from top tops) ≡ nodes
+pub record Gathering (v : Disk) (tb : ℕ) (nodes : List ℕ) (top tops : ℕ) (node : List ℕ) : Type 0 where
+  pub few : length node + tops ≤ 4
+  pub is : node ++ rest_nodes v tb (nodes_from top tops) ≡ nodes
 
 nodes-only : (v : Disk) (tb : ℕ) (c : Cursor) → rest_nodes v tb (nodes_from c.top c.tops) ≡ rest_nodes v tb c
 unfolding rest_nodes
 nodes-only v tb c = refl
 
-pub gather-start : (v : Disk) (i : ℕ) (c : Cursor) (node : List ℕ) → c ≡ start_of v i → length node ≡ 4 → Gathering v (block_of_inode i) (nodes_at v i) (c.top + 0) (c.tops - 0) node 0
-gather-start v i c node e l =
-    let y : c.top + 0 ≡ c.top = omega arith in
-    let z : c.tops - 0 ≡ c.tops = omega arith in
-    rw (y, z) (record { few = let w = weight-start v i in rw e (omega arith); full = l; is = rw (nodes-only v (block_of_inode i) c, e) (nodes-start v i) })
+pub gather-start : (v : Disk) (i : ℕ) (c : Cursor) (node : List ℕ) → c ≡ start_of v i → node ≡ [] → Gathering v (block_of_inode i) (nodes_at v i) (c.top + 0) (c.tops - 0) node
+gather-start v i c node e z =
+    let x : c.top + 0 ≡ c.top = omega arith in
+    let y : c.tops - 0 ≡ c.tops = omega arith in
+    rw (x, y, z) (record { few = let w = weight-start v i in rw e (omega arith); is = rw (nodes-only v (block_of_inode i) c, e) (nodes-start v i) })
 
--- all nodes, where none is behind those that the array holds
-gathered : (v : Disk) (tb : ℕ) (nodes : List ℕ) (top tops : ℕ) (node : List ℕ) (len : ℕ) → Gathering v tb nodes top tops node len → rest_nodes v tb (nodes_from top tops) ≡ []
-    → (q : Nodes) → q.node ≡ node → q.len ≡ len → HeldNodes nodes q
-gathered v tb nodes top tops node len g end q en el =
-    let all : take len node ≡ nodes = sym (append-nil (take len node)) ∙ ap (λ (xs : List ℕ). take len node ++ xs) (sym end) ∙ g.is in
-    record { is = rw (en, el) all; many = omega (arith, el, ap length all, length-take len node, g.full, g.few) }
+-- all nodes, where none is behind those in the list
+gathered : (v : Disk) (tb : ℕ) (nodes : List ℕ) (top tops : ℕ) (node : List ℕ) → Gathering v tb nodes top tops node → rest_nodes v tb (nodes_from top tops) ≡ [] → node ≡ nodes
+gathered v tb nodes top tops node g end = sym (append-nil node) ∙ ap (λ (xs : List ℕ). node ++ xs) (sym end) ∙ g.is
 
-module _ (v : Disk) (tb : ℕ) (nodes : List ℕ) (top tops : ℕ) (node : List ℕ) (len : ℕ) (g : Gathering v tb nodes top tops node len)
+module _ (v : Disk) (tb : ℕ) (nodes : List ℕ) (top tops : ℕ) (node : List ℕ) (g : Gathering v tb nodes top tops node)
     (xs : List ℕ) (q : xs ≡ v tb) (e : Extent) (r : Bool) (o : Slot xs top e) (l : r ≡ live tops e) where
   s : Slot (v tb) top e
   s = rw (← q) o
@@ -334,28 +267,29 @@ module _ (v : Disk) (tb : ℕ) (nodes : List ℕ) (top tops : ℕ) (node : List 
   unfolding leaf slots_in
   none_left = refl
 
-  pub gather-next : r ≡ true → Gathering v tb nodes (top + 4) (tops - 1) (set node len e.first) (len + 1)
+  -- there is room for one more
+  pub gather-room : r ≡ true → length node < 4
+  gather-room h = omega (arith, g.few, live-left tops e r l h)
+
+  pub gather-next : r ≡ true → Gathering v tb nodes (top + 4) (tops - 1) (node ++ (e.first ∷ []))
   gather-next h =
       let n = live-left tops e r l h in
-      let m : len < length node = omega (arith, g.few, n, g.full) in
       let step = step-node v tb (nodes_from top tops) e r none_left s l h in
       let rest : rest_nodes v tb (nodes_from top tops) ≡ e.first ∷ rest_nodes v tb (nodes_from (top + 4) (tops - 1)) =
       step.nodes ∙ ap (λ (xs : List ℕ). e.first ∷ xs) (sym (nodes-only v tb (record { block = e.first; at = 0; left = 128; top = top + 4; tops = tops - 1 })))
       in
       record {
-        few = omega (arith, g.few, n);
-        full = length-set node len e.first ∙ g.full;
-        is = rw (add-one len, take-suc-set node len e.first m, append_assoc (take len node) (e.first ∷ []) (rest_nodes v tb (nodes_from (top + 4) (tops - 1))), ← rest) g.is;
+        few = omega (arith, g.few, n, length-append node (e.first ∷ []));
+        is = rw (append_assoc node (e.first ∷ []) (rest_nodes v tb (nodes_from (top + 4) (tops - 1))), ← rest) g.is;
       }
 
-  pub gather-last : r ≡ false → (q : Nodes) → q.node ≡ node → q.len ≡ len → HeldNodes nodes q
-  gather-last h = gathered v tb nodes top tops node len g (step_end v tb (nodes_from top tops) e r none_left s l h).nodes
+  pub gather-last : r ≡ false → node ≡ nodes
+  gather-last h = gathered v tb nodes top tops node g (step_end v tb (nodes_from top tops) e r none_left s l h).nodes
 
 -- no slot is left
-pub gather_end : (v : Disk) (tb : ℕ) (nodes : List ℕ) (top tops : ℕ) (node : List ℕ) (len : ℕ) → Gathering v tb nodes top tops node len → tops ≡ 0
-    → (q : Nodes) → q.node ≡ node → q.len ≡ len → HeldNodes nodes q
+pub gather_end : (v : Disk) (tb : ℕ) (nodes : List ℕ) (top tops : ℕ) (node : List ℕ) → Gathering v tb nodes top tops node → tops ≡ 0 → node ≡ nodes
 unfolding rest_nodes leaf slots_in
-gather_end v tb nodes top tops node len g h = gathered v tb nodes top tops node len g (rw h refl)
+gather_end v tb nodes top tops node g h = gathered v tb nodes top tops node g (rw h refl)
 
 -- the slots for nodes stand in the record's block
 pub top-start : (v : Disk) (i : ℕ) → (start_of v i).top ≤ 512
@@ -366,86 +300,94 @@ top-start v i = go (eqb (inode_at v i).depth 0) refl
     go true z = rw z (omega arith)
     go false z = rw z (omega arith)
 
+pub few-tops : (v : Disk) (i : ℕ) (c : Cursor) → c ≡ start_of v i → c.tops ≤ 4
+few-tops v i c e = let w = weight-start v i in rw e (omega arith)
+
 -- ---- nodes taken
 
-pub record Filling (t₀ t node₀ node : List ℕ) (k₀ k wanted : ℕ) : Type 0 where
-  pub low : k₀ ≤ k
-  pub high : k - k₀ ≤ wanted - k₀
-  pub bits : bits_of t ≡ mark 1 (picks (bits_of t₀) (k - k₀)) (bits_of t₀)
-  pub free : free_bits (bits_of t) + (k - k₀) ≡ free_bits (bits_of t₀)
-  pub nodes : take k node ≡ take k₀ node₀ ++ picks (bits_of t₀) (k - k₀)
-  pub full : length node ≡ 4
+pub record Filling (t₀ t held : List ℕ) (wanted k : ℕ) (q : List ℕ) : Type 0 where
+  pub low : length held ≤ k
+  pub high : k - length held ≤ wanted - length held
+  pub bits : bits_of t ≡ mark 1 (picks (bits_of t₀) (k - length held)) (bits_of t₀)
+  pub free : free_bits (bits_of t) + (k - length held) ≡ free_bits (bits_of t₀)
+  pub nodes : q ≡ take wanted held ++ picks (bits_of t₀) (k - length held)
 
-pub fill_start : (t node : List ℕ) (k wanted : ℕ) → length node ≡ 4 → Filling t t node node k k wanted
+pub fill_start : (t held : List ℕ) (wanted k : ℕ) (nodes : List ℕ) → k ≡ length held → nodes ≡ take wanted held → Filling t t held wanted k nodes
 unfolding picks mark
-fill_start t node k wanted l =
-    let z : k - k ≡ 0 = omega arith in
+fill_start t held wanted k nodes e n =
+    let z : k - length held ≡ 0 = omega arith in
     record {
       low = omega arith;
       high = omega arith;
       bits = rw z;
       free = omega arith;
-      nodes = rw z (sym (append-nil (take k node)));
-      full = l;
+      nodes = rw (z, n) (sym (append-nil (take wanted held)));
     }
 
-module _ (t₀ t node₀ node : List ℕ) (k₀ k wanted : ℕ) (f : Filling t₀ t node₀ node k₀ k wanted) where
-  pub fill_more : k < wanted → wanted ≤ 4 → (u : List ℕ) (b : ℕ) → Picked t u b → Filling t₀ u node₀ (set node k b) k₀ (k + 1) wanted
-  fill_more h w u b p =
+module _ (t₀ t held : List ℕ) (wanted k : ℕ) (nodes : List ℕ) (f : Filling t₀ t held wanted k nodes) where
+  pub fill_few : k < wanted → wanted ≤ 4 → length nodes < 4
+  fill_few h w =
+      omega (
+        arith,
+        f.low,
+        ap length f.nodes,
+        length-append (take wanted held) (picks (bits_of t₀) (k - length held)),
+        length-take wanted held,
+        length-picks (bits_of t₀) (k - length held),
+      )
+
+  pub fill_more : k < wanted → (u : List ℕ) (b : ℕ) → Picked t u b → Filling t₀ u held wanted (k + 1) (nodes ++ (b ∷ []))
+  fill_more h u b p =
       let low = f.low in
-      let z : k + 1 - k₀ ≡ suc (k - k₀) = omega arith in
-      let l : k < length node = omega (arith, f.full) in
+      let z : k + 1 - length held ≡ suc (k - length held) = omega arith in
       record {
         low = omega arith;
         high = omega arith;
-        bits = rw z (marked_more t₀ t u (k - k₀) b f.bits p);
+        bits = rw z (marked_more t₀ t u (k - length held) b f.bits p);
         free = omega (arith, p.fewer, f.free);
         nodes =
-            rw (z, add-one k, take-suc-set node k b l, f.nodes, picked_more t₀ t (k - k₀) b f.bits p.is)
-            (append_assoc (take k₀ node₀) (picks (bits_of t₀) (k - k₀)) (b ∷ []));
-        full = length-set node k b ∙ f.full;
+            rw (z, f.nodes, picked_more t₀ t (k - length held) b f.bits p.is)
+            (append_assoc (take wanted held) (picks (bits_of t₀) (k - length held)) (b ∷ []));
       }
 
-  pub fill_end : wanted ≤ k → (held : Nodes) → held.node ≡ node₀ → held.len ≡ k₀ → TookNodes t₀ t held wanted node
-  unfolding picks
-  fill_end h held en el =
+  pub fill_end : wanted ≤ k → TookNodes t₀ t held wanted nodes
+  fill_end h =
       let low = f.low in
       let high = f.high in
-      let z : k - k₀ ≡ wanted - k₀ = omega arith in
-      record { bits = rw el (rw (← z) f.bits); nodes = rw (en, el) (go (lt-or-le wanted k₀)) }
-    where
-      go : (wanted < k₀) ⊎ (k₀ ≤ wanted) → take wanted node ≡ take wanted (take k₀ node₀) ++ picks (bits_of t₀) (wanted - k₀)
-      go (inl l) =
-          let low = f.low in
-          let high = f.high in
-          let y : k - k₀ ≡ 0 = omega arith in
-          let x : wanted - k₀ ≡ 0 = omega arith in
-          let n : take k node ≡ take k₀ node₀ ++ picks (bits_of t₀) 0 = rw y at f.nodes in
-          rw x (sym (take-take wanted k node h) ∙ ap (take wanted) (n ∙ append-nil (take k₀ node₀)) ∙ sym (append-nil (take wanted (take k₀ node₀))))
-      go (inr l) =
-          let low = f.low in
-          let high = f.high in
-          let y : k ≡ wanted = omega arith in
-          let m : length (take k₀ node₀) ≤ wanted = simp length-take (omega arith) in
-          rw (take_all wanted (take k₀ node₀) m, ← y) f.nodes
+      let z : k - length held ≡ wanted - length held = omega arith in
+      record { bits = rw (← z) f.bits; nodes = rw (← z) f.nodes }
 
 -- ---- nodes given back
 
-pub record Leaving (t₀ t nodes : List ℕ) (k₀ k : ℕ) : Type 0 where
-  pub low : k₀ ≤ k
-  pub bits : mark 0 (drop k nodes) (bits_of t) ≡ mark 0 (drop k₀ nodes) (bits_of t₀)
+-- what an iterator over a slice has left once it has passed over some
+passed-over : (xs : List (Bor ℕ)) (s t : Iter ℕ) → Yields iter_steps s xs t → drop (length xs) (iter_rest s) ≡ iter_rest t
+passed-over [] s t y = ap (λ (i : Iter ℕ). iter_rest i) y
+passed-over (x ∷ xs) s t y = ap (drop (suc (length xs))) y.1 ∙ passed-over xs y.0 t y.2
 
-module _ (t₀ t node : List ℕ) (len k₀ k : ℕ) (g : Leaving t₀ t (take len node) k₀ k) where
-  pub leave-more : len ≤ 4 → length node ≡ 4 → k < len → (u : List ℕ) → bits_of u ≡ set (bits_of t) (get_or node k 0) 0 → Leaving t₀ u (take len node) k₀ (k + 1)
-  unfolding mark
-  leave-more w l h u e =
-      let n : k < length (take len node) = simp length-take (omega arith) in
-      let r : drop k (take len node) ≡ get_or node k 0 ∷ drop (suc k) (take len node) =
-      drop-cons (take len node) k 0 n ∙ ap (λ (x : ℕ). x ∷ drop (suc k) (take len node)) (get_or-take len node k 0 h) in
-      rw (add-one k) (record { low = omega (arith, g.low); bits = rw e (ap (λ (bs : List ℕ). mark 0 bs (bits_of t)) (sym r) ∙ g.bits) })
+-- what `skip` has left of a slice
+unfoldable pub skip_rest : Skip (Iter ℕ) → List ℕ
+skip_rest s = drop (skip_count s) (iter_rest (skip_source s))
 
-  pub leave-end : len ≤ k → bits_of t ≡ mark 0 (drop k₀ (take len node)) (bits_of t₀)
-  unfolding mark
-  leave-end h =
-      let n : length (take len node) ≤ k = simp length-take (omega arith) in
-      ap (λ (bs : List ℕ). mark 0 bs (bits_of t)) (sym (drop_of_length-le (take len node) n)) ∙ g.bits
+pub leave-start : (s : Skip (Iter ℕ)) (wanted : ℕ) (held : List ℕ) → skip_count s ≡ wanted → iter_rest (skip_source s) ≡ held → skip_rest s ≡ drop wanted held
+unfolding skip_rest
+leave-start s wanted held n e = rw (n, e)
+
+-- one node given back: the rest is marked as before
+pub leave-more : (s q : Skip (Iter ℕ)) (x : Bor ℕ) → skip_steps iter_steps s (Some x) q → (t u bits : List ℕ) → mark 0 (skip_rest s) (bits_of t) ≡ bits
+    → bits_of u ≡ mark 0 (up_from x.now 1) (bits_of t) → mark 0 (skip_rest q) (bits_of u) ≡ bits
+unfolding skip_rest mark
+leave-more s q x h t u bits m e =
+    let r : drop (skip_count s) (iter_rest (skip_source s)) ≡ x.now ∷ iter_rest (skip_source q) =
+    rw (← h.1.2) (passed-over h.1.0 (skip_source s) h.1.1.0 h.1.1.1 ∙ h.1.1.2)
+    in
+    rw (h.0, e) (rw r at m)
+
+-- and none is left
+pub leave-end : (s q : Skip (Iter ℕ)) → skip_steps iter_steps s None q → (t bits : List ℕ) → mark 0 (skip_rest s) (bits_of t) ≡ bits → bits_of t ≡ bits
+unfolding skip_rest mark
+leave-end s q h t bits m =
+    let e = passed-over h.1.0 (skip_source s) h.1.1.0 h.1.1.1 in
+    let l : length (iter_rest (skip_source s)) ≤ skip_count s =
+    omega (arith, ap length e, length-drop (length h.1.0) (iter_rest (skip_source s)), h.1.1.2.0, h.1.2)
+    in
+    rw (drop_of_length-le (iter_rest (skip_source s)) l) at m

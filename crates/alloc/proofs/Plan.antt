@@ -32,8 +32,7 @@ use Rattle.lists.specs.Bits.{length-picks, mark-append}
 use Rattle.lists.specs.Extents.{runs-counts}
 use Rattle.runs.proofs.Laws.{listed-is, listed-few, listed-first, listed-count}
 use Rattle.alloc.specs.declared.Draft.{Draft}
-use Rattle.runs.specs.declared.nodes.Nodes.{Nodes}
-use Rattle.alloc.specs.Parts.{data_at, nodes_at, KeptOf, TookData, HeldNodes, TookNodes, GaveBack, nodes_held}
+use Rattle.alloc.specs.Parts.{data_at, nodes_at, KeptOf, TookData, TookNodes, GaveBack}
 use Rattle.alloc.specs.Draft.{resized_at, table_of, Built, Drafted, tree_in}
 
 -- ---- at most one level
@@ -167,8 +166,8 @@ module _ (v : Disk) (i wanted : ℕ) (t₀ : List ℕ) (free : ℕ) (kept : Exte
       (fits-is v i wanted ∙ rw (lt-leb (wanted - length (data_at v i)) (free_bits (bits_of (v 33))) (omega (arith, newly, free-is))))
 
   -- data blocks taken, nodes counted
-  module _ (fit : fresh ≤ free) (t₁ : List ℕ) (q : ExtentList) (took : TookData t₀ t₁ kept m fresh q) (held : Nodes) (holds : HeldNodes (nodes_at v i) held)
-      (nodes : ℕ) (is_nodes : (nodes ≡ nodes_for q.end.len) × (128 * nodes ≤ q.end.len + 127)) (lack : ℕ) (is_lack : lack ≡ nodes - held.len) where
+  module _ (fit : fresh ≤ free) (t₁ : List ℕ) (q : ExtentList) (took : TookData t₀ t₁ kept m fresh q) (held : List ℕ) (holds : held ≡ nodes_at v i)
+      (many : ℕ) (is_many : (many ≡ nodes_for q.end.len) × (128 * many ≤ q.end.len + 127)) (lack : ℕ) (is_lack : lack ≡ many - length held) where
     data_is : (resized_at v i wanted).new_data ≡ picks (bits_of t₀) fresh
     data_is = new-data v i wanted ∙ rw (newly, ← is_table)
 
@@ -181,11 +180,11 @@ module _ (v : Disk) (i wanted : ℕ) (t₀ : List ℕ) (free : ℕ) (kept : Exte
     shape : Shape (levels_of v (inode_at v i)) (nodes_at v i)
     shape = levels-shape v (inode_at v i)
 
-    size : Sized (length (resized_at v i wanted).extents) nodes
-    size = rw (len_is, is_nodes.0) (sized q.end.len)
+    size : Sized (length (resized_at v i wanted).extents) many
+    size = rw (len_is, is_many.0) (sized q.end.len)
 
     lack-is : lacking (levels_for (length (resized_at v i wanted).extents)) (levels_of v (inode_at v i)) ≡ lack
-    lack-is = lacking-is (levels_of v (inode_at v i)) (nodes_at v i) shape (length (resized_at v i wanted).extents) nodes size ∙ omega (arith, is_lack, holds.many)
+    lack-is = lacking-is (levels_of v (inode_at v i)) (nodes_at v i) shape (length (resized_at v i wanted).extents) many size ∙ omega (arith, is_lack, ap length holds)
 
     nodes-are : (resized_at v i wanted).new_nodes ≡ picks (bits_of t₁) lack
     nodes-are = new-nodes v i wanted ∙ rw (lack-is, data_is, ← is_table, took.bits)
@@ -212,10 +211,10 @@ module _ (v : Disk) (i wanted : ℕ) (t₀ : List ℕ) (free : ℕ) (kept : Exte
           refused_as v i wanted table TooManyExtents
           (fits-is v i wanted ∙ rw (first-test, second-test, len_is, lt-leb q.end.len 512 h))
 
-      module _ (es : List Extent) (whole : Some es ≡ listed q) (node t₂ t₃ t₄ : List ℕ) (adds : TookNodes t₁ t₂ held nodes node) (dropped : ℕ)
-          (back : GaveBack (drop wanted (data_at v i)) t₂ t₃ dropped) (leaves : bits_of t₄ ≡ mark 0 (drop nodes (nodes_held held)) (bits_of t₃)) (bytes : Table t₄) where
+      module _ (es : List Extent) (whole : Some es ≡ listed q) (nodes t₂ t₃ t₄ : List ℕ) (adds : TookNodes t₁ t₂ held many nodes) (dropped : ℕ)
+          (back : GaveBack (drop wanted (data_at v i)) t₂ t₃ dropped) (leaves : bits_of t₄ ≡ mark 0 (drop many held) (bits_of t₃)) (bytes : Table t₄) where
         abbrev tree : Tree
-        tree = record { table = t₄; extents = es; node = node; nodes = nodes; before = held.len; held = m + dropped }
+        tree = record { table = t₄; extents = es; nodes = nodes; before = length held; held = m + dropped }
 
         all-data : m + dropped ≡ length (data_at v i)
         all-data = all_held (data_at v i) wanted kept m t₂ t₃ dropped keeps back
@@ -226,12 +225,23 @@ module _ (v : Disk) (i wanted : ℕ) (t₀ : List ℕ) (free : ℕ) (kept : Exte
         extents-listed : es ≡ (resized_at v i wanted).extents
         extents-listed = listed-is q es whole (m + fresh) took.small (resized_at v i wanted).extents runs-are
 
+        length-nodes : length nodes ≡ many
+        length-nodes =
+            omega (
+              arith,
+              ap length adds.nodes,
+              length-append (take many held) (picks (bits_of t₁) (many - length held)),
+              length-take many held,
+              length-picks (bits_of t₁) (many - length held),
+            )
+
         levels-built : levels_in tree ≡ (resized_at v i wanted).levels
         unfolding levels_in nodes_in
         levels-built =
-            ap (λ (l : List ℕ). cond (eqb nodes 0) [] (l ∷ [])) (adds.nodes ∙ rw (holds.is, ← is_lack))
-            ∙ sym (dealt-is (levels_of v (inode_at v i)) (nodes_at v i) shape (length (resized_at v i wanted).extents) nodes size (picks (bits_of t₁) lack)
-            (length-picks (bits_of t₁) lack ∙ omega (arith, is_lack, holds.many)))
+            ap (λ (k : ℕ). cond (eqb k 0) [] (nodes ∷ [])) length-nodes
+            ∙ ap (λ (l : List ℕ). cond (eqb many 0) [] (l ∷ [])) (adds.nodes ∙ rw (← is_lack, holds))
+            ∙ sym (dealt-is (levels_of v (inode_at v i)) (nodes_at v i) shape (length (resized_at v i wanted).extents) many size (picks (bits_of t₁) lack)
+            (length-picks (bits_of t₁) lack ∙ omega (arith, is_lack, ap length holds)))
             ∙ sym (levels-are v i wanted ∙ rw nodes-are)
 
         -- the bits of new blocks made 1, then those of dropped blocks made 0
@@ -249,10 +259,10 @@ module _ (v : Disk) (i wanted : ℕ) (t₀ : List ℕ) (free : ℕ) (kept : Exte
         bits-dropped =
             ap (λ (x : List ℕ). mark 0 x (bits_of t₂)) (dropped-are v i wanted)
             ∙ ap (λ (x : List ℕ). mark 0 (drop wanted (data_at v i) ++ x) (bits_of t₂))
-            (surplus-is (levels_of v (inode_at v i)) (nodes_at v i) shape (length (resized_at v i wanted).extents) nodes size)
-            ∙ mark-append 0 (drop wanted (data_at v i)) (drop nodes (nodes_at v i)) (bits_of t₂)
-            ∙ ap (mark 0 (drop nodes (nodes_at v i))) (sym back.bits)
-            ∙ ap (λ (x : List ℕ). mark 0 (drop nodes x) (bits_of t₃)) (sym holds.is)
+            (surplus-is (levels_of v (inode_at v i)) (nodes_at v i) shape (length (resized_at v i wanted).extents) many size)
+            ∙ mark-append 0 (drop wanted (data_at v i)) (drop many (nodes_at v i)) (bits_of t₂)
+            ∙ ap (mark 0 (drop many (nodes_at v i))) (sym back.bits)
+            ∙ ap (λ (x : List ℕ). mark 0 (drop many x) (bits_of t₃)) (sym holds)
             ∙ sym leaves
 
         table-built : t₄ ≡ table_of v (resized_at v i wanted)
@@ -290,17 +300,17 @@ module _ (v : Disk) (i wanted : ℕ) (t₀ : List ℕ) (free : ℕ) (kept : Exte
               extents = extents-listed;
               levels = levels-built;
               table = table-built;
-              before = holds.many ∙ sym (ap length (lowest-is (levels_of v (inode_at v i)) (nodes_at v i) shape));
+              before = ap length holds ∙ sym (ap length (lowest-is (levels_of v (inode_at v i)) (nodes_at v i) shape));
               held = all-data;
               bounded = small-tree;
             }
 
-        pub drafted : (x : Bor (List Extent)) → x.now ≡ es → (ns : Nodes) → ns.node ≡ node → ns.len ≡ nodes
-            → Drafted v i wanted t₄ (Ok (record { extents = x; nodes = ns; before = held.len; held = m + dropped }))
-        drafted x ex ns en el =
+        pub drafted : (x : Bor (List Extent)) → x.now ≡ es → (n : ℕ) → n ≡ length held
+            → Drafted v i wanted t₄ (Ok (record { extents = x; nodes = nodes; before = n; held = m + dropped }))
+        drafted x ex n en =
             record {
               verdict = fits-is v i wanted ∙ rw (first-test, second-test, len_is, le-leb q.end.len 512 low);
               tree = λ d e.
-                  let z : record { extents = x; nodes = ns; before = held.len; held = m + dropped } ≡ d = cc in
-                  subst (λ (d : Draft). Built v i wanted (tree_in t₄ d)) z (rw (ex, en, el) built);
+                  let z : record { extents = x; nodes = nodes; before = n; held = m + dropped } ≡ d = cc in
+                  subst (λ (d : Draft). Built v i wanted (tree_in t₄ d)) z (rw (ex, en) built);
             }

@@ -5,7 +5,6 @@ use Rattle.spec.specs.Bitmap.{bits_of, free_bits, mark, pick, picks}
 use Rattle.spec.specs.Inode.{inode_at, data_of, nodes_of, runs}
 use Rattle.runs.specs.declared.ExtentList.{ExtentList}
 use Rattle.runs.specs.Push.{Holds, Small}
-use Rattle.runs.specs.declared.nodes.Nodes.{Nodes}
 
 -- the data blocks and the nodes of record i
 abbrev pub data_at : Disk → ℕ → List ℕ
@@ -41,13 +40,6 @@ pub record TookData (before after : List ℕ) (kept : ExtentList) (m n : ℕ) (q
   pub holds : (blocks : List ℕ) → Holds kept (runs blocks) → Holds q (runs (blocks ++ picks (bits_of before) n))
   pub small : Small q (m + n)
 
-abbrev pub nodes_held : Nodes → List ℕ
-nodes_held q = take q.len q.node
-
-pub record HeldNodes (nodes : List ℕ) (q : Nodes) : Type 0 where
-  pub is : nodes_held q ≡ nodes
-  pub many : q.len ≡ length nodes
-
-pub record TookNodes (before after : List ℕ) (held : Nodes) (wanted : ℕ) (node : List ℕ) : Type 0 where
-  pub bits : bits_of after ≡ mark 1 (picks (bits_of before) (wanted - held.len)) (bits_of before)
-  pub nodes : take wanted node ≡ take wanted (nodes_held held) ++ picks (bits_of before) (wanted - held.len)
+pub record TookNodes (before after held : List ℕ) (wanted : ℕ) (q : List ℕ) : Type 0 where
+  pub bits : bits_of after ≡ mark 1 (picks (bits_of before) (wanted - length held)) (bits_of before)
+  pub nodes : q ≡ take wanted held ++ picks (bits_of before) (wanted - length held)

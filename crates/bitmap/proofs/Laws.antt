@@ -1,5 +1,5 @@
 -- Laws of the bitmap: bytes and bits, the count of zero bits, the lowest one, one bit changed.
-use Prim.Native.Nat.{ℕ, zero, suc, ◌+◌, ◌*◌, ◌/◌, ◌%◌, ◌^◌, ◌≤◌, ◌<◌}
+use Prim.Native.Nat.{ℕ, zero, suc, ◌+◌, ◌-◌, ◌*◌, ◌/◌, ◌%◌, ◌^◌, ◌≤◌, ◌<◌}
 use mathlib.Core.Path.{◌≡◌, refl, sym, ap, ap₂, ◌∙◌}
 use mathlib.Core.Bool.{Bool, true, false, cond}
 use mathlib.Core.List.{List, [], ◌∷◌, ◌++◌, map, append-nil}
@@ -9,7 +9,7 @@ use native.Mathlib.Omega.{arith}
 use native.Mathlib.Decide.{dec_lt}
 use borrow.Author.Tests.{eqb-true, eqb-false, eq-eqb}
 use lib.Dec.{eqb}
-use lib.ListN.{length, take, drop, get_or, set, length-drop, take-append-drop, get_or-append, get_or-eq_default}
+use lib.ListN.{length, take, drop, get_or, set, replicate, length-append, length-take, length-drop, length-replicate, take-append-drop, get_or-append, get_or-eq_default}
 use lib.Seq.{length-take-le, get_or-drop, take-set-le, take-take}
 use Rattle.spec.specs.Bytes.{occurs, place, place_from, pieces}
 use Rattle.spec.specs.declared.DiskBlock.{DiskBlock}
@@ -26,7 +26,7 @@ unfolding bits_of
 length-bits [] = refl
 length-bits (x ∷ xs) = omega (arith, length-bits xs)
 
-drop-byte : (x : ℕ) (xs : List ℕ) (i : ℕ) → drop (8 * suc i) (bits_of (x ∷ xs)) ≡ drop (8 * i) (bits_of xs)
+pub drop-byte : (x : ℕ) (xs : List ℕ) (i : ℕ) → drop (8 * suc i) (bits_of (x ∷ xs)) ≡ drop (8 * i) (bits_of xs)
 unfolding bits_of
 drop-byte x xs i =
     let e : 8 * suc i ≡ suc (suc (suc (suc (suc (suc (suc (suc (8 * i)))))))) = omega arith in
@@ -90,6 +90,33 @@ bits-pieces (suc m) bits l h =
 pub bits-bytes : (bits : List ℕ) → length bits ≡ 4096 → Below 2 bits → bits_of (bytes_of bits) ≡ bits
 unfolding bytes_of
 bits-bytes bits l h = bits-pieces 512 bits l h
+
+-- ---- bytes of it cleared, as a fill leaves them
+
+below-drop : (k n : ℕ) (xs : List ℕ) → Below n xs → Below n (drop k xs)
+below-drop k n xs h i = rw get_or-drop (h (k + i))
+
+below-append : (n : ℕ) (xs ys : List ℕ) → Below n xs → Below n ys → Below n (xs ++ ys)
+below-append n [] ys h k i = k i
+below-append n (x ∷ xs) ys h k zero = h 0
+below-append n (x ∷ xs) ys h k (suc i) = below-append n xs ys (λ j. h (suc j)) k i
+
+below-zeros : (k : ℕ) → Below 256 (replicate k 0)
+below-zeros zero i = omega arith
+below-zeros (suc k) zero = omega arith
+below-zeros (suc k) (suc i) = below-zeros k i
+
+pub table-filled : (t zs : List ℕ) (i e : ℕ) → Table t → i ≤ e → e ≤ 512 → zs ≡ replicate (length (take (e - i) (drop i t))) 0
+    → Table (take i t ++ (zs ++ drop (e - i) (drop i t)))
+table-filled t zs i e table l h z =
+    let few = ap length z ∙ length-replicate {A = ℕ} _ 0 in
+    let part = length-take (e - i) (drop i t) in
+    let rest = length-drop i t in
+    record {
+      full = simp (length-append, length-take, length-drop) (omega (arith, few, part, rest, table.full));
+      bytes = below-append 256 (take i t) _ (below-take i t 256 table.bytes)
+          (below-append 256 zs _ (rw z (below-zeros _)) (below-drop (e - i) 256 (drop i t) (below-drop i 256 t table.bytes)));
+    }
 
 -- ---- the count of zero bits
 

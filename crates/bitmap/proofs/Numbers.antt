@@ -60,34 +60,36 @@ low-byte-of (x ∷ xs) h =
     let f : (x + 2 * byte_of xs) / 2 ≡ byte_of xs = omega arith in
     rw (e, f) (ap (λ (l : List ℕ). x ∷ l) (low-byte-of xs (λ i. h (suc i))))
 
--- ---- its zero bits
+-- ---- its zero bits, by its complement
 
-pub low_free : (k n : ℕ) → n < 2 ^ k → free_bits (low_bits k n) + ones n ≡ k
+module _ (k n : ℕ) (h : n < 2 ^ suc k) where
+  odd : (2 ^ suc k - 1 - n) % 2 ≡ 1 - n % 2
+  odd = omega (arith, pow-suc 2 k)
+
+  half : (2 ^ suc k - 1 - n) / 2 ≡ 2 ^ k - 1 - n / 2
+  half = omega (arith, pow-suc 2 k)
+
+pub low_free : (k n : ℕ) → n < 2 ^ k → free_bits (low_bits k n) ≡ ones (2 ^ k - 1 - n)
 unfolding low_bits ones
-low_free zero n h = let e : n ≡ 0 = omega arith in rw e
-low_free (suc k) n h = omega (arith, lowest (n % 2) (omega arith), low_free k (n / 2) (half_lt k n h), ones_step n)
+low_free zero n h = let e : 2 ^ 0 - 1 - n ≡ 0 = omega arith in rw e
+low_free (suc k) n h =
+    omega (arith, lowest (n % 2) (omega arith), low_free k (n / 2) (half_lt k n h), ones_step (2 ^ suc k - 1 - n), odd k n h, ap ones (half k n h))
   where
-    lowest : (x : ℕ) → x < 2 → cond (eqb x 0) 1 0 + x ≡ 1
+    lowest : (x : ℕ) → x < 2 → cond (eqb x 0) 1 0 ≡ 1 - x
     lowest zero l = refl
     lowest (suc zero) l = refl
     lowest (suc (suc x)) l = absurd (omega arith)
 
--- the lowest zero bit of a number, by its complement
+-- the lowest zero bit of a number
 pub low-place : (k n i : ℕ) (rest : List ℕ) → n < 2 ^ k → (2 ^ k - 1 - n ≡ 0 → ⊥) → place_from i 0 (low_bits k n ++ rest) ≡ some (i + count_trailing_zeros k (2 ^ k - 1 - n))
 unfolding low_bits count_trailing_zeros
 low-place zero n i rest h ne = absurd (ne (omega arith))
 low-place (suc k) n i rest h ne = go (n % 2) refl (low-place k (n / 2) (suc i) rest (half_lt k n h))
   where
-    odd : (2 ^ suc k - 1 - n) % 2 ≡ 1 - n % 2
-    odd = omega (arith, pow-suc 2 k)
-
-    half : (2 ^ suc k - 1 - n) / 2 ≡ 2 ^ k - 1 - n / 2
-    half = omega (arith, pow-suc 2 k)
-
     go : (d : ℕ) → n % 2 ≡ d → ((2 ^ k - 1 - n / 2 ≡ 0 → ⊥) → place_from (suc i) 0 (low_bits k (n / 2) ++ rest) ≡ some (suc i + count_trailing_zeros k (2 ^ k - 1 - n / 2)))
         → place_from i 0 (low_bits (suc k) n ++ rest) ≡ some (i + count_trailing_zeros (suc k) (2 ^ suc k - 1 - n))
-    go zero q more = rw (q, odd, q) (ap some (sym (add-zero i)))
-    go (suc zero) q more = rw (q, odd, q, half) (more (λ z. ne (omega (arith, odd, half))) ∙ ap some (omega arith))
+    go zero q more = rw (q, odd k n h, q) (ap some (sym (add-zero i)))
+    go (suc zero) q more = rw (q, odd k n h, q, half k n h) (more (λ z. ne (omega (arith, odd k n h, half k n h))) ∙ ap some (omega arith))
     go (suc (suc d)) q more = absurd (omega arith)
 
 -- ---- one of its bits changed
@@ -116,7 +118,7 @@ or-low (suc n) (suc k) x h =
     let d : max (x % 2) (2 ^ suc k % 2) ≡ x % 2 = omega (arith, pow-suc 2 k) in
     low_or n x (2 ^ suc k) ∙ rw (d, p, or-low n k (x / 2) (omega arith))
 
-mask_low : (n x : ℕ) → low_bits n (bit_and x (2 ^ n - 1)) ≡ low_bits n x
+pub mask_low : (n x : ℕ) → low_bits n (bit_and x (2 ^ n - 1)) ≡ low_bits n x
 unfolding low_bits
 mask_low zero x = refl
 mask_low (suc n) x =

@@ -2,6 +2,7 @@
 use Rattle.std.specs.Prelude.{ℕ, ◌+◌, ◌*◌, ◌<◌, ◌≡◌, List, Option, Some, None, length, get_or}
 use Rattle.std.proofs.Math.Option as math
 use Rattle.std.proofs.Math.Option.{none, some}
+use Rattle.std.specs.Int.{w64, count_zeros, from_le_bytes}
 use Rattle.spec.specs.declared.DiskBlock.{DiskBlock}
 use Rattle.spec.specs.Disk.{disk_block}
 
@@ -20,9 +21,9 @@ word_of t w =
     ((((((get_or t (8 * w + 7) 0 * 256 + get_or t (8 * w + 6) 0) * 256 + get_or t (8 * w + 5) 0) * 256 + get_or t (8 * w + 4) 0) * 256
     + get_or t (8 * w + 3) 0) * 256 + get_or t (8 * w + 2) 0) * 256 + get_or t (8 * w + 1) 0) * 256 + get_or t (8 * w) 0
 
--- each of these bytes is one
-abbrev pub Bytes : List ℕ → ℕ → Type 0
-Bytes t w = (j : ℕ) → j < 8 → get_or t (8 * w + j) 0 < 256
+-- how many bits of a word's eight bytes are 0
+unfoldable pub free_of : List ℕ → ℕ
+free_of w = count_zeros w64 (from_le_bytes w64 w)
 
 -- a place as the code tells it
 abbrev pub found_of : math.Option ℕ → Option DiskBlock

@@ -4,66 +4,61 @@
 ghost use Rattle.std.specs.Prelude.{◌≡◌, ◌<◌};
 ghost use Rattle.spec.specs.Bitmap.{bits_of, free_bits};
 
+use bitmap::{Bitmap, free_in};
 use spec::{DiskBlock, Limits};
 use std::io;
-use trial::number;
 
-fn show(rt: &impl Print, name: &[u8], t: &[u8; Limits::BLOCK_SIZE]) -> io::Result<()> {
-    rt.write_all(name)?;
-    number(rt, bitmap::free_in(t))?;
-    match bitmap::lowest_free_from(t, 0) {
-        Some(b) => number(rt, b.0)?,
-        None => {
-            rt.write_all(b" none")?;
-        }
+fn show(rt: &impl Print, name: &str, t: &Bitmap) -> io::Result<()> {
+    print!(rt; "{name} {}", free_in(&t.bytes))?;
+    match t.lowest_free_from(0) {
+        Some(b) => println!(rt; " {}", b.0),
+        None => println!(rt; " none"),
     }
-    rt.write_all(b"\n")
 }
 
 // Takes the lowest free bit until there is none, searching each time from the word of the last, and answers how many it took.
-fn take_all(table: [u8; Limits::BLOCK_SIZE]) -> usize
-    ensures { result ≡ free_bits (bits_of table) }
+fn take_all(table: Bitmap) -> u32
+    ensures { result ≡ free_bits (bits_of table.bytes) }
 {
     let mut t = table;
-    let mut from: usize = 0;
-    let mut n: usize = 0;
-    // Each turn changes the table that the next one searches, so there is no list of bits to go over.
-    while let Some(b) = bitmap::lowest_free_from(&t, from) {
-        bitmap::set_bit(&mut t, b);
+    let mut from = 0;
+    for taken in 0..Limits::BITMAP_BITS {
+        let Some(b) = t.lowest_free_from(from) else {
+            return taken;
+        };
+        t.set(b);
         from = (b.0 / 64) as usize;
-        n += 1;
     }
-    n
+    Limits::BITMAP_BITS
 }
 
 // Two neighbouring bits of a full table cleared, then the lower one set again.
-fn border(rt: &impl Print, name: &[u8], b: u32) -> io::Result<()>
+fn border(rt: &impl Print, name: &str, b: u32) -> io::Result<()>
     requires { b < 4095 }
 {
-    let mut t = [255u8; Limits::BLOCK_SIZE];
-    bitmap::clear_bit(&mut t, DiskBlock(b));
-    bitmap::clear_bit(&mut t, DiskBlock(b + 1));
+    let mut t = Bitmap::of(&[255; Limits::BLOCK_SIZE]);
+    t.clear(DiskBlock(b));
+    t.clear(DiskBlock(b + 1));
     show(rt, name, &t)?;
-    bitmap::set_bit(&mut t, DiskBlock(b));
+    t.set(DiskBlock(b));
     show(rt, name, &t)
 }
 
 fn main(rt: HostRuntime) -> io::Result<()> {
-    let empty = [0u8; Limits::BLOCK_SIZE];
-    show(&rt, b"empty", &empty)?;
-    let mut t = [255u8; Limits::BLOCK_SIZE];
-    show(&rt, b"full", &t)?;
-    bitmap::clear_bit(&mut t, DiskBlock(4095));
-    show(&rt, b"last", &t)?;
-    bitmap::set_bit(&mut t, DiskBlock(4095));
-    t[5] = 3;
-    t[6] = 0;
-    t[7] = 0;
-    show(&rt, b"formatted 64", &t)?;
-    rt.write_all(b"taken")?;
-    number(&rt, take_all(t))?;
-    number(&rt, take_all(empty))?;
-    rt.write_all(b"\n")?;
-    border(&rt, b"byte", 7)?;
-    border(&rt, b"word", 63)
+    let empty = Bitmap::of(&[0; Limits::BLOCK_SIZE]);
+    show(&rt, "empty", &empty)?;
+    let mut t = Bitmap::of(&[255; Limits::BLOCK_SIZE]);
+    show(&rt, "full", &t)?;
+    t.clear(DiskBlock(4095));
+    show(&rt, "last", &t)?;
+    t.set(DiskBlock(4095));
+    let mut bytes = t.bytes;
+    bytes[5] = 3;
+    bytes[6] = 0;
+    bytes[7] = 0;
+    let t = Bitmap::of(&bytes);
+    show(&rt, "formatted 64", &t)?;
+    println!(rt; "taken {} {}", take_all(t), take_all(empty))?;
+    border(&rt, "byte", 7)?;
+    border(&rt, "word", 63)
 }

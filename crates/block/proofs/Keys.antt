@@ -26,9 +26,7 @@ eight (a ∷ b ∷ c ∷ d ∷ e ∷ f ∷ g ∷ x ∷ []) h = refl
 eight (a ∷ b ∷ c ∷ d ∷ e ∷ f ∷ g ∷ x ∷ y ∷ xs) h = absurd (omega arith)
 
 -- the number of eight bytes, as std has it
-pub key-is : (xs : List ℕ) (k : ℕ) → length xs ≡ 8
-    → k ≡ from_le_bytes w64 (get_or xs 0 0 ∷ get_or xs 1 0 ∷ get_or xs 2 0 ∷ get_or xs 3 0 ∷ get_or xs 4 0 ∷ get_or xs 5 0 ∷ get_or xs 6 0 ∷ get_or xs 7 0 ∷ [])
-    → k ≡ key_of xs
+pub key-is : (xs : List ℕ) (k : ℕ) → length xs ≡ 8 → k ≡ from_le_bytes w64 xs → k ≡ key_of xs
 unfolding key_of
 key-is xs k l e = sym (ap key_of (eight xs l) ∙ omega (arith, e))
 

@@ -3,18 +3,15 @@ use Prim.Native.Nat.{ℕ, zero, suc, ◌+◌, ◌*◌, ◌-◌, ◌/◌, ◌%◌
 use mathlib.Core.Path.{◌≡◌, refl, sym, ap, ◌∙◌, fun_ext}
 use mathlib.Core.Bool.{Bool, true, false, cond, ◌&&◌, true≢false}
 use mathlib.Core.List.{List, [], ◌∷◌, ◌++◌}
-use mathlib.Core.Logic.{◌⊎◌, inl, inr, ⊎_elim}
-use native.Mathlib.Decide.{dec_lt}
+use mathlib.Core.Logic.{⊎_elim}
 use native.Mathlib.Omega.{arith}
 use borrow.Author.Tests.{eqb-true, eqb-false, eq-eqb, ne_eqb, leb-true}
 use lib.Dec.{eqb, leb}
 use lib.ListN.{length, take, drop, get_or, length-append, length-take, length-drop, get_or-append, get_or-eq_default}
 use lib.Seq.{ext_get_or, take-nil, get_or-take, get_or-drop, get_or-append-add}
+pub use Rattle.std.proofs.lemmas.Bool.{cases_lt as lt-or-le}
 use Rattle.spec.specs.Bytes.{zeros, exactly, patch, number2, number4, bytes2, bytes4, same}
 use Rattle.spec.specs.Disk.{Disk, Slice, blocks_of, with_block, slice_of, is_allowed}
-
-pub lt-or-le : (a b : ℕ) → (a < b) ⊎ (b ≤ a)
-lt-or-le a b = elim (dec_lt a b) [ yes h ↦ inl h | no h ↦ inr (omega arith) ]
 
 -- ---- lists of a length
 
@@ -63,9 +60,6 @@ pub exactly-nil : (n : ℕ) → exactly n [] ≡ zeros n
 unfolding zeros
 exactly-nil zero = refl
 exactly-nil (suc n) = ap (λ (l : List ℕ). 0 ∷ l) (exactly-nil n)
-
-pub number2-exactly : (n : ℕ) (xs : List ℕ) (at : ℕ) → at + 2 ≤ n → number2 at (exactly n xs) ≡ number2 at xs
-number2-exactly n xs at h = rw (get_or-exactly n xs at (omega arith), get_or-exactly n xs (at + 1) (omega arith))
 
 -- ---- blocks
 

@@ -1,6 +1,6 @@
 -- What the functions of this crate leave to prove. Assumes nothing.
 use Prim.Native.Nat.{ℕ, zero, suc, ◌+◌, ◌*◌, ◌-◌, ◌<◌, ◌≤◌, min}
-use mathlib.Core.Path.{◌≡◌, sym, ap, ◌∙◌}
+use mathlib.Core.Path.{◌≡◌, refl, sym, ap, ◌∙◌}
 use mathlib.Core.List.{List, [], ◌∷◌, ◌++◌}
 use mathlib.Core.Logic.{⊎_elim}
 use native.Mathlib.Numerals.{add-one}
@@ -8,12 +8,13 @@ use native.Mathlib.Omega.{arith}
 use borrow.Author.Tests.{lt-ltb, le-ltb}
 use Rattle.std.proofs.lemmas.List.{drop-replicate}
 use lib.ListN.{length, take, drop, get_or, set, replicate, length-drop, drop_of_length-le}
-use lib.Seq.{take-suc, take-suc-set, take-nil, take_all, drop-drop}
-use Rattle.spec.specs.Bytes.{exactly}
+use lib.Seq.{take-suc, take-suc-set, take-nil, take_all, drop-drop, get_or-drop}
+use Rattle.std.specs.Int.{w32, from_le_bytes}
+use Rattle.spec.specs.Bytes.{exactly, number4}
 use Rattle.spec.specs.Disk.{slice_of, area_of}
 use Rattle.spec.specs.declared.Area.TheVariants.{Log, Inodes, Data}
 use Rattle.block.specs.Stores.{stored_in}
-use Rattle.block.proofs.Laws.{lt-or-le, length-patch, blocks-patch}
+use Rattle.block.proofs.Laws.{lt-or-le, length-patch, blocks-patch, exactly-first}
 
 -- ---- areas
 
@@ -48,19 +49,55 @@ take_within n k xs h =
     (λ (g : length xs ≤ n). take_all k xs (omega arith) ∙ sym (take_all n xs g))
     (lt-or-le n (length xs))
 
--- the first n of some bytes over zeros
-pub filled : (n : ℕ) (xs ys : List ℕ) → n ≡ min 512 (length xs) → ys ≡ take n xs → ys ++ drop n (replicate 512 0) ≡ exactly 512 xs
-filled n xs ys h e =
-    rw (e, take_within 512 n xs h, drop-replicate {X = ℕ} n 512 0) (ap (λ k. take 512 xs ++ replicate k 0) (omega arith) ∙ over 512 xs)
+-- some bytes over m zeros, where fewer than m follow
+pub filled : (m : ℕ) (xs : List ℕ) → length xs ≤ m → xs ++ drop (length xs) (replicate m 0) ≡ exactly m xs
+filled m xs h = rw (drop-replicate {X = ℕ} (length xs) m 0) (over m xs h)
   where
-    over : (m : ℕ) (zs : List ℕ) → take m zs ++ replicate (m - length zs) 0 ≡ exactly m zs
-    over zero zs = let z : 0 - length zs ≡ 0 = omega arith in rw z
-    over (suc m) [] =
+    over : (m : ℕ) (zs : List ℕ) → length zs ≤ m → zs ++ replicate (m - length zs) 0 ≡ exactly m zs
+    over zero [] l = refl
+    over zero (z ∷ zs) l = absurd (omega arith)
+    over (suc m) [] l =
         let n : suc m - 0 ≡ suc (m - 0) = omega arith in
-        rw n (ap (λ ys. 0 ∷ ys) (ap (λ ys. ys ++ replicate (m - 0) 0) (sym (take-nil {A = ℕ} m)) ∙ over m []))
-    over (suc m) (z ∷ zs) =
+        rw n (ap (λ ys. 0 ∷ ys) (over m [] (omega arith)))
+    over (suc m) (z ∷ zs) l =
         let n : suc m - suc (length zs) ≡ m - length zs = omega arith in
-        rw n (ap (λ ys. z ∷ ys) (over m zs))
+        rw n (ap (λ ys. z ∷ ys) (over m zs (omega arith)))
+
+-- from a place on, as far as some bytes reach
+module _ (xs : List ℕ) (n from : ℕ) (e : from ≡ min (length xs) n) where
+  pub rest-is : take (length xs - from) (drop from xs) ≡ drop n xs
+  rest-is = take_all _ (drop from xs) (rw length-drop (omega arith)) ∙ ⊎_elim past inside (lt-or-le (length xs) n)
+    where
+      past : length xs < n → drop from xs ≡ drop n xs
+      past h = drop_of_length-le xs {i = from} (omega arith) ∙ sym (drop_of_length-le xs {i = n} (omega arith))
+
+      inside : n ≤ length xs → drop from xs ≡ drop n xs
+      inside h = let z : from ≡ n = omega arith in rw z
+
+  -- m bytes from there on, all there or not
+  pub whole-at : (m : ℕ) (ys : List ℕ) → m ≤ length (take (length xs - from) (drop from xs))
+      → ys ≡ take m (take (length xs - from) (drop from xs)) → ys ≡ exactly m (drop n xs)
+  whole-at m ys l q = exactly-first m _ ys l q ∙ ap (exactly m) rest-is
+
+  pub cut-at : (m : ℕ) (ys : List ℕ) → length (take (length xs - from) (drop from xs)) < m → ys ≡ take (length xs - from) (drop from xs)
+      → ys ++ drop (length (take (length xs - from) (drop from xs))) (replicate m 0) ≡ exactly m (drop n xs)
+  cut-at m ys l q = rw q (filled m _ (omega arith)) ∙ ap (exactly m) rest-is
+
+-- four bytes from a place on, as std has their number
+pub four-at : (at : ℕ) (xs : List ℕ) (k : ℕ) → k ≡ from_le_bytes w32 (exactly 4 (drop at xs)) → k ≡ number4 at xs
+four-at at xs k e =
+    let f = e ∙ ap (from_le_bytes w32) (four (drop at xs)) in
+    omega (arith, f, byte 0 at (omega arith), byte 1 (at + 1) (omega arith), byte 2 (at + 2) (omega arith), byte 3 (at + 2 + 1) (omega arith))
+  where
+    four : (ys : List ℕ) → exactly 4 ys ≡ get_or ys 0 0 ∷ get_or ys 1 0 ∷ get_or ys 2 0 ∷ get_or ys 3 0 ∷ []
+    four [] = refl
+    four (a ∷ []) = refl
+    four (a ∷ b ∷ []) = refl
+    four (a ∷ b ∷ c ∷ []) = refl
+    four (a ∷ b ∷ c ∷ d ∷ ys) = refl
+
+    byte : (i j : ℕ) → at + i ≡ j → get_or (drop at xs) i 0 ≡ get_or xs j 0
+    byte i j q = get_or-drop at xs i 0 ∙ ap (λ n. get_or xs n 0) q
 
 -- a part of some bytes, as far as they reach
 pub part_in : (xs : List ℕ) (n m from end : ℕ) → from ≡ min (length xs) n → end ≡ min (length xs) (n + m) → take (end - from) (drop from xs) ≡ take m (drop n xs)

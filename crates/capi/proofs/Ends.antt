@@ -7,8 +7,7 @@ use Rattle.std.specs.Prelude.{Ok, Err, is_ok}
 use Rattle.std.specs.Prelude.{Result as Returned}
 use Rattle.spec.specs.declared.Session.{Session}
 use Rattle.spec.specs.declared.Refusal.{Refusal}
-use Rattle.spec.specs.declared.Refusal.TheVariants.{DeviceSize, WorkSize, BadName, TooLarge, BadHeader, Unsound, NotReady, Unknown, Taken, NoInode, NoSpace, TooManyExtents, TooManyStaged, ListShort}
-use Rattle.spec.specs.Answers.{Answer, is_refused, refusal_of, started_of, done_of}
+use Rattle.spec.specs.Answers.{Answer, is_refused, started_of, done_of}
 use Rattle.spec.specs.Transaction.{State, state_of}
 use Rattle.spec.specs.Calls.{Outcome, outcome, left}
 use Rattle.block.proofs.Laws.{slice-bytes}
@@ -19,26 +18,11 @@ use Rattle.capi.specs.declared.Parts.{Parts}
 use Rattle.capi.specs.Cells.{parts_in}
 use Rattle.mirror.specs.declared.CFinished.{CFinished}
 use Rattle.mirror.specs.Mirror.{head_in, numbers_of, head_of, encode, decode, finished_of, Lent, lent, state_in, unless_refused, Leaves, Ends}
-use Rattle.mirror.proofs.Laws.{decode-encode}
+pub use Rattle.mirror.proofs.Laws.{refused-told}
+use Rattle.mirror.proofs.Laws.{decode-encode, same-lent}
 use Rattle.capi.proofs.Kept.{true≢false, Still}
 
 -- ---- what a function that writes only behind an accepted call leaves
-
-pub refused-told : (r : Refusal) → is_refused (refusal_of r) ≡ true
-refused-told DeviceSize = refl
-refused-told WorkSize = refl
-refused-told BadName = refl
-refused-told TooLarge = refl
-refused-told (BadHeader i) = refl
-refused-told Unsound = refl
-refused-told NotReady = refl
-refused-told Unknown = refl
-refused-told Taken = refl
-refused-told NoInode = refl
-refused-told NoSpace = refl
-refused-told TooManyExtents = refl
-refused-told TooManyStaged = refl
-refused-told ListShort = refl
 
 pub started-ok : (x : Returned ℕ Refusal) → is_ok x ≡ true → is_refused (started_of x) ≡ false
 started-ok (Ok n) e = refl
@@ -47,6 +31,14 @@ started-ok (Err r) e = absurd (true≢false (sym e))
 pub started-err : (x : Returned ℕ Refusal) → is_ok x ≡ false → is_refused (started_of x) ≡ true
 started-err (Ok n) e = absurd (true≢false e)
 started-err (Err r) e = refused-told r
+
+pub done-ok : (x : Returned (Unit {0}) Refusal) → is_ok x ≡ true → is_refused (done_of x) ≡ false
+done-ok (Ok n) e = refl
+done-ok (Err r) e = absurd (true≢false (sym e))
+
+pub done-err : (x : Returned (Unit {0}) Refusal) → is_ok x ≡ false → is_refused (done_of x) ≡ true
+done-err (Ok n) e = absurd (true≢false e)
+done-err (Err r) e = refused-told r
 
 module _ (a : Answer) (before after : List ℕ) where
   pub stays : is_refused a ≡ true → before ≡ unless_refused a before after
@@ -65,9 +57,6 @@ module _ (a : Answer) (before after : List ℕ) where
 -- the session of lent numbers and cells, in the parts in which it is handed on
 pub lent-session : (s : Parts) (ns cells : List ℕ) → s ≡ parts_in ns → session_of s.blocks s.phase cells s.count ≡ decode (head_in ns) cells
 lent-session s ns cells is = ap (λ (x : Parts). session_of x.blocks x.phase cells x.count) is
-
-same-lent : (ns ms cells l d e w v : List ℕ) → ns ≡ ms → cells ≡ l → d ≡ e → w ≡ v → lent ns cells d w ≡ lent ms l e v
-same-lent ns ms cells l d e w v a b c x = ap₂ (λ (i j : List ℕ). lent i j d w) a b ∙ ap₂ (λ (i j : List ℕ). lent ms l i j) c x
 
 -- a call's code leaves session s, device d and work space w, and answers a; o is the outcome
 module _ (b : Lent) (o : Outcome) (k : Still (outcome (state_in b)) o) (s : Session) (d w : List ℕ) (a : Answer) (e : left s d w a ≡ o) where
@@ -131,15 +120,15 @@ module _ (f : State → Outcome) (k : (s : State) → Still (outcome s) (f s)) (
 -- a call of a session that is lent in the parts l, which it leaves as m
 module _ (f : State → Outcome) (k : (s : State) → Still (outcome s) (f s)) (ns cells device work : List ℕ) (s : Parts) (is : s ≡ parts_in ns) where
   pub ends-in : (l m : LentSession)
-      → (l.device.now ≡ device) × (l.work.now ≡ work) × (l.blocks ≡ s.blocks) × (l.phase ≡ s.phase) × (l.cells.now ≡ cells) × (l.count ≡ s.count)
+      → (l.device.now ≡ device) × (l.work.now ≡ work) × (l.blocks ≡ s.blocks) × (l.phase ≡ s.phase) × (l.cells.now ≡ cells) × (l.count.now ≡ s.count)
       → Kept l m → (answer : Returned (Unit {0}) Refusal) → outcome (state_lent m) (done_of answer) ≡ f (state_lent l)
       → (r : CFinished) (after : List ℕ)
-      → (r ≡ finished_of (done_of answer)) × (after ≡ unless_refused (done_of answer) ns (numbers_of (head_of s.blocks s.phase m.count)))
+      → (r ≡ finished_of (done_of answer)) × (after ≡ unless_refused (done_of answer) ns (numbers_of (head_of s.blocks s.phase m.count.now)))
       → (left-cells left-work : List ℕ) → left-cells ≡ m.cells.now → left-work ≡ m.work.now
       → Ends finished_of r (lent ns cells device work) (lent after left-cells device left-work) f
   ends-in l m p h answer q r after g left-cells w ec ew =
       let b = session_of s.blocks s.phase cells s.count in
-      let t = session_of s.blocks s.phase left-cells m.count in
+      let t = session_of s.blocks s.phase left-cells m.count.now in
       let e : state_lent l ≡ state_of b device work = rw (p.0, p.1, p.2, p.3, p.4, p.5) in
       let hd : m.device.now ≡ device = h.device ∙ p.0 in
       let hb : m.blocks ≡ s.blocks = h.blocks ∙ p.2 in

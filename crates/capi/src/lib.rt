@@ -22,7 +22,7 @@ use journal::{advance_in, begun_phase, commit_in, last_phase, phase_at};
 use lookup::look_up;
 use mirror::{
     CAdvanced, CCommitted, CCounted, CFinished, CRecord, CRun, advanced, committed, counted,
-    decode, encode, finished, head_in, head_of, keep, phase_in, recorded, run,
+    finished, head_in, head_of, keep, keep_session, phase_in, recorded, run, session_in,
 };
 use query::{free_count_in, nth_extent_in, read_in, record_in, size_in};
 use spec::{Answered, BlockStored, ByteOffset, Extent, FileBlock, Limits, Phase, Refusal};
@@ -80,11 +80,8 @@ fn settled(
         × (numbers.new ≡ unless_refused (done_of f.answer) numbers.old (numbers_of (encode f.session)))
         × (staged.new ≡ unless_refused (done_of f.answer) staged.old f.session.staged) }
 {
-    let s = f.session;
     if let Ok(()) = f.answer {
-        let cells = s.staged;
-        *staged = cells;
-        keep(numbers, encode(s));
+        keep_session(numbers, staged, f.session);
     }
     finished(f.answer)
 }
@@ -99,7 +96,7 @@ pub extern "C" fn purse_format_v(
     ensures { (work : List ℕ) → Ends finished_of result (lent numbers.old staged.old device.old work)
         (lent numbers.new staged.new device.new work) format }
 {
-    let before = decode(head_in(numbers), *staged);
+    let before = session_in(numbers, staged);
     let after = format(device, before);
     settled(numbers, staged, after)
 }
@@ -114,7 +111,7 @@ pub extern "C" fn purse_open_v(
     ensures { (work : List ℕ) → Ends finished_of result (lent numbers.old staged.old device.now work)
         (lent numbers.new staged.new device.now work) open_store }
 {
-    let before = decode(head_in(numbers), *staged);
+    let before = session_in(numbers, staged);
     let after = open_store(device, before);
     settled(numbers, staged, after)
 }
@@ -200,24 +197,20 @@ pub extern "C" fn purse_abort_v(
     ensures { Ends finished_of result (lent numbers.old staged.old device.now work.now)
         (lent numbers.new staged.new device.now work.now) abort }
 {
-    let before = decode(head_in(numbers), *staged);
+    let before = session_in(numbers, staged);
     let after = abort(device, work, before);
     settled(numbers, staged, after)
 }
 
-// What a call that changes a lent session leaves in its numbers: the same where it is refused, else blocks and phase as they were, and how many cells are
-// in use.
-fn changed(numbers: &mut [u64; 4], s: Parts, count: usize, answer: Result<(), Refusal>) -> CFinished
+// What a call that changes a lent session leaves in its numbers: the same where it is refused, else the session's, with as many cells in use as it left.
+fn changed(numbers: &mut [u64; 4], s: Parts, answer: Result<(), Refusal>) -> CFinished
     ensures { (result ≡ finished_of (done_of answer))
-        × (numbers.new ≡ unless_refused (done_of answer) numbers.old (numbers_of (head_of s.blocks s.phase count))) }
+        × (numbers.new ≡ unless_refused (done_of answer) numbers.old (numbers_of (head_of s.blocks s.phase s.count))) }
 {
-    match answer {
-        Ok(_) => {
-            s.keep(numbers, s.phase, count);
-            finished(Ok(()))
-        }
-        Err(why) => finished(Err(why)),
+    if answer.is_ok() {
+        s.keep(numbers, s.phase, s.count);
     }
+    finished(answer)
 }
 
 // Makes an empty file.
@@ -232,11 +225,10 @@ pub extern "C" fn purse_create_v(
     ensures { Ends finished_of result (lent numbers.old staged.old device.now work.old)
         (lent numbers.new staged.new device.now work.new) (λ s. create s name.now) }
 {
-    let s = Parts::of(numbers);
-    let mut session = LentSession::new(device, work, s.blocks, s.phase, staged, s.count);
-    let answer = create_in(&mut session, name);
-    let count = session.count;
-    changed(numbers, s, count, answer)
+    let mut s = Parts::of(numbers);
+    let mut lent = LentSession::new(device, work, s.blocks, s.phase, staged, &mut s.count);
+    let answer = create_in(&mut lent, name);
+    changed(numbers, s, answer)
 }
 
 // Removes a file.
@@ -251,11 +243,10 @@ pub extern "C" fn purse_remove_v(
     ensures { Ends finished_of result (lent numbers.old staged.old device.now work.old)
         (lent numbers.new staged.new device.now work.new) (λ s. remove s name.now) }
 {
-    let s = Parts::of(numbers);
-    let mut session = LentSession::new(device, work, s.blocks, s.phase, staged, s.count);
-    let answer = remove_in(&mut session, name);
-    let count = session.count;
-    changed(numbers, s, count, answer)
+    let mut s = Parts::of(numbers);
+    let mut lent = LentSession::new(device, work, s.blocks, s.phase, staged, &mut s.count);
+    let answer = remove_in(&mut lent, name);
+    changed(numbers, s, answer)
 }
 
 // Names a file anew.
@@ -271,11 +262,10 @@ pub extern "C" fn purse_rename_v(
     ensures { Ends finished_of result (lent numbers.old staged.old device.now work.old)
         (lent numbers.new staged.new device.now work.new) (λ s. rename s name.now new.now) }
 {
-    let s = Parts::of(numbers);
-    let mut session = LentSession::new(device, work, s.blocks, s.phase, staged, s.count);
-    let answer = rename_in(&mut session, name, new);
-    let count = session.count;
-    changed(numbers, s, count, answer)
+    let mut s = Parts::of(numbers);
+    let mut lent = LentSession::new(device, work, s.blocks, s.phase, staged, &mut s.count);
+    let answer = rename_in(&mut lent, name, new);
+    changed(numbers, s, answer)
 }
 
 // Bytes laid over a file from byte x on.
@@ -292,11 +282,10 @@ pub extern "C" fn purse_write_v(
     ensures { Ends finished_of result (lent numbers.old staged.old device.now work.old)
         (lent numbers.new staged.new device.now work.new) (λ s. write s name.now x bytes.now) }
 {
-    let s = Parts::of(numbers);
-    let mut session = LentSession::new(device, work, s.blocks, s.phase, staged, s.count);
-    let answer = write_in(&mut session, name, ByteOffset(x as usize), bytes);
-    let count = session.count;
-    changed(numbers, s, count, answer)
+    let mut s = Parts::of(numbers);
+    let mut lent = LentSession::new(device, work, s.blocks, s.phase, staged, &mut s.count);
+    let answer = write_in(&mut lent, name, ByteOffset(x as usize), bytes);
+    changed(numbers, s, answer)
 }
 
 // A file cut, or lengthened by zeros.
@@ -312,18 +301,17 @@ pub extern "C" fn purse_set_size_v(
     ensures { Ends finished_of result (lent numbers.old staged.old device.now work.old)
         (lent numbers.new staged.new device.now work.new) (λ s. set_size s name.now size) }
 {
-    let s = Parts::of(numbers);
-    let mut session = LentSession::new(device, work, s.blocks, s.phase, staged, s.count);
-    let answer = set_size_in(&mut session, name, size as usize);
-    let count = session.count;
-    changed(numbers, s, count, answer)
+    let mut s = Parts::of(numbers);
+    let mut lent = LentSession::new(device, work, s.blocks, s.phase, staged, &mut s.count);
+    let answer = set_size_in(&mut lent, name, size as usize);
+    changed(numbers, s, answer)
 }
 
 // Bytes of a file from byte x on, as many as the buffer takes and the file has; how many.
 #[unsafe(no_mangle)]
-pub extern "C" fn purse_read_v<'a>(
-    device: &'a [u8],
-    work: &'a [u8],
+pub extern "C" fn purse_read_v(
+    device: &[u8],
+    work: &[u8],
     numbers: &[u64; 4],
     name: &[u8],
     staged: &[u32; Limits::LOG_LENGTH],
@@ -340,9 +328,9 @@ pub extern "C" fn purse_read_v<'a>(
 
 // The size of a file in bytes.
 #[unsafe(no_mangle)]
-pub extern "C" fn purse_size_v<'a>(
-    device: &'a [u8],
-    work: &'a [u8],
+pub extern "C" fn purse_size_v(
+    device: &[u8],
+    work: &[u8],
     numbers: &[u64; 4],
     name: &[u8],
     staged: &[u32; Limits::LOG_LENGTH],
@@ -355,9 +343,9 @@ pub extern "C" fn purse_size_v<'a>(
 
 // How many blocks are free.
 #[unsafe(no_mangle)]
-pub extern "C" fn purse_free_count_v<'a>(
-    device: &'a [u8],
-    work: &'a [u8],
+pub extern "C" fn purse_free_count_v(
+    device: &[u8],
+    work: &[u8],
     numbers: &[u64; 4],
     staged: &[u32; Limits::LOG_LENGTH],
 ) -> CCounted
@@ -369,9 +357,9 @@ pub extern "C" fn purse_free_count_v<'a>(
 
 // Name and size of record i, or that it is empty: the name lent is then zero. A refusal leaves it.
 #[unsafe(no_mangle)]
-pub extern "C" fn purse_record_v<'a>(
-    device: &'a [u8],
-    work: &'a [u8],
+pub extern "C" fn purse_record_v(
+    device: &[u8],
+    work: &[u8],
     numbers: &[u64; 4],
     i: u64,
     staged: &[u32; Limits::LOG_LENGTH],
@@ -386,9 +374,9 @@ pub extern "C" fn purse_record_v<'a>(
 
 // The k-th extent of the run list of n blocks of a file from a block on, counted from 0.
 #[unsafe(no_mangle)]
-pub extern "C" fn purse_nth_extent_v<'a>(
-    device: &'a [u8],
-    work: &'a [u8],
+pub extern "C" fn purse_nth_extent_v(
+    device: &[u8],
+    work: &[u8],
     numbers: &[u64; 4],
     name: &[u8],
     staged: &[u32; Limits::LOG_LENGTH],
@@ -443,9 +431,9 @@ fn list_runs(
 
 // The run list itself, into pairs of cells, first block and count; a last cell without a partner is no place of the list.
 #[unsafe(no_mangle)]
-pub extern "C" fn purse_run_list_v<'a>(
-    device: &'a [u8],
-    work: &'a [u8],
+pub extern "C" fn purse_run_list_v(
+    device: &[u8],
+    work: &[u8],
     numbers: &[u64; 4],
     name: &[u8],
     staged: &[u32; Limits::LOG_LENGTH],

@@ -6,6 +6,7 @@ use mathlib.Core.List.{List, [], ◌∷◌, ◌++◌}
 use mathlib.Core.Option.{Option as Maybe, none, some, some-ne-none}
 use Rattle.std.specs.Prelude.{Option, Some, None, Result, Ok, Err, ◌==◌, count_by}
 use Rattle.std.specs.Int.{to_le_bytes, w64}
+use Rattle.std.proofs.lemmas.List.{drop-drop, take_min}
 use Rattle.std.proofs.lemmas.List.Recursion.{is_count_by}
 use native.Mathlib.Omega.{arith}
 use native.Mathlib.Nat.{pow-succ', pow-le-pow_right, mod-eq_of_lt}
@@ -226,11 +227,9 @@ head-is l k = let z : k - 0 ≡ k = omega arith in rw z
 pub tail-is : (l : List ℕ) (k : ℕ) → take (length l - k) (drop k l) ≡ drop k l
 tail-is l k = take_all (length l - k) (drop k l) (let z = length-drop k l in omega arith)
 
-pub head-serial : (r : Option Serial) (c : ℕ) (l : List ℕ) (k : ℕ) → r ≡ serial_told (serial_of c (take (k - 0) l)) → r ≡ serial_told (serial_of c (take k l))
-head-serial r c l k e = e ∙ ap (λ (t : List ℕ). serial_told (serial_of c t)) (head-is l k)
-
-pub tail-cents : (r : Option ℕ) (l : List ℕ) (k : ℕ) → r ≡ number_told (amount_of (take (length l - k) (drop k l))) → r ≡ number_told (amount_of (drop k l))
-tail-cents r l k e = e ∙ ap (λ (t : List ℕ). number_told (amount_of t)) (tail-is l k)
+-- the amount's digits, behind the letter between its semicolons
+pub cents-in : (l rest : List ℕ) (k : ℕ) → rest ≡ drop k l → take (length rest - 3) (drop 3 rest) ≡ drop (k + 3) l
+cents-in l rest k e = tail-is rest 3 ∙ ap (drop 3) e ∙ drop-drop 3 k l
 
 -- ---- a place of a text
 
@@ -308,16 +307,9 @@ feeds-are xs = is_count_by (occurs 10) (λ c. c == 10) refl step xs
         go true e = rw e
         go false e = rw e (omega arith)
 
-take-min : {A : Type 0} (n : ℕ) (l : List A) → take (min n (length l)) l ≡ take n l
-take-min zero l = let z : min 0 (length l) ≡ 0 = omega arith in rw z
-take-min (suc n) [] = let z : min (suc n) 0 ≡ 0 = omega arith in rw z
-take-min (suc n) (x ∷ l) =
-    let z : min (suc n) (suc (length l)) ≡ suc (min n (length l)) = omega arith in
-    rw (z, take-min n l)
-
 pub number-is : (text : List ℕ) (at n : ℕ) → n ≡ count_by (λ c. c == 10) (take (min at (length text)) text) → 1 + n ≡ line_number text at
 unfolding line_number
-number-is text at n e = omega (arith, e, feeds-are (take at text), ap (count_by (λ c. c == 10)) (take-min at text))
+number-is text at n e = omega (arith, e, feeds-are (take at text), ap (count_by (λ c. c == 10)) (take_min at text))
 
 -- ---- names
 
@@ -387,4 +379,4 @@ pub ruleset cents_rules = (cents-none, cents-many, cents-idle, cents-good)
 pub ruleset place_rules = (at-end, at-inside)
 
 -- what the answers of form_of need
-pub ruleset form_rules = (form-short, form-open, form-letter, form-serial, form-cents, form-good, head-serial, tail-cents, tail-is)
+pub ruleset form_rules = (form-short, form-open, form-letter, form-serial, form-cents, form-good)

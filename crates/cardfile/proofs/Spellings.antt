@@ -11,6 +11,7 @@ use lib.ListN.{length, take, drop, get_or, length-append, take-append-drop, get_
 use lib.Seq.{take-append_seam, drop-append-add, get_or-append-add}
 use lib.Dec.{eqb, ltb, leb}
 use borrow.Author.Tests.{eqb-true, eqb-false, eq-eqb, ne_eqb, lt-ltb, le-ltb, le-leb, ltb-true, ltb-false, leb-true, leb-false}
+pub use Rattle.text.proofs.Laws.{length-hex}
 use Rattle.spec.specs.Listing.{digits, decimal, hex_digit, hexadecimal}
 use Rattle.cardfile.specs.Cards.{IsSerial, Proper, letter_h, letter_d, number_of, bytes_of, padded, digits_for, spell, line_text, digit_value, hex_value, hex_byte, in_front, read_hex, read_decimal, within, serial_h, serial_d, serial_of, amount_of, Entry, entry, before, split, entry_of}
 use Rattle.cardfile.proofs.Laws.{hex-low, hex-digit, hex-gap, hex-high, hex-letter, pair-first, pair-second, pair-both, decimal-next, decimal-done, before-hit, before-miss, next-byte, length-bytes, number-bytes, hex-length}
@@ -88,10 +89,6 @@ pair_is a b h = go (ltb (hex_value a) 16) refl (ltb (hex_value b) 16) refl
         record { high = ap hex_digit f ∙ hex-digit-is a x; low = ap hex_digit g ∙ hex-digit-is b y }
 
 -- ---- hexadecimal serials
-
-pub length-hex : (s : List ℕ) → length (hexadecimal s) ≡ 2 * length s
-length-hex [] = refl
-length-hex (x ∷ s) = let z = length-hex s in omega arith
 
 free-hex : (s : List ℕ) → ((i : ℕ) → get_or s i 0 < 256) → Free 59 (hexadecimal s)
 unfolding Free

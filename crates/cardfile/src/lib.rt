@@ -1,9 +1,11 @@
 // The printer's file: what stands at a place of it, line by line. What a line says is defined in specs/Cards.antt, what stands at a place in specs/Lines.antt.
 #![tactic(auto)]
 
-ghost use Rattle.std.specs.Prelude.{◌≡◌, ◌+◌, ◌-◌, ◌*◌, ◌<◌, ◌≤◌, ◌^◌, ◌==◌, min, position, length};
+ghost use Rattle.std.specs.Prelude.{◌≡◌, ◌+◌, ◌-◌, ◌*◌, ◌%◌, ◌<◌, ◌≤◌, ◌^◌, ◌==◌, min, position, length};
 ghost use Rattle.cardfile.specs.Cards.{before, digit_value, hex_value, hex_byte, read_hex, read_decimal, within, serial_h, serial_d, serial_of, amount_of, entry_of, amount_bytes};
 ghost use Rattle.cardfile.specs.Lines.{line_of, line_number, below, letter_of, spelling_of, line_fault_number, number_told, bytes_told, serial_told, form_told, line_in, line_at, name_told};
+
+use spec::Limits;
 
 // The two spellings of a serial: H lines and D lines.
 #[derive(Clone, Copy, PartialEq, Eq)]
@@ -35,7 +37,8 @@ impl Spelling {
     }
 }
 
-// How many bytes a serial has, and the number that they make, the first the lowest.
+// How many bytes a serial has, and the number that they make, the first the lowest. No type keeps the number of bytes to the two widths, and the number to what they
+// hold: name_of takes a card with any, and would then ask more of callers.
 #[derive(Clone, Copy)]
 pub struct Serial {
     pub bytes: usize,
@@ -56,9 +59,7 @@ impl Serial {
 
     pub const LONG_DECIMAL: usize = 17;
 
-    // One more than four bytes hold, and than seven.
-    pub const SHORT_LIMIT: u64 = 4294967296;
-
+    // One more than seven bytes hold.
     pub const LONG_LIMIT: u64 = 72057594037927936;
 }
 
@@ -108,6 +109,7 @@ impl LineFault {
 }
 
 // The place of the first x: in a function of its own, where the proof finds what std's position answers; within `until` it did not.
+// Transaction searches its cells so: the one crate below both is spec, which has no code but its types', so each keeps its one line.
 fn place_of(s: &[u8], x: u8) -> Option<usize>
     ensures { result ≡ position (λ c. c == x) s.now }
 {
@@ -175,13 +177,13 @@ fn decimal_number(t: &[u8]) -> Option<u64>
 
 // The number of the bytes that hexadecimal digits spell, from the last byte on.
 #[tactic(auto, using(crate::proofs::Laws::hex_rules))]
-fn hex_number(t: &[u8], bytes: usize) -> Option<u64>
-    requires { (length t.now ≡ 2 * bytes) × (bytes ≤ 7) }
+fn hex_number(t: &[u8]) -> Option<u64>
+    requires { (length t.now % 2 ≡ 0) × (length t.now ≤ 14) }
     ensures { result ≡ bytes_told (read_hex t.now) }
 {
     let mut n = 0;
-    for k in (0..bytes).rev() {
-        n = 256 * n + hex_byte(t[2 * k], t[2 * k + 1])?;
+    for [a, b] in t.as_chunks::<2>().0.iter().rev() {
+        n = 256 * n + hex_byte(*a, *b)?;
     }
     Some(n)
 }
@@ -192,7 +194,7 @@ fn hex_serial(t: &[u8], bytes: usize) -> Option<Serial>
     requires { (length t.now ≡ 2 * bytes) × (bytes ≤ 7) }
     ensures { result ≡ serial_told (read_hex t.now) }
 {
-    let number = hex_number(t, bytes)?;
+    let number = hex_number(t)?;
     Some(Serial { bytes, number })
 }
 
@@ -208,14 +210,14 @@ fn serial_h(t: &[u8]) -> Option<Serial>
     }
 }
 
-// The serial that decimal digits spell; its bytes hold the numbers below a limit.
+// The serial that decimal digits spell, if its bytes hold the number.
 #[tactic(auto, using(crate::proofs::Laws::within_rules))]
-fn decimal_serial(t: &[u8], bytes: usize, limit: u64) -> Option<Serial>
-    requires { (length t.now ≤ 17) × (limit ≡ 256 ^ bytes) }
+fn decimal_serial(t: &[u8], bytes: usize) -> Option<Serial>
+    requires { (length t.now ≤ 17) × (bytes ≤ 7) }
     ensures { result ≡ serial_told (within bytes (read_decimal 0 t.now)) }
 {
     let number = decimal_number(t)?;
-    (number < limit).then_some(Serial { bytes, number })
+    (number < 256u64.pow(bytes as u32)).then_some(Serial { bytes, number })
 }
 
 // The serial of a D line.
@@ -224,8 +226,8 @@ fn serial_d(t: &[u8]) -> Option<Serial>
     ensures { result ≡ serial_told (serial_d t.now) }
 {
     match t.len() {
-        Serial::SHORT_DECIMAL => decimal_serial(t, Serial::SHORT, Serial::SHORT_LIMIT),
-        Serial::LONG_DECIMAL => decimal_serial(t, Serial::LONG, Serial::LONG_LIMIT),
+        Serial::SHORT_DECIMAL => decimal_serial(t, Serial::SHORT),
+        Serial::LONG_DECIMAL => decimal_serial(t, Serial::LONG),
         _ => None,
     }
 }
@@ -259,13 +261,12 @@ fn form_of(line: &[u8]) -> Option<Card>
     requires { length line.now ≤ 64 }
     ensures { result ≡ form_told (entry_of line.now) }
 {
-    let k = until(line, b';');
-    if line.len() <= k + 2 || line[k + 2] != b';' {
+    let (serial, rest) = line.split_at(until(line, b';'));
+    let [_, letter, b';', cents @ ..] = rest else {
         return None;
-    }
-    let spelling = Spelling::of_letter(line[k + 1])?;
-    let serial = serial_of(&line[..k], spelling)?;
-    let cents = &line[k + 3..];
+    };
+    let spelling = Spelling::of_letter(*letter)?;
+    let serial = serial_of(serial, spelling)?;
     let amount = amount_of(cents)?;
     Some(Card {
         serial,
@@ -349,7 +350,7 @@ pub fn line_number(text: &[u8], at: usize) -> usize
 
 // The name of a card (that of a record is read by crate inode): the number of its serial's bytes, these bytes, zeros.
 #[tactic(auto, using(crate::proofs::Forms::bytes_rules))]
-pub fn name_of(card: Card) -> [u8; 8]
+pub fn name_of(card: Card) -> [u8; Limits::NAME_SIZE]
     ensures { result ≡ name_told card.serial.bytes card.serial.number }
 {
     let bytes = card.serial.bytes % 256;

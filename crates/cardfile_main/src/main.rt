@@ -22,11 +22,10 @@ fn show_card(rt: &impl Print, card: Card) -> io::Result<()> {
 
 // A byte that can be seen as it is, others by their hexadecimal digits.
 fn show_sign(rt: &impl Print, c: u8) -> io::Result<()> {
-    if c < 32 || 126 < c {
-        rt.write_all(b"\\")?;
-        return print!(rt; "{c:02X}");
+    match c {
+        b' '..=b'~' => rt.write_all(&[c]),
+        _ => print!(rt; "\\{c:02X}"),
     }
-    rt.write_all(&[c])
 }
 
 fn show_text(rt: &impl Print, text: &[u8]) -> io::Result<()> {

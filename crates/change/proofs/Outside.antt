@@ -42,18 +42,25 @@ module _ (held old size x : ℕ) (bytes : List ℕ) (p : ℕ) where
       go (inl l) = rw (lt-ltb size old l) (last (not (eqb (size % 512) 0)) (ne_eqb p (size / 512) (h l)))
       go (inr l) = rw (le-ltb size old l)
 
-  not-staged : p < held → ((0 < length bytes) → (512 * (p + 1) ≤ x) ⊎ (x + length bytes ≤ 512 * p)) → (size < old → p ≡ size / 512 → ⊥)
+  not-staged : p < held → ((0 < length bytes) → (512 * (p + 1) ≤ x) ⊎ (x + length bytes ≤ 512 * p)) → is_last_kept old size p ≡ false
       → is_staged held old size x bytes p ≡ false
-  not-staged h d k = rw (lt-leb held p h, no-data d, not-kept k)
+  not-staged h d k = rw (lt-leb held p h, no-data d, k)
 
 -- what the numbers of a window tell
-pub outside : (held old size x : ℕ) (bytes : List ℕ) (low high : FileBlock) → low.0 ≤ held → (0 < length bytes → low.0 ≤ x / 512) → (size < old → low.0 ≤ size / 512)
-    → x + length bytes ≤ 512 * high.0 → (size < old → size / 512 < high.0) → Outside held old size x bytes (record { low = low; high = high })
-outside held old size x bytes low high lh ld lk hd hk =
-    record {
-      below = λ p h. not-staged held old size x bytes p (omega arith) (λ l. let z = ld l in inl (omega arith)) (λ l e. let z = lk l in omega arith);
-      between = λ p h m. not-staged held old size x bytes p m (λ l. inr (omega arith)) (λ l e. let z = hk l in omega arith);
-    }
+module _ (held old size x : ℕ) (bytes : List ℕ) (low high : FileBlock) (lh : low.0 ≤ held) (ld : 0 < length bytes → low.0 ≤ x / 512) (hd : x + length bytes ≤ 512 * high.0) where
+  pub outside-none : ((p : ℕ) → is_last_kept old size p ≡ false) → Outside held old size x bytes (record { low = low; high = high })
+  outside-none k =
+      record {
+        below = λ p h. not-staged held old size x bytes p (omega arith) (λ l. let z = ld l in inl (omega arith)) (k p);
+        between = λ p h m. not-staged held old size x bytes p m (λ l. inr (omega arith)) (k p);
+      }
+
+  pub outside_kept : low.0 ≤ size / 512 → size / 512 < high.0 → Outside held old size x bytes (record { low = low; high = high })
+  outside_kept lk hk =
+      record {
+        below = λ p h. not-staged held old size x bytes p (omega arith) (λ l. let z = ld l in inl (omega arith)) (not-kept held old size x bytes p (λ l e. omega arith));
+        between = λ p h m. not-staged held old size x bytes p m (λ l. inr (omega arith)) (not-kept held old size x bytes p (λ l e. omega arith));
+      }
 
 -- ---- what the code's tests tell
 

@@ -20,7 +20,7 @@ use Rattle.change.specs.declared.plan.Plan.{Plan}
 -- a change as the code tells it
 abbrev pub change_of : Plan → Change
 change_of p =
-    record { tree = tree_with p.table.now p.extents.now p.nodes p.before p.data.held; «record» = p.inode; old = p.data.old; size = p.data.size; x = p.data.x.0; bytes = p.data.bytes.now }
+    record { tree = tree_with p.table.now p.draft.extents.now p.draft.nodes p.draft.before p.data.held; «record» = p.inode; old = p.data.old; size = p.data.size; x = p.data.x.0; bytes = p.data.bytes.now }
 
 -- the content of a block: the bitmap, the record's block, node j, the file's data block p
 unfoldable pub content_of : ℕ → Change → Content → List ℕ → List ℕ

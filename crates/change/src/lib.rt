@@ -10,6 +10,7 @@ ghost use Rattle.spec.specs.Transaction.{BlockStore, view, ascending, put, stage
 ghost use Rattle.block.specs.Stores.{stored_in};
 ghost use Rattle.transaction.specs.Places.{spot};
 ghost use Rattle.transaction.specs.LentSessions.{session_lent, numbers_lent, state_lent, Held};
+ghost use Rattle.transaction.specs.Images.{session_of_image, state_of_image, work_of_image, Same};
 ghost use Rattle.transaction.specs.Volumes.{working};
 ghost use Rattle.inode.specs.Records.{bytes_in};
 ghost use Rattle.content.specs.Content.{with_record, data_content};
@@ -27,7 +28,7 @@ use content::{RecordPrefix, Rewrite, lay_record, node_content};
 use inode::{InodeNumber, inode_block, table_block};
 use runs::{DataBlock, block_count};
 use spec::{DiskBlock, Extent, FileBlock, Limits, Refusal};
-use transaction::{Staging, WorkingCopy};
+use transaction::{Image, Staging, WorkingCopy};
 
 mod plan;
 
@@ -40,7 +41,7 @@ fn edit_block(block: &mut [u8; Limits::BLOCK_SIZE], plan: &Plan, content: Conten
     match content {
         Content::Bitmap => *block = *plan.table,
         Content::Record => lay_record(block, plan.number.n, RecordPrefix { bytes: &plan.inode }),
-        Content::Node(j) => *block = node_content(plan.extents, j),
+        Content::Node(j) => *block = node_content(plan.draft.extents, j),
         Content::Data(p) => plan.data.lay(block, p),
     }
 }
@@ -56,7 +57,7 @@ fn edit_image(image: &mut [u8], plan: &Plan, content: Content)
     edit_block(block, plan, content);
 }
 
-// The first bytes of record i replaced in the image of its block.
+// The first bytes of record i replaced in the image of its block. No closure for this and `edit_image` in one: the contract of each would stand again at it.
 fn lay_in_image(image: &mut [u8], i: InodeNumber, new: RecordPrefix)
     requires { length image.old ≡ 512 }
     ensures { image.new ≡ with_record i.n new.entry.bytes.now image.old }
@@ -115,7 +116,8 @@ fn add_record(
     agenda.insert(table_block(i), Content::Record)
 }
 
-// Of the places of a file's blocks below `low`, and of those from `high` on that were held before, none is staged.
+// Of the places of a file's blocks below `low`, and of those from `high` on that were held before, none is staged. No Range: of those from `high` on the new
+// ones are staged.
 #[derive(Clone, Copy)]
 pub struct Window {
     pub low: FileBlock,
@@ -127,10 +129,17 @@ impl Window {
     fn of(rewrite: &Rewrite) -> Window
         ensures { Outside rewrite.now.held rewrite.now.old rewrite.now.size rewrite.now.x.0 rewrite.now.bytes.now result }
     {
+        let first = rewrite.first_data();
         let behind = (rewrite.x.0 + rewrite.bytes.len()).div_ceil(Limits::BLOCK_SIZE);
-        Window {
-            low: FileBlock(rewrite.first_data().min(rewrite.first_kept())),
-            high: FileBlock(behind.max(rewrite.kept_end())),
+        match rewrite.last_kept() {
+            Some(k) => Window {
+                low: FileBlock(first.min(k.0)),
+                high: FileBlock(behind.max(k.0 + 1)),
+            },
+            None => Window {
+                low: FileBlock(first),
+                high: FileBlock(behind),
+            },
         }
     }
 }
@@ -183,9 +192,9 @@ impl Plan<'_, '_> {
     {
         let first = DiskBlock(e.first);
         let end = at.0 + e.count as usize;
-        let new = self.data.held.max(at.0).min(end);
-        let high = w.high.0.max(at.0).min(new);
-        let low = w.low.0.max(at.0).min(high);
+        let new = self.data.held.clamp(at.0, end);
+        let high = w.high.0.clamp(at.0, new);
+        let low = w.low.0.clamp(at.0, high);
         self.add_places(agenda, first, at, new, end)?;
         self.add_places(agenda, first, at, low, high)
     }
@@ -195,8 +204,8 @@ impl Plan<'_, '_> {
         ensures { (v : Disk) → Lists (content_by v self.now) agenda.old [] → Told result (content_by v self.now) agenda.new (ascending (data_from v self.now 0)) }
     {
         let w = Window::of(&self.data);
-        let mut at = block_count(self.extents) as usize;
-        for e in self.extents.iter().rev() {
+        let mut at = block_count(self.draft.extents) as usize;
+        for e in self.draft.extents.iter().rev() {
             let end = at;
             at -= e.count as usize;
             if (w.low.0 < end) & ((at < w.high.0) | (self.data.held < end)) {
@@ -218,8 +227,8 @@ impl Plan<'_, '_> {
         ensures { Lists (content_by (working copy.now) self.now) agenda.old (ascending (nodes_from (working copy.now) self.now (j + 1)))
             → Told result (content_by (working copy.now) self.now) agenda.new (ascending (nodes_from (working copy.now) self.now j)) }
     {
-        if usize::from(j) < self.before {
-            let new = node_content(self.extents, j);
+        if usize::from(j) < self.draft.before {
+            let new = node_content(self.draft.extents, j);
             return add_block(agenda, copy, b, Content::Node(j), &new);
         }
         agenda.insert(b, Content::Node(j))
@@ -230,7 +239,7 @@ impl Plan<'_, '_> {
         ensures { Lists (content_by (working copy.now) self.now) agenda.old (ascending (data_from (working copy.now) self.now 0))
             → Told result (content_by (working copy.now) self.now) agenda.new (ascending (nodes_from (working copy.now) self.now 0)) }
     {
-        let nodes = self.nodes.blocks();
+        let nodes = self.draft.nodes.as_slice();
         for (j, b) in nodes.iter().enumerate().rev() {
             self.add_node(agenda, copy, j as u8, DiskBlock(*b))?;
         }
@@ -263,21 +272,36 @@ fn is_made_anew(held: usize, content: Content) -> bool
     }
 }
 
-// The image of block b, whose place is k, made ready for its content: it is loaded, unless that is made anew.
-fn ready_image(images: &mut Staging, b: DiskBlock, k: usize, held: usize, content: Content)
-    requires { (k ≡ spot (numbers_lent images.old.lent.now) b.0) × (k < 32) }
-    ensures parts { Held images.old images.new }
-    ensures numbers { session_lent images.new.lent.now ≡ session_lent images.old.lent.now }
+// The image of a block made ready for its content: it is loaded, unless that is made anew.
+fn ready_image(image: &mut Image, held: usize, content: Content)
+    ensures parts { Same image.old image.new }
+    ensures numbers { session_of_image image.new ≡ session_of_image image.old }
     ensures bytes { (i : ℕ) (c : Change) → c.tree.held ≡ held
-        → Ready (content_of i c content) (view (state_lent images.old.lent.now) b.0) images.old.lent.now.work.now images.new.lent.now.work.now k }
+        → Ready (content_of i c content) (view (state_of_image image.old) image.old.block.0) (work_of_image image.old) (work_of_image image.new) image.old.place }
 {
     if is_made_anew(held, content) {
         return;
     }
-    images.load(b, k);
+    image.load();
 }
 
-// A block staged with its content, which is made in its image.
+// The block of an image staged with its content, which is made in the image.
+fn stage_image(image: &mut Image, plan: &Plan, content: Content)
+    ensures parts { Same image.old image.new }
+    ensures state { state_of_image image.new
+        ≡ with_staging (state_of_image image.old) (stage (staged_of (state_of_image image.old))
+        (put image.old.block.0 (content_of plan.now.number.n (change_of plan.now) content (view (state_of_image image.old) image.old.block.0)))) }
+{
+    let at = Limits::BLOCK_SIZE * image.place;
+    ready_image(image, plan.data.held, content);
+    let images = &mut *image.images;
+    let lent = &mut *images.lent;
+    let work = &mut *lent.work;
+    edit_image(&mut work[at..at + Limits::BLOCK_SIZE], plan, content);
+    image.add();
+}
+
+// A block staged with its content.
 fn stage_block(images: &mut Staging, plan: &Plan, planned: Planned)
     requires { spot (numbers_lent images.old.lent.now) planned.block.0 < 32 }
     ensures parts { Held images.old images.new }
@@ -286,32 +310,31 @@ fn stage_block(images: &mut Staging, plan: &Plan, planned: Planned)
         (put planned.block.0 (content_of plan.now.number.n (change_of plan.now) planned.content
         (view (state_lent images.old.lent.now) planned.block.0)))) }
 {
-    let b = planned.block;
-    let k = images.lent.spot(b);
-    ready_image(images, b, k, plan.data.held, planned.content);
-    let lent = &mut *images.lent;
-    let work = &mut *lent.work;
-    let at = Limits::BLOCK_SIZE * k;
-    let image = &mut work[at..at + Limits::BLOCK_SIZE];
-    edit_image(image, plan, planned.content);
-    lent.add(b, k);
+    let block = planned.block;
+    let place = images.lent.spot(block);
+    let image = &mut Image {
+        images,
+        block,
+        place,
+    };
+    stage_image(image, plan, planned.content);
 }
 
-// The block of record i staged at its place k with these as the first bytes of the record.
-pub fn stage_record(images: &mut Staging, i: InodeNumber, k: usize, new: RecordPrefix)
-    requires { (k ≡ spot (numbers_lent images.old.lent.now) (block_of_inode i.n)) × (k < 32) }
-    ensures parts { Held images.old images.new }
-    ensures state { state_lent images.new.lent.now
-        ≡ with_staging (state_lent images.old.lent.now) (stage (staged_of (state_lent images.old.lent.now))
-        (put (block_of_inode i.n) (with_record i.n new.entry.bytes.now (view (state_lent images.old.lent.now) (block_of_inode i.n))))) }
+// The block of record i staged in its image with these as the first bytes of the record.
+pub fn stage_record(image: &mut Image, i: InodeNumber, new: RecordPrefix)
+    requires { image.old.block.0 ≡ block_of_inode i.n }
+    ensures parts { Same image.old image.new }
+    ensures state { state_of_image image.new
+        ≡ with_staging (state_of_image image.old) (stage (staged_of (state_of_image image.old))
+        (put (block_of_inode i.n) (with_record i.n new.entry.bytes.now (view (state_of_image image.old) (block_of_inode i.n))))) }
 {
-    let b = table_block(i);
-    images.load(b, k);
+    let at = Limits::BLOCK_SIZE * image.place;
+    image.load();
+    let images = &mut *image.images;
     let lent = &mut *images.lent;
     let work = &mut *lent.work;
-    let at = Limits::BLOCK_SIZE * k;
     lay_in_image(&mut work[at..at + Limits::BLOCK_SIZE], i, new);
-    lent.add(b, k);
+    image.add();
 }
 
 // The agenda staged, block by block.

@@ -1,47 +1,54 @@
 // The examples of document 01.
 use crate::telling::Teller;
-use mounted::SMALLEST;
 use std::io;
+use trial::SMALLEST;
 
 impl<P: Print, const N: usize> Teller<'_, P, N> {
     fn e1(&mut self) -> io::Result<()> {
-        self.begin(b"E1")?;
+        self.begin("E1")?;
         self.free()?;
-        self.bytes(b", block 33:", 16896, 16904)?;
-        self.count(b", then 255 in", 16904, 17408, 255)?;
+        self.say(", block 33:")?;
+        self.bytes(16896..16904)?;
+        self.say(", then 255 in")?;
+        self.count(16904..17408, 255)?;
         self.end()
     }
 
+    // File 1 created on an empty store.
+    pub fn one_file(&mut self, title: &str) -> io::Result<()> {
+        self.begin(title)?;
+        self.create(1)
+    }
+
     fn e2(&mut self) -> io::Result<()> {
-        self.begin(b"E2")?;
-        self.create(1)?;
+        self.one_file("E2")?;
         self.start()?;
         self.advance(4)?;
         self.end()
     }
 
     // A new file of 600 bytes, not committed.
-    fn e3_written(&mut self, title: &[u8]) -> io::Result<()> {
-        self.begin(title)?;
-        self.create(1)?;
+    fn e3_written(&mut self, title: &str) -> io::Result<()> {
+        self.one_file(title)?;
         self.write(1, 0, &[7; 600])
     }
 
     fn e3(&mut self) -> io::Result<()> {
-        self.e3_written(b"E3")?;
+        self.e3_written("E3")?;
         self.start()?;
         self.advance(10)?;
         self.record_bytes()?;
-        self.count(b", zeros in bytes 88 to 511 of block 43:", 22104, 22528, 0)?;
+        self.say(", zeros in bytes 88 to 511 of block 43:")?;
+        self.count(22104..22528, 0)?;
         self.end()
     }
 
     // A cut behind n stores, then so many stores of the recovery.
     fn e4(&mut self, n: usize, recovery: usize) -> io::Result<()> {
-        self.e3_written(b"E4")?;
+        self.e3_written("E4")?;
         self.start()?;
         self.advance(n)?;
-        self.say(b", cut")?;
+        self.say(", cut")?;
         self.reopen()?;
         self.advance(recovery)?;
         self.reopen()?;
@@ -49,13 +56,13 @@ impl<P: Print, const N: usize> Teller<'_, P, N> {
         self.end()
     }
 
-    pub fn e3_committed(&mut self, title: &[u8]) -> io::Result<()> {
+    pub fn e3_committed(&mut self, title: &str) -> io::Result<()> {
         self.e3_written(title)?;
         self.commit()
     }
 
     fn e5(&mut self) -> io::Result<()> {
-        self.e3_committed(b"E5")?;
+        self.e3_committed("E5")?;
         self.size(1)?;
         self.read(1, 590)?;
         self.read(1, 600)?;
@@ -63,8 +70,7 @@ impl<P: Print, const N: usize> Teller<'_, P, N> {
     }
 
     fn e6(&mut self) -> io::Result<()> {
-        self.begin(b"E6")?;
-        self.create(1)?;
+        self.one_file("E6")?;
         self.write(1, 1000, b"")?;
         self.size(1)?;
         self.read_zeros(1)?;
@@ -75,29 +81,31 @@ impl<P: Print, const N: usize> Teller<'_, P, N> {
         self.end()
     }
 
+    // A size set, and what is free behind it.
+    pub fn resize(&mut self, k: u8, n: usize) -> io::Result<()> {
+        self.set_size(k, n)?;
+        self.free()
+    }
+
     fn e7(&mut self) -> io::Result<()> {
-        self.begin(b"E7")?;
-        self.create(1)?;
-        self.set_size(1, 11265)?;
-        self.free()?;
-        self.set_size(1, 11264)?;
-        self.free()?;
+        self.one_file("E7")?;
+        self.resize(1, 11265)?;
+        self.resize(1, 11264)?;
         self.end()
     }
 
     // On 128 blocks.
     fn e8(&mut self) -> io::Result<()> {
-        self.begin(b"E8")?;
-        self.create(1)?;
-        self.set_size(1, 15361)?;
-        self.many_staged()?;
-        self.set_size(1, 15360)?;
-        self.many_staged()?;
+        self.one_file("E8")?;
+        for n in [15361, 15360] {
+            self.set_size(1, n)?;
+            self.many_staged()?;
+        }
         self.end()
     }
 
     fn e9(&mut self) -> io::Result<()> {
-        self.e3_committed(b"E9")?;
+        self.e3_committed("E9")?;
         self.set_size(1, 100)?;
         self.staged()?;
         self.commit()?;
@@ -106,16 +114,20 @@ impl<P: Print, const N: usize> Teller<'_, P, N> {
         self.end()
     }
 
-    // Files 1 and 2 with n blocks each, taken in turn.
-    pub fn two_files(&mut self, title: &[u8], n: usize) -> io::Result<()> {
-        self.begin(title)?;
-        self.create(1)?;
-        self.create(2)?;
+    // Files 1 and 2 created on an empty store.
+    pub fn two_files(&mut self, title: &str) -> io::Result<()> {
+        self.one_file(title)?;
+        self.create(2)
+    }
+
+    // Both with n blocks, taken in turn.
+    pub fn two_grown(&mut self, title: &str, n: usize) -> io::Result<()> {
+        self.two_files(title)?;
         self.in_turn(n)
     }
 
     fn e11(&mut self) -> io::Result<()> {
-        self.two_files(b"E11", 4)?;
+        self.two_grown("E11", 4)?;
         self.set_size(1, 2560)?;
         self.extents(1, 6)?;
         self.commit()?;
@@ -124,7 +136,7 @@ impl<P: Print, const N: usize> Teller<'_, P, N> {
     }
 
     fn e11_committed(&mut self) -> io::Result<()> {
-        self.say(b"E11 committed")?;
+        self.say("E11 committed")?;
         self.set_size(1, 2048)?;
         self.staged()?;
         self.extents(1, 5)?;
@@ -137,19 +149,17 @@ impl<P: Print, const N: usize> Teller<'_, P, N> {
 
     // 64 blocks do not hold a file of 1,048,576 bytes, so past refusal 4 comes 16.
     fn e12(&mut self) -> io::Result<()> {
-        self.begin(b"E12")?;
-        self.create(1)?;
-        self.write(1, 1048575, &[7])?;
-        self.write(1, 1048576, &[7])?;
-        self.write(1, usize::MAX, &[7])?;
+        self.one_file("E12")?;
+        for x in [1048575, 1048576, usize::MAX] {
+            self.write(1, x, &[7])?;
+        }
         self.set_size(1, 1048576)?;
         self.set_size(1, 1048577)?;
         self.end()
     }
 
     fn e13(&mut self) -> io::Result<()> {
-        self.begin(b"E13")?;
-        self.create(1)?;
+        self.one_file("E13")?;
         self.rename(1, 1)?;
         self.end()
     }

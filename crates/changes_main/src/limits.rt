@@ -1,38 +1,38 @@
 // More than the examples: full devices, blocks used again, and the limits on records and extents.
 use crate::telling::Teller;
-use mounted::SMALLEST;
 use std::io;
+use trial::SMALLEST;
 
 impl<P: Print, const N: usize> Teller<'_, P, N> {
+    // A commit, and the store opened anew.
+    fn settle(&mut self) -> io::Result<()> {
+        self.commit()?;
+        self.reopen()
+    }
+
     // The last block taken, given back and taken by another file.
     fn full(&mut self) -> io::Result<()> {
-        self.begin(b"full")?;
-        self.create(1)?;
+        self.one_file("full")?;
         self.set_size(1, 11264)?;
         self.commit()?;
         self.create(2)?;
         self.write(2, 0, &[7])?;
-        self.set_size(1, 10752)?;
-        self.free()?;
+        self.resize(1, 10752)?;
         self.write(2, 0, &[7])?;
         self.free()?;
         self.extents(2, 2)?;
-        self.commit()?;
-        self.reopen()?;
+        self.settle()?;
         self.end()
     }
 
     // One block free and a fifth extent due: the data block fits, its extent block does not.
     fn node(&mut self) -> io::Result<()> {
-        self.two_files(b"extent block", 4)?;
+        self.two_grown("extent block", 4)?;
         self.create(3)?;
-        self.set_size(3, 6656)?;
-        self.free()?;
+        self.resize(3, 6656)?;
         self.set_size(1, 2560)?;
-        self.set_size(3, 6144)?;
-        self.free()?;
-        self.set_size(1, 2560)?;
-        self.free()?;
+        self.resize(3, 6144)?;
+        self.resize(1, 2560)?;
         self.extents(1, 6)?;
         self.commit()?;
         self.record_bytes()?;
@@ -42,16 +42,14 @@ impl<P: Print, const N: usize> Teller<'_, P, N> {
 
     // A block freed and taken again in one transaction shows nothing of what it held.
     fn again(&mut self) -> io::Result<()> {
-        self.e3_committed(b"used again")?;
-        self.set_size(1, 512)?;
-        self.free()?;
+        self.e3_committed("used again")?;
+        self.resize(1, 512)?;
         self.create(2)?;
         self.set_size(2, 10)?;
         self.extents(2, 2)?;
         self.read(2, 0)?;
         self.staged()?;
-        self.commit()?;
-        self.reopen()?;
+        self.settle()?;
         self.read(1, 502)?;
         self.read(2, 0)?;
         self.end()
@@ -59,8 +57,7 @@ impl<P: Print, const N: usize> Teller<'_, P, N> {
 
     // A file of 1,500 sevens cut to a size and lengthened again.
     fn shorten(&mut self, n: usize, place: usize) -> io::Result<()> {
-        self.begin(b"shortened")?;
-        self.create(1)?;
+        self.one_file("shortened")?;
         self.write(1, 0, &[7; 1500])?;
         self.commit()?;
         self.set_size(1, n)?;
@@ -68,30 +65,28 @@ impl<P: Print, const N: usize> Teller<'_, P, N> {
         self.commit()?;
         self.set_size(1, 1500)?;
         self.read(1, place)?;
-        self.commit()?;
-        self.reopen()?;
+        self.settle()?;
         self.end()
     }
 
     fn removed(&mut self) -> io::Result<()> {
-        self.two_files(b"removed", 6)?;
+        self.two_grown("removed", 6)?;
         self.commit()?;
         self.free()?;
-        self.remove(1)?;
-        self.free()?;
-        self.remove(2)?;
-        self.free()?;
+        for k in [1, 2] {
+            self.remove(k)?;
+            self.free()?;
+        }
         self.remove(2)?;
         self.staged()?;
-        self.commit()?;
-        self.reopen()?;
+        self.settle()?;
         self.free()?;
         self.end()
     }
 
     // The record stays in its place, and create takes the lowest empty one.
     fn renamed(&mut self) -> io::Result<()> {
-        self.e3_committed(b"renamed")?;
+        self.e3_committed("renamed")?;
         self.create(2)?;
         self.rename(1, 3)?;
         self.record(0)?;
@@ -107,7 +102,7 @@ impl<P: Print, const N: usize> Teller<'_, P, N> {
     }
 
     fn aborted(&mut self) -> io::Result<()> {
-        self.e3_committed(b"aborted")?;
+        self.e3_committed("aborted")?;
         self.set_size(1, 100)?;
         self.create(2)?;
         self.free()?;
@@ -120,7 +115,7 @@ impl<P: Print, const N: usize> Teller<'_, P, N> {
     }
 
     fn records(&mut self) -> io::Result<()> {
-        self.begin(b"records, 0 to 127 created")?;
+        self.begin("records, 0 to 127 created")?;
         self.create_all(128);
         self.record(127)?;
         self.staged()?;
@@ -131,20 +126,17 @@ impl<P: Print, const N: usize> Teller<'_, P, N> {
 
     // 512 extents are the most. File 2 was grown last, so its next block follows on and makes no extent.
     fn many_extents(&mut self) -> io::Result<()> {
-        self.begin(b"extents")?;
-        self.create(1)?;
-        self.create(2)?;
+        self.two_files("extents")?;
         self.commit_in_turn(512)?;
         self.free()?;
         self.record_bytes()?;
-        self.say(b", extents 511 and 512 of 1:")?;
+        self.say(", extents 511 and 512 of 1:")?;
         self.extent(1, 511)?;
         self.extent(1, 512)?;
         self.set_size(1, 262656)?;
         self.set_size(2, 262656)?;
         self.staged()?;
-        self.commit()?;
-        self.reopen()?;
+        self.settle()?;
         self.end()
     }
 

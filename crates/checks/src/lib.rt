@@ -8,7 +8,7 @@ ghost use Rattle.spec.specs.declared.Refusal.TheVariants.{NotReady};
 ghost use Rattle.spec.specs.Disk.{is_allowed};
 ghost use Rattle.spec.specs.Inode.{is_name};
 ghost use Rattle.spec.specs.Transaction.{State, state_of};
-ghost use Rattle.transaction.specs.Volumes.{Shows};
+ghost use Rattle.transaction.specs.Volumes.{Heads};
 ghost use Rattle.spec.specs.Calls.{is_ready, lent_ok, ready_ok, name_ok};
 ghost use Rattle.checks.specs.Checks.{result_of, names_ok, name_size_ok};
 
@@ -21,23 +21,23 @@ use transaction::Volume;
 pub fn is_allowed(size: usize) -> bool
     ensures { result ≡ is_allowed size }
 {
-    if size % Limits::BLOCK_SIZE != 0 {
-        return false;
-    }
-    if size / Limits::BLOCK_SIZE < Limits::FEWEST_BLOCKS {
-        return false;
-    }
-    size / Limits::BLOCK_SIZE <= Limits::MOST_BLOCKS
+    size % Limits::BLOCK_SIZE == 0
+        && Limits::FEWEST_BLOCKS <= size / Limits::BLOCK_SIZE
+        && size / Limits::BLOCK_SIZE <= Limits::MOST_BLOCKS
 }
 
 // "the N of the session"
 fn same_size(size: usize, blocks: usize) -> bool
     ensures { result ≡ eqb (512 * blocks) size }
 {
-    if size % Limits::BLOCK_SIZE != 0 {
-        return false;
-    }
-    blocks == size / Limits::BLOCK_SIZE
+    size % Limits::BLOCK_SIZE == 0 && blocks == size / Limits::BLOCK_SIZE
+}
+
+// A test, refused where it fails.
+pub fn require(holds: bool, why: Refusal) -> Result<(), Refusal>
+    ensures { result_of result ≡ require holds why }
+{
+    if holds { Ok(()) } else { Err(why) }
 }
 
 // 1 and 2, of every session on so many blocks. Parameters and no Volume: an advance is lent the device to change it, and a Volume only reads; this serves both.
@@ -45,33 +45,21 @@ fn same_size(size: usize, blocks: usize) -> bool
 pub fn lent(device: &[u8], work: &[u8], blocks: usize) -> Result<(), Refusal>
     ensures { (s : Session) → s.blocks ≡ blocks → result_of result ≡ lent_ok (state_of s device.now work.now) }
 {
-    if !is_allowed(device.len()) {
-        return Err(Refusal::DeviceSize);
-    }
-    if !same_size(device.len(), blocks) {
-        return Err(Refusal::DeviceSize);
-    }
-    if work.len() != Limits::WORK_SIZE {
-        return Err(Refusal::WorkSize);
-    }
-    Ok(())
+    let fits = is_allowed(device.len()) && same_size(device.len(), blocks);
+    require(fits, Refusal::DeviceSize)?;
+    require(work.len() == Limits::WORK_SIZE, Refusal::WorkSize)
 }
 
 // 12
 fn ready_phase(phase: Phase) -> Result<(), Refusal>
     ensures { result_of result ≡ require (is_ready phase) NotReady }
 {
-    match phase {
-        Phase::Closed => Err(Refusal::NotReady),
-        Phase::Ready => Ok(()),
-        Phase::Committing(_) => Err(Refusal::NotReady),
-        Phase::Recovering(_) => Err(Refusal::NotReady),
-    }
+    require(phase == Phase::Ready, Refusal::NotReady)
 }
 
 // 1 and 2, of a volume
 fn lent_volume(volume: &Volume) -> Result<(), Refusal>
-    ensures { (s : State) → Shows volume.now s → result_of result ≡ lent_ok s }
+    ensures { (s : State) → Heads volume.now s → result_of result ≡ lent_ok s }
 {
     lent(volume.copy.device, volume.copy.work, volume.blocks)
 }
@@ -79,7 +67,7 @@ fn lent_volume(volume: &Volume) -> Result<(), Refusal>
 // 1, 2 and 12
 #[tactic(auto, unfolding(spec::specs::Calls::ready_ok))]
 pub fn ready(volume: &Volume) -> Result<(), Refusal>
-    ensures { (s : State) → Shows volume.now s → result_of result ≡ ready_ok s }
+    ensures { (s : State) → Heads volume.now s → result_of result ≡ ready_ok s }
 {
     lent_volume(volume)?;
     ready_phase(volume.phase)
@@ -89,36 +77,29 @@ pub fn ready(volume: &Volume) -> Result<(), Refusal>
 pub fn is_name(name: &[u8]) -> bool
     ensures { result ≡ is_name name.now }
 {
-    if name.len() != Limits::NAME_SIZE {
-        return false;
+    match name.as_array() {
+        Some(name) => key_of(name) != 0,
+        None => false,
     }
-    key_of(name) != 0
 }
 
 // 1, 2, 3 and 12
 #[tactic(auto, unfolding(spec::specs::Calls::name_ok))]
 pub fn named(volume: &Volume, name: &[u8]) -> Result<(), Refusal>
-    ensures { (s : State) → Shows volume.now s → result_of result ≡ name_ok s name.now }
+    ensures { (s : State) → Heads volume.now s → result_of result ≡ name_ok s name.now }
 {
     lent_volume(volume)?;
-    if !is_name(name) {
-        return Err(Refusal::BadName);
-    }
+    require(is_name(name), Refusal::BadName)?;
     ready_phase(volume.phase)
 }
 
 // 1, 2, 3 of two names, and 12
 #[tactic(auto, unfolding(crate::specs::Checks::names_ok))]
 pub fn both_named(volume: &Volume, name: &[u8], new: &[u8]) -> Result<(), Refusal>
-    ensures { (s : State) → Shows volume.now s → result_of result ≡ names_ok s name.now new.now }
+    ensures { (s : State) → Heads volume.now s → result_of result ≡ names_ok s name.now new.now }
 {
     lent_volume(volume)?;
-    if !is_name(name) {
-        return Err(Refusal::BadName);
-    }
-    if !is_name(new) {
-        return Err(Refusal::BadName);
-    }
+    require(is_name(name) && is_name(new), Refusal::BadName)?;
     ready_phase(volume.phase)
 }
 
@@ -126,24 +107,18 @@ pub fn both_named(volume: &Volume, name: &[u8], new: &[u8]) -> Result<(), Refusa
 fn size_fits(x: ByteOffset, n: usize) -> bool
     ensures { result ≡ leb (x.0 + n) 1048576 }
 {
-    if Limits::MAX_FILE_SIZE < n {
-        return false;
-    }
-    x.0 <= Limits::MAX_FILE_SIZE - n
+    x.0.checked_add(n)
+        .is_some_and(|end| end <= Limits::MAX_FILE_SIZE)
 }
 
 // 1, 2, 3, 4 and 12
 #[tactic(auto, unfolding(crate::specs::Checks::name_size_ok))]
 pub fn sized(volume: &Volume, name: &[u8], x: ByteOffset, n: usize) -> Result<(), Refusal>
-    ensures { (s : State) → Shows volume.now s → result_of result ≡ name_size_ok s name.now (x.0 + n) }
+    ensures { (s : State) → Heads volume.now s → result_of result ≡ name_size_ok s name.now (x.0 + n) }
 {
     lent_volume(volume)?;
-    if !is_name(name) {
-        return Err(Refusal::BadName);
-    }
-    if !size_fits(x, n) {
-        return Err(Refusal::TooLarge);
-    }
+    require(is_name(name), Refusal::BadName)?;
+    require(size_fits(x, n), Refusal::TooLarge)?;
     ready_phase(volume.phase)
 }
 

@@ -1,7 +1,7 @@
 -- Laws of the content of blocks after a change. Assumes nothing.
 use Prim.Native.Nat.{ℕ, zero, suc, ◌+◌, ◌*◌, ◌-◌, ◌/◌, ◌%◌, ◌<◌, ◌≤◌, min}
 use mathlib.Core.Path.{◌≡◌, refl, sym, ap, ◌∙◌}
-use mathlib.Core.Bool.{Bool, true, false, cond, ◌&&◌, true≢false}
+use mathlib.Core.Bool.{Bool, true, false, cond, not, ◌&&◌, true≢false}
 use mathlib.Core.Logic.{◌⊎◌, inl, inr}
 use mathlib.Core.List.{List, [], ◌∷◌, ◌++◌, append_assoc, append-nil}
 use native.Mathlib.Omega.{arith}
@@ -10,14 +10,17 @@ use native.Mathlib.Numerals.{add-one}
 use borrow.Author.Tests.{eqb-true, leb-true, le-leb, lt-leb, lt-ltb, le-ltb}
 use lib.Dec.{eqb, leb, ltb}
 use lib.ListN.{length, take, drop, get_or, replicate, length-take, length-drop, take-append-drop, drop_of_length-le}
-use lib.Seq.{take_all, take-suc, drop-cons, drop-drop}
+use lib.Seq.{take-suc, drop-cons, drop-drop, take-append_seam, drop-append_seam}
 use Rattle.lists.specs.Tests.{both_true}
 use Rattle.spec.specs.Bytes.{exactly, zeros, bytes2}
 use Rattle.block.proofs.Laws.{lt-or-le, length-exactly, exactly-nil}
+use Rattle.block.proofs.Steps.{filled}
 use Rattle.spec.specs.declared.Extent.{Extent}
 use Rattle.spec.specs.Inode.{extent, bytes_of_slots}
 use Rattle.spec.specs.Plan.{overlay, clear_tail, is_last_kept}
-use Rattle.content.specs.Content.{with_record, node_content, laid_over, kept_content, data_content}
+use Rattle.spec.specs.declared.FileBlock.{FileBlock}
+use Rattle.std.specs.Prelude.{Option, Some, None}
+use Rattle.content.specs.Content.{with_record, node_content, laid_over, last_kept, kept_content, data_content}
 
 -- ---- a record
 
@@ -31,39 +34,6 @@ record-laid i at q new old ea eq =
 
 -- ---- a node
 
--- those from a place on, as far as they go, are at most 128 of them
-pub extents-of : (xs : List Extent) (s from end : ℕ) → from ≡ min (length xs) s → end ≡ min (length xs) (from + 128) → take (end - from) (drop from xs) ≡ take 128 (drop s xs)
-extents-of xs s from end f e = go (lt-or-le (length xs) s) (lt-or-le (s + 128) (length xs))
-  where
-    go : (length xs < s) ⊎ (s ≤ length xs) → (s + 128 < length xs) ⊎ (length xs ≤ s + 128) → take (end - from) (drop from xs) ≡ take 128 (drop s xs)
-    go (inl h) w =
-        let y : end - from ≡ 0 = omega arith in
-        rw (y, drop_of_length-le xs {i = s} (omega arith))
-    go (inr h) (inl m) =
-        let x : from ≡ s = omega arith in
-        let y : end - s ≡ 128 = omega arith in
-        rw (x, y)
-    go (inr h) (inr m) =
-        let x : from ≡ s = omega arith in
-        let l : length (drop s xs) ≡ length xs - s = length-drop s xs in
-        rw x (take_all (end - s) (drop s xs) (omega (arith, l)) ∙ sym (take_all 128 (drop s xs) (omega (arith, l))))
-
-unfoldable pub filled : List ℕ → List ℕ
-filled xs = exactly 512 xs
-
-pub length-filled : (xs : List ℕ) → length (filled xs) ≡ 512
-unfolding filled
-length-filled xs = length-exactly 512 xs
-
--- bytes stored behind xs
-exactly-paste : (n : ℕ) (xs bs : List ℕ) → length xs + length bs ≤ n
-    → take (length xs) (exactly n xs) ++ (bs ++ drop (length bs) (drop (length xs) (exactly n xs))) ≡ exactly n (xs ++ bs)
-exactly-paste n [] [] h = refl
-exactly-paste zero [] (b ∷ bs) h = absurd (omega arith)
-exactly-paste (suc n) [] (b ∷ bs) h = ap (λ (l : List ℕ). b ∷ l) (exactly-paste n [] bs (omega arith))
-exactly-paste zero (x ∷ xs) bs h = absurd (omega arith)
-exactly-paste (suc n) (x ∷ xs) bs h = ap (λ (l : List ℕ). x ∷ l) (exactly-paste n xs bs (omega arith))
-
 bytes-append : (xs ys : List Extent) → bytes_of_slots (xs ++ ys) ≡ bytes_of_slots xs ++ bytes_of_slots ys
 bytes-append [] ys = refl
 bytes-append (x ∷ xs) ys = simp (bytes-append xs ys, append_assoc)
@@ -72,30 +42,31 @@ length-bytes : (es : List Extent) → length (bytes_of_slots es) ≡ 4 * length 
 length-bytes [] = refl
 length-bytes (e ∷ es) = let h = length-bytes es in omega arith
 
--- one more slot
-pub slots-more : (out q : List ℕ) (es : List Extent) (k : ℕ) → out ≡ filled (bytes_of_slots (take k es)) → k < length es → length es ≤ 128
+-- one more slot laid
+pub slots-more : (out old q : List ℕ) (es : List Extent) (k : ℕ) → out ≡ bytes_of_slots (take k es) ++ drop (4 * k) old → k < length es
     → q ≡ bytes2 (get_or es k (extent 0 0)).first ++ bytes2 (get_or es k (extent 0 0)).count
-    → take (4 * k) out ++ (q ++ drop (4 * k + 4 - 4 * k) (drop (4 * k) out)) ≡ filled (bytes_of_slots (take (k + 1) es))
-unfolding filled
-slots-more out q es k eo h few eq =
+    → take (4 * k) out ++ (q ++ drop (4 * k + 4 - 4 * k) (drop (4 * k) out)) ≡ bytes_of_slots (take (k + 1) es) ++ drop (4 * (k + 1)) old
+slots-more out old q es k eo h eq =
     let xs = bytes_of_slots (take k es) in
     let e = get_or es k (extent 0 0) in
     let bs = bytes2 e.first ++ bytes2 e.count in
     let lk : length (take k es) ≡ k = simp length-take (omega arith) in
     let l : length xs ≡ 4 * k = omega (arith, length-bytes (take k es)) in
     let z : 4 * k + 4 - 4 * k ≡ 4 = omega arith in
-    let p : take (4 * k) (exactly 512 xs) ++ (bs ++ drop 4 (drop (4 * k) (exactly 512 xs))) ≡ exactly 512 (xs ++ bs) =
-    rw (← l) (exactly-paste 512 xs bs (omega arith)) in
-    rw (eo, eq, z, add-one k, take-suc es k (extent 0 0) h) (p ∙ ap (exactly 512) (sym (bytes-append (take k es) (e ∷ []))))
+    let y : 4 * (k + 1) ≡ 4 * k + 4 = omega arith in
+    let t : take (4 * k) (xs ++ drop (4 * k) old) ≡ xs = ap (λ (n : ℕ). take n (xs ++ drop (4 * k) old)) (sym l) ∙ take-append_seam xs (drop (4 * k) old) in
+    let d : drop (4 * k) (xs ++ drop (4 * k) old) ≡ drop (4 * k) old = ap (λ (n : ℕ). drop n (xs ++ drop (4 * k) old)) (sym l) ∙ drop-append_seam xs (drop (4 * k) old) in
+    rw (eo, eq, z, t, d, drop-drop 4 (4 * k) old, y, add-one k, take-suc es k (extent 0 0) h, bytes-append (take k es) (e ∷ []))
+    (sym (append_assoc xs bs (drop (4 * k + 4) old)))
 
-pub slots-none : (es : List Extent) → exactly 512 [] ≡ filled (bytes_of_slots (take 0 es))
-unfolding filled
-slots-none es = refl
-
-pub slots-all : (es : List Extent) (j k : ℕ) (own : List Extent) (out : List ℕ) → own ≡ take 128 (drop (128 * j) es) → length own ≤ k
-    → out ≡ filled (bytes_of_slots (take k own)) → out ≡ node_content es j
-unfolding node_content filled
-slots-all es j k own out eo l e = e ∙ ap (λ (es : List Extent). exactly 512 (bytes_of_slots es)) (take_all k own l ∙ eo)
+pub node-laid : (es own : List Extent) (j : ℕ) (out : List ℕ) → own ≡ take 128 (drop (128 * j) es) → out ≡ bytes_of_slots own ++ drop (4 * length own) (replicate 512 0)
+    → out ≡ node_content es j
+unfolding node_content
+node-laid es own j out eo e =
+    let l : length own ≤ 128 = omega (arith, ap length eo, length-take 128 (drop (128 * j) es)) in
+    let b = length-bytes own in
+    e ∙ ap (λ (k : ℕ). bytes_of_slots own ++ drop k (replicate 512 0)) (sym b) ∙ filled 512 (bytes_of_slots own) (omega (arith, b, l))
+    ∙ ap (λ (xs : List Extent). exactly 512 (bytes_of_slots xs)) eo
 
 -- ---- a data block
 
@@ -242,3 +213,32 @@ module _ (held old_size size x : ℕ) (bytes : List ℕ) (p : ℕ) (old block : 
       let b = leb-true (512 * p + 512) (x + length bytes) t.1 in
       let n : length block ≡ 512 = ap length e ∙ l in
       record { long = n; is = over-whole x bytes p block n a b ∙ sym (over-whole x bytes p (kept_content held old_size size p old) (length-kept held old_size size p old l) a b) }
+
+-- ---- the last kept block
+
+-- whether a place that was found is p
+abbrev is_at : Option FileBlock → ℕ → Bool
+is_at None p = false
+is_at (Some k) p = eqb p k.0
+
+kept-at : (old size p : ℕ) → is_at (last_kept old size) p ≡ is_last_kept old size p
+unfolding last_kept
+kept-at old size p = go (ltb size old && not (eqb (size % 512) 0))
+  where
+    go : (t : Bool) → is_at (cond t (Some (record { 0 = size / 512 })) None) p ≡ t && eqb p (size / 512)
+    go true = refl
+    go false = refl
+
+pub kept-some : (old size p : ℕ) (k : FileBlock) → Some k ≡ last_kept old size → eqb p k.0 ≡ is_last_kept old size p
+kept-some old size p k e = ap (λ (o : Option FileBlock). is_at o p) e ∙ kept-at old size p
+
+pub kept-none : (old size p : ℕ) → ◌≡◌ {A = Option FileBlock} None (last_kept old size) → false ≡ is_last_kept old size p
+kept-none old size p e = ap (λ (o : Option FileBlock). is_at o p) e ∙ kept-at old size p
+
+pub kept-place : (old size : ℕ) (k : FileBlock) → Some k ≡ last_kept old size → k.0 ≡ size / 512
+unfolding last_kept
+kept-place old size k = go (ltb size old && not (eqb (size % 512) 0))
+  where
+    go : (t : Bool) → Some k ≡ cond t (Some (record { 0 = size / 512 })) None → k.0 ≡ size / 512
+    go true e = let f : k ≡ record { 0 = size / 512 } = cc in ap (λ (b : FileBlock). b.0) f
+    go false e = cc

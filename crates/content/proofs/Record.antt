@@ -2,20 +2,19 @@
 use Prim.Native.Nat.{ℕ, zero, suc, ◌+◌, ◌*◌, ◌/◌, ◌%◌, ◌<◌, ◌≤◌}
 use mathlib.Core.Path.{◌≡◌, refl, sym, ap, ◌∙◌}
 use mathlib.Core.Bool.{Bool, true, false, cond}
-use mathlib.Core.List.{List, [], ◌∷◌, ◌++◌}
+use mathlib.Core.List.{List, [], ◌∷◌, ◌++◌, append_assoc, append-nil}
 use native.Mathlib.Omega.{arith}
 use borrow.Author.Tests.{eq-eqb, ne_eqb}
 use lib.Dec.{eqb}
-use lib.ListN.{length, take, drop, get_or, length-take, take-append-drop}
-use lib.Seq.{get_or-take, drop-drop}
+use lib.ListN.{length, take, drop, get_or, replicate, length-append, take-append-drop, drop_of_length-le}
+use lib.Seq.{drop-drop, take-append_seam, drop-append_seam}
 use Rattle.std.specs.Prelude.{sum_by}
 use Rattle.std.specs.Int.{w32, to_le_bytes}
 use Rattle.std.proofs.lemmas.List.Sums.{sum_by-cons}
 use Rattle.spec.specs.declared.Extent.{Extent}
-use Rattle.spec.specs.Bytes.{exactly, bytes2, bytes4}
+use Rattle.spec.specs.Bytes.{exactly, bytes4}
 use Rattle.spec.specs.Inode.{extent, counts, bytes_of_slots, node_slots, top_slots, bytes_of_inode, inode_with}
 use Rattle.runs.specs.Tree.{Tree, tree_with}
-use Rattle.runs.specs.declared.nodes.Nodes.{Nodes}
 use Rattle.runs.specs.Runs.{nodes_in, levels_in}
 use Rattle.lists.specs.Extents.{counts-append}
 use Rattle.content.specs.Content.{tree_of, counts_below, slots_above}
@@ -62,34 +61,23 @@ node-none (b ∷ bs) es zero h = absurd (omega arith)
 node-none (b ∷ bs) es (suc k) h = node-none bs (drop 128 es) k (omega arith)
 
 module _ (t : Tree) (k : ℕ) where
-  pub top-flat : t.nodes ≡ 0 → (e : Extent) → e ≡ get_or t.extents k (extent 0 0) → e ≡ get_or (slots_above t) k (extent 0 0)
+  pub top-flat : length t.nodes ≡ 0 → (e : Extent) → e ≡ get_or t.extents k (extent 0 0) → e ≡ get_or (slots_above t) k (extent 0 0)
   unfolding slots_above levels_in
-  top-flat h e q = q ∙ rw (eq-eqb t.nodes 0 h)
+  top-flat h e q = q ∙ rw (eq-eqb (length t.nodes) 0 h)
 
-  module _ (deep : t.nodes ≡ 0 → ⊥) where
-    pub top-node : k < t.nodes → t.nodes ≤ length t.node → (n : ℕ) → n ≡ counts_below t.extents k
-        → extent (get_or t.node k 0) n ≡ get_or (slots_above t) k (extent 0 0)
+  module _ (deep : length t.nodes ≡ 0 → ⊥) where
+    pub top-node : k < length t.nodes → (b n : ℕ) → b ≡ get_or t.nodes k 0 → n ≡ counts_below t.extents k → extent b n ≡ get_or (slots_above t) k (extent 0 0)
     unfolding slots_above levels_in nodes_in counts_below
-    top-node h l n e =
-        let q : k < length (take t.nodes t.node) = simp length-take (omega arith) in
-        let slot : get_or (top_slots (cond (eqb t.nodes 0) [] (take t.nodes t.node ∷ [])) t.extents) k (extent 0 0)
-        ≡ extent (get_or (take t.nodes t.node) k 0) (counts (take 128 (drop (128 * k) t.extents))) =
-        rw (ne_eqb t.nodes 0 deep) (node-slot (take t.nodes t.node) t.extents k q)
-        in
-        let own : extent (get_or (take t.nodes t.node) k 0) (counts (take 128 (drop (128 * k) t.extents))) ≡ extent (get_or t.node k 0) n =
-        rw (get_or-take t.nodes t.node k 0 h, e)
-        in
-        sym (slot ∙ own)
+    top-node h b n eb en =
+        sym (rw (ne_eqb (length t.nodes) 0 deep, eb, en) (node-slot t.nodes t.extents k h))
 
-    pub top-past : t.nodes ≤ k → extent 0 0 ≡ get_or (slots_above t) k (extent 0 0)
+    pub top-past : length t.nodes ≤ k → extent 0 0 ≡ get_or (slots_above t) k (extent 0 0)
     unfolding slots_above levels_in nodes_in
-    top-past h =
-        let q : length (take t.nodes t.node) ≤ k = simp length-take (omega arith) in
-        sym (rw (ne_eqb t.nodes 0 deep) (node-none (take t.nodes t.node) t.extents k q))
+    top-past h = sym (rw (ne_eqb (length t.nodes) 0 deep) (node-none t.nodes t.extents k h))
 
-pub depth-is : (t : Tree) → cond (eqb t.nodes 0) 0 1 ≡ length (levels_in t)
+pub depth-is : (t : Tree) → cond (eqb (length t.nodes) 0) 0 1 ≡ length (levels_in t)
 unfolding levels_in
-depth-is t = go (eqb t.nodes 0)
+depth-is t = go (eqb (length t.nodes) 0)
   where
     go : (b : Bool) → cond b 0 1 ≡ length (cond b [] (nodes_in t ∷ []))
     go true = refl
@@ -105,67 +93,71 @@ size-bytes n =
     let d : n / 65536 / 256 % 256 ≡ n / 16777216 % 256 = omega arith in
     rw (a, b, d)
 
-abbrev pub slot_bytes : Extent → List ℕ
-slot_bytes e = bytes2 e.first ++ bytes2 e.count
-
+-- four slots fill their part of the record
 four-slots : (es : List Extent)
-    → exactly 16 (bytes_of_slots es)
-    ≡ slot_bytes (get_or es 0 (extent 0 0)) ++ (slot_bytes (get_or es 1 (extent 0 0)) ++ (slot_bytes (get_or es 2 (extent 0 0)) ++ (slot_bytes (get_or es 3 (extent 0 0)) ++ [])))
+    → exactly 16 (bytes_of_slots es) ≡ bytes_of_slots (get_or es 0 (extent 0 0) ∷ get_or es 1 (extent 0 0) ∷ get_or es 2 (extent 0 0) ∷ get_or es 3 (extent 0 0) ∷ [])
 four-slots [] = refl
 four-slots (a ∷ []) = refl
 four-slots (a ∷ b ∷ []) = refl
 four-slots (a ∷ b ∷ c ∷ []) = refl
 four-slots (a ∷ b ∷ c ∷ d ∷ es) = refl
 
-eight : (n rest : List ℕ) → length n ≡ 8
-    → (get_or n 0 0 ∷ get_or n 1 0 ∷ get_or n 2 0 ∷ get_or n 3 0 ∷ get_or n 4 0 ∷ get_or n 5 0 ∷ get_or n 6 0 ∷ get_or n 7 0 ∷ rest) ≡ n ++ rest
-eight [] rest h = absurd (omega arith)
-eight (a ∷ []) rest h = absurd (omega arith)
-eight (a ∷ b ∷ []) rest h = absurd (omega arith)
-eight (a ∷ b ∷ c ∷ []) rest h = absurd (omega arith)
-eight (a ∷ b ∷ c ∷ d ∷ []) rest h = absurd (omega arith)
-eight (a ∷ b ∷ c ∷ d ∷ e ∷ []) rest h = absurd (omega arith)
-eight (a ∷ b ∷ c ∷ d ∷ e ∷ f ∷ []) rest h = absurd (omega arith)
-eight (a ∷ b ∷ c ∷ d ∷ e ∷ f ∷ g ∷ []) rest h = absurd (omega arith)
-eight (a ∷ b ∷ c ∷ d ∷ e ∷ f ∷ g ∷ x ∷ []) rest h = refl
-eight (a ∷ b ∷ c ∷ d ∷ e ∷ f ∷ g ∷ x ∷ y ∷ xs) rest h = absurd (omega arith)
+-- bytes stored right behind others
+behind : (xs zs ys : List ℕ) (at k : ℕ) → length xs ≡ at → take at (xs ++ zs) ++ (ys ++ drop k (drop at (xs ++ zs))) ≡ xs ++ (ys ++ drop k zs)
+behind xs zs ys at k e = rw (← e, take-append_seam xs zs, drop-append_seam xs zs)
 
-four : (n rest : List ℕ) → length n ≡ 4 → (get_or n 0 0 ∷ get_or n 1 0 ∷ get_or n 2 0 ∷ get_or n 3 0 ∷ rest) ≡ n ++ rest
-four [] rest h = absurd (omega arith)
-four (a ∷ []) rest h = absurd (omega arith)
-four (a ∷ b ∷ []) rest h = absurd (omega arith)
-four (a ∷ b ∷ c ∷ []) rest h = absurd (omega arith)
-four (a ∷ b ∷ c ∷ d ∷ []) rest h = refl
-four (a ∷ b ∷ c ∷ d ∷ e ∷ xs) rest h = absurd (omega arith)
+-- the fields as the code stores them, in an array of zeros
+module _ (n z : List ℕ) (d : ℕ) (ln : length n ≡ 8) (lz : length z ≡ 4) where
+  abbrev behind_name : List ℕ
+  behind_name = 0 ∷ 0 ∷ 0 ∷ 0 ∷ d ∷ replicate 19 0
 
--- the fields as the code writes them
-pub joined_is : (n z a b c e : List ℕ) (d : ℕ) → length n ≡ 8 → length z ≡ 4 → length a ≡ 4 → length b ≡ 4 → length c ≡ 4 → length e ≡ 4
-    → (get_or n 0 0 ∷ get_or n 1 0 ∷ get_or n 2 0 ∷ get_or n 3 0 ∷ get_or n 4 0 ∷ get_or n 5 0 ∷ get_or n 6 0 ∷ get_or n 7 0 ∷ get_or z 0 0 ∷ get_or z 1 0 ∷ get_or z 2 0 ∷ get_or z 3 0 ∷ d ∷ 0 ∷ 0 ∷ 0
-    ∷ get_or a 0 0 ∷ get_or a 1 0 ∷ get_or a 2 0 ∷ get_or a 3 0 ∷ get_or b 0 0 ∷ get_or b 1 0 ∷ get_or b 2 0 ∷ get_or b 3 0
-    ∷ get_or c 0 0 ∷ get_or c 1 0 ∷ get_or c 2 0 ∷ get_or c 3 0 ∷ get_or e 0 0 ∷ get_or e 1 0 ∷ get_or e 2 0 ∷ get_or e 3 0 ∷ [])
-    ≡ n ++ (z ++ (d ∷ 0 ∷ 0 ∷ 0 ∷ (a ++ (b ++ (c ++ (e ++ []))))))
-joined_is n z a b c e d ln lz la lb lc le =
-    eight n _ ln
-    ∙ ap (λ (xs : List ℕ). n ++ xs) (four z _ lz
-    ∙ ap (λ (xs : List ℕ). z ++ (d ∷ 0 ∷ 0 ∷ 0 ∷ xs)) (four a _ la
-    ∙ ap (λ (xs : List ℕ). a ++ xs) (four b _ lb
-    ∙ ap (λ (xs : List ℕ). b ++ xs) (four c _ lc
-    ∙ ap (λ (xs : List ℕ). c ++ xs) (four e [] le)))))
+  abbrev pub fields : List ℕ
+  fields = take 8 (n ++ behind_name) ++ (z ++ drop 4 (drop 8 (n ++ behind_name)))
+
+  fields-are : fields ≡ (n ++ (z ++ (d ∷ 0 ∷ 0 ∷ 0 ∷ []))) ++ replicate 16 0
+  fields-are =
+      behind n behind_name z 8 4 ln
+      ∙ sym (append_assoc n (z ++ (d ∷ 0 ∷ 0 ∷ 0 ∷ [])) (replicate 16 0) ∙ ap (λ (xs : List ℕ). n ++ xs) (append_assoc z (d ∷ 0 ∷ 0 ∷ 0 ∷ []) (replicate 16 0)))
+
+  pub fields-room : 32 ≤ length fields
+  fields-room =
+      omega (
+        arith,
+        ap length fields-are,
+        length-append (n ++ (z ++ (d ∷ 0 ∷ 0 ∷ 0 ∷ []))) (replicate 16 0),
+        length-append n (z ++ (d ∷ 0 ∷ 0 ∷ 0 ∷ [])),
+        length-append z (d ∷ 0 ∷ 0 ∷ 0 ∷ []),
+        ln,
+        lz,
+      )
+
+  pub joined_is : (es : List Extent) (b w : List ℕ) → length es ≡ 4 → length w ≡ 16 → b ≡ bytes_of_slots es ++ drop (4 * length es) w
+      → take 16 fields ++ (b ++ drop 16 (drop 16 fields)) ≡ n ++ (z ++ (d ∷ 0 ∷ 0 ∷ 0 ∷ bytes_of_slots es))
+  joined_is es b w le lw eb =
+      let xs = n ++ (z ++ (d ∷ 0 ∷ 0 ∷ 0 ∷ [])) in
+      let l : length xs ≡ 16 = omega (arith, length-append n (z ++ (d ∷ 0 ∷ 0 ∷ 0 ∷ [])), length-append z (d ∷ 0 ∷ 0 ∷ 0 ∷ []), ln, lz) in
+      let r : drop (4 * length es) w ≡ [] = drop_of_length-le w (omega (arith, le, lw)) in
+      let q : b ≡ bytes_of_slots es = eb ∙ ap (λ (ys : List ℕ). bytes_of_slots es ++ ys) r ∙ append-nil (bytes_of_slots es) in
+      ap (λ (ys : List ℕ). take 16 ys ++ (b ++ drop 16 (drop 16 ys))) fields-are
+      ∙ behind xs (replicate 16 0) b 16 16 l
+      ∙ ap (λ (ys : List ℕ). xs ++ ys) (append-nil b ∙ q)
+      ∙ append_assoc n (z ++ (d ∷ 0 ∷ 0 ∷ 0 ∷ [])) (bytes_of_slots es)
+      ∙ ap (λ (ys : List ℕ). n ++ ys) (append_assoc z (d ∷ 0 ∷ 0 ∷ 0 ∷ []) (bytes_of_slots es))
 
 -- the record, from its fields
-module _ (t : Tree) (n z a b c e q : List ℕ) (d size : ℕ) (ea eb ec ee : Extent) where
+module _ (t : Tree) (n z q : List ℕ) (d size : ℕ) (a b c e : Extent) where
   pub record_is : z ≡ bytes4 size → d ≡ length (levels_in t)
-      → ea ≡ get_or (slots_above t) 0 (extent 0 0) → a ≡ slot_bytes ea → eb ≡ get_or (slots_above t) 1 (extent 0 0) → b ≡ slot_bytes eb
-      → ec ≡ get_or (slots_above t) 2 (extent 0 0) → c ≡ slot_bytes ec → ee ≡ get_or (slots_above t) 3 (extent 0 0) → e ≡ slot_bytes ee
-      → q ≡ n ++ (z ++ (d ∷ 0 ∷ 0 ∷ 0 ∷ (a ++ (b ++ (c ++ (e ++ []))))))
+      → a ≡ get_or (slots_above t) 0 (extent 0 0) → b ≡ get_or (slots_above t) 1 (extent 0 0)
+      → c ≡ get_or (slots_above t) 2 (extent 0 0) → e ≡ get_or (slots_above t) 3 (extent 0 0)
+      → q ≡ n ++ (z ++ (d ∷ 0 ∷ 0 ∷ 0 ∷ bytes_of_slots (a ∷ b ∷ c ∷ e ∷ [])))
       → q ≡ bytes_of_inode (inode_with n size t.extents (levels_in t))
   unfolding bytes_of_inode slots_above
-  record_is ez ed qa pa qb pb qc pc qe pe eq =
-      eq ∙ rw (ez, ed, pa, pb, pc, pe, qa, qb, qc, qe)
+  record_is ez ed qa qb qc qe eq =
+      eq ∙ rw (ez, ed, qa, qb, qc, qe)
       (ap (λ (xs : List ℕ). n ++ (bytes4 size ++ (length (levels_in t) ∷ 0 ∷ 0 ∷ 0 ∷ xs))) (sym (four-slots (top_slots (levels_in t) t.extents))))
 
 -- a tree and its parts
-module _ (table : List ℕ) (extents : List Extent) (nodes : Nodes) (before held : ℕ) where
+module _ (table : List ℕ) (extents : List Extent) (nodes : List ℕ) (before held : ℕ) where
   pub parts-levels : levels_in (tree_of extents nodes) ≡ levels_in (tree_with table extents nodes before held)
   unfolding levels_in nodes_in
   parts-levels = refl

@@ -3,14 +3,14 @@
 
 ghost use Rattle.std.specs.Prelude.{◌≡◌, ◌&&◌, [], ◌∷◌, ◌++◌, ◌+◌, ◌*◌, ◌/◌, ◌<◌, ◌≤◌, take, drop, cond, eqb, leb, length, get_or};
 ghost use Rattle.spec.specs.Bytes.{bytes2};
-ghost use Rattle.spec.specs.Inode.{extent, counts, bytes_of_inode, inode_with};
+ghost use Rattle.spec.specs.Inode.{extent, counts, bytes_of_inode, bytes_of_slots, inode_with};
 ghost use Rattle.spec.specs.Plan.{is_last_kept, holds_data, is_staged};
 ghost use Rattle.runs.specs.Runs.{levels_in};
-ghost use Rattle.content.specs.Content.{tree_of, with_record, node_content, counts_below, slots_above, laid_over, kept_content, data_content};
+ghost use Rattle.content.specs.Content.{tree_of, with_record, node_content, counts_below, slots_above, last_kept, laid_over, kept_content, data_content};
 
 use block::place_in_block;
 use runs::{DataBlock, Nodes, block_count};
-use spec::{ByteOffset, Extent, Limits};
+use spec::{ByteOffset, Extent, FileBlock, Limits};
 
 mod prefix;
 
@@ -28,29 +28,37 @@ pub fn lay_record(block: &mut [u8; Limits::BLOCK_SIZE], i: usize, new: RecordPre
 fn extents_of(extents: &[Extent], j: u8) -> &[Extent]
     ensures { result.now ≡ take 128 (drop (128 * j) extents.now) }
 {
-    let from = extents.len().min(Limits::SLOTS_PER_NODE * usize::from(j));
-    let end = extents.len().min(from + Limits::SLOTS_PER_NODE);
-    &extents[from..end]
+    extents
+        .chunks(Limits::SLOTS_PER_NODE)
+        .nth(usize::from(j))
+        .unwrap_or(&[])
 }
 
-fn slot_bytes(e: Extent) -> [u8; 4]
+fn slot_bytes(e: Extent) -> [u8; Limits::SLOT_SIZE]
     ensures { result ≡ bytes2 e.first ++ bytes2 e.count }
 {
-    let first = e.first.to_le_bytes();
-    let count = e.count.to_le_bytes();
-    [first[0], first[1], count[0], count[1]]
+    let [first_low, first_high, ..] = e.first.to_le_bytes();
+    let [count_low, count_high, ..] = e.count.to_le_bytes();
+    [first_low, first_high, count_low, count_high]
+}
+
+// Slots laid one after the other, from the first byte on. By index: of what `as_chunks_mut` or `chunks_exact_mut` lends, std tells nothing once it is given back.
+fn lay_slots(out: &mut [u8], slots: &[Extent])
+    requires { 4 * length slots.now ≤ length out.old }
+    ensures { out.new ≡ bytes_of_slots slots.now ++ drop (4 * length slots.now) out.old }
+{
+    for (k, e) in slots.iter().enumerate() {
+        let at = Limits::SLOT_SIZE * k;
+        out[at..at + Limits::SLOT_SIZE].copy_from_slice(&slot_bytes(*e));
+    }
 }
 
 // The content of node j.
 pub fn node_content(extents: &[Extent], j: u8) -> [u8; Limits::BLOCK_SIZE]
     ensures { result ≡ node_content extents.now j }
 {
-    let own = extents_of(extents, j);
     let mut out = [0u8; Limits::BLOCK_SIZE];
-    for (k, e) in own.iter().enumerate() {
-        let at = 4 * k;
-        out[at..at + 4].copy_from_slice(&slot_bytes(*e));
-    }
+    lay_slots(&mut out, extents_of(extents, j));
     out
 }
 
@@ -58,71 +66,68 @@ pub fn node_content(extents: &[Extent], j: u8) -> [u8; Limits::BLOCK_SIZE]
 fn extent_at(extents: &[Extent], k: usize) -> Extent
     ensures { result ≡ get_or extents.now k (extent 0 0) }
 {
-    match extents.get(k) {
-        Some(e) => *e,
-        None => Extent { first: 0, count: 0 },
-    }
+    extents.get(k).copied().unwrap_or_default()
 }
 
 // Slot k of the record: an extent, or a node with the data blocks below it. An unused slot is one of no blocks, as on the disk.
-fn top_slot(extents: &[Extent], nodes: Nodes, k: usize) -> Extent
+fn top_slot(extents: &[Extent], nodes: &Nodes, k: usize) -> Extent
     requires { counts extents.now < 4294967296 }
-    ensures { result ≡ get_or (slots_above (tree_of extents.now nodes)) k (extent 0 0) }
+    ensures { result ≡ get_or (slots_above (tree_of extents.now nodes.now)) k (extent 0 0) }
 {
-    if nodes.len == 0 {
+    let nodes = nodes.as_slice();
+    if nodes.is_empty() {
         return extent_at(extents, k);
     }
-    if k < nodes.len {
-        return Extent {
-            first: nodes.node[k],
+    match nodes.get(k) {
+        Some(first) => Extent {
+            first: *first,
             count: block_count(extents_of(extents, k as u8)),
-        };
+        },
+        None => Extent::default(),
     }
-    Extent { first: 0, count: 0 }
 }
 
 // The depth, as the record tells it: 0 without nodes, 1 with them.
-fn depth_of(nodes: Nodes) -> u8
-    ensures { result ≡ cond (eqb nodes.len 0) 0 1 }
+fn depth_of(nodes: &Nodes) -> u8
+    ensures { result ≡ cond (eqb (length nodes.now) 0) 0 1 }
 {
-    u8::from(nodes.len != 0)
+    u8::from(nodes.len() != 0)
 }
 
-// The fields of a record, one after the other, in their order. An array literal: std joins arrays by `concat`, which wants a heap.
+// The fields of a record, one after the other, in their order.
 fn joined(
-    n: [u8; 8],
-    z: [u8; 4],
-    d: u8,
-    a: [u8; 4],
-    b: [u8; 4],
-    c: [u8; 4],
-    e: [u8; 4],
+    name: [u8; Limits::NAME_SIZE],
+    size: [u8; 4],
+    depth: u8,
+    slots: &[Extent; Limits::SLOTS_PER_INODE],
 ) -> [u8; Limits::INODE_SIZE]
-    ensures { result ≡ n ++ (z ++ (d ∷ 0 ∷ 0 ∷ 0 ∷ (a ++ (b ++ (c ++ (e ++ [])))))) }
+    ensures { result ≡ name ++ (size ++ (depth ∷ 0 ∷ 0 ∷ 0 ∷ bytes_of_slots slots.now)) }
 {
-    [
-        n[0], n[1], n[2], n[3], n[4], n[5], n[6], n[7], z[0], z[1], z[2], z[3], d, 0, 0, 0, a[0],
-        a[1], a[2], a[3], b[0], b[1], b[2], b[3], c[0], c[1], c[2], c[3], e[0], e[1], e[2], e[3],
-    ]
+    let mut out = [0u8; Limits::INODE_SIZE];
+    out[12] = depth;
+    out[..8].copy_from_slice(&name);
+    out[8..12].copy_from_slice(&size);
+    lay_slots(&mut out[16..], slots);
+    out
 }
 
 // "Bytes 0 to 7 name; 8 to 11 size in bytes; 12 depth, 0 or 1; 13 to 15 zero; 16 to 31 four slots."
 pub fn record_bytes(
-    name: [u8; 8],
-    size: usize,
+    name: [u8; Limits::NAME_SIZE],
+    size: u32,
     extents: &[Extent],
-    nodes: Nodes,
+    nodes: &Nodes,
 ) -> [u8; Limits::INODE_SIZE]
-    requires { (counts extents.now < 4294967296) × (size < 4294967296) }
-    ensures { result ≡ bytes_of_inode (inode_with name size extents.now (levels_in (tree_of extents.now nodes))) }
+    requires { counts extents.now < 4294967296 }
+    ensures { result ≡ bytes_of_inode (inode_with name size extents.now (levels_in (tree_of extents.now nodes.now))) }
 {
-    let z = (size as u32).to_le_bytes();
-    let d = depth_of(nodes);
-    let a = slot_bytes(top_slot(extents, nodes, 0));
-    let b = slot_bytes(top_slot(extents, nodes, 1));
-    let c = slot_bytes(top_slot(extents, nodes, 2));
-    let e = slot_bytes(top_slot(extents, nodes, 3));
-    joined(name, z, d, a, b, c, e)
+    let slots = [
+        top_slot(extents, nodes, 0),
+        top_slot(extents, nodes, 1),
+        top_slot(extents, nodes, 2),
+        top_slot(extents, nodes, 3),
+    ];
+    joined(name, size.to_le_bytes(), depth_of(nodes), &slots)
 }
 
 // How a change treats the data blocks of a file: how many it held, its size before and after, and the bytes laid over it at x.
@@ -160,12 +165,22 @@ impl Rewrite<'_> {
     }
 
     // "on shortening to a size not divisible by 512, the last kept block"
+    pub fn last_kept(&self) -> Option<FileBlock>
+        ensures { result ≡ last_kept self.now.old self.now.size }
+    {
+        if (self.size < self.old) & (self.size % Limits::BLOCK_SIZE != 0) {
+            return Some(FileBlock(self.size / Limits::BLOCK_SIZE));
+        }
+        None
+    }
+
     fn is_last_kept(&self, p: DataBlock) -> bool
         ensures { result ≡ is_last_kept self.now.old self.now.size p.0 }
     {
-        (self.size < self.old)
-            & !(self.size % Limits::BLOCK_SIZE == 0)
-            & (p.0 as usize == self.size / Limits::BLOCK_SIZE)
+        match self.last_kept() {
+            Some(k) => p.0 as usize == k.0,
+            None => false,
+        }
     }
 
     // "each data block holding a byte of the data"
@@ -188,30 +203,10 @@ impl Rewrite<'_> {
     pub fn first_data(&self) -> usize
         ensures { (result ≤ self.now.held) × (0 < length self.now.bytes.now → result ≤ self.now.x.0 / 512) }
     {
-        if self.bytes.len() == 0 {
+        if self.bytes.is_empty() {
             return self.held;
         }
         self.held.min(self.x.0 / Limits::BLOCK_SIZE)
-    }
-
-    // The place of the last kept block, at most as many as were held.
-    pub fn first_kept(&self) -> usize
-        ensures { (result ≤ self.now.held) × (self.now.size < self.now.old → result ≤ self.now.size / 512) }
-    {
-        if self.old <= self.size {
-            return self.held;
-        }
-        self.held.min(self.size / Limits::BLOCK_SIZE)
-    }
-
-    // The place behind the last kept block, 0 where the file is not shortened.
-    pub fn kept_end(&self) -> usize
-        ensures { self.now.size < self.now.old → self.now.size / 512 < result }
-    {
-        if self.old <= self.size {
-            return 0;
-        }
-        self.size / Limits::BLOCK_SIZE + 1
     }
 
     // Block p of the file before the data is laid over it: a new one is zeros, in the last kept one the bytes from the size on are.

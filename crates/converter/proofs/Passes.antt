@@ -24,7 +24,7 @@ use Rattle.cardfile.specs.declared.LineFault.{LineFault}
 use Rattle.cardfile.specs.declared.LineFault.TheVariants.{TooLong, BadForm}
 use Rattle.converter.specs.declared.ConvertFault.{ConvertFault}
 use Rattle.converter.specs.declared.ConvertFault.TheVariants.{BadLine, TooSmall}
-use Rattle.cardfile.proofs.Laws.{no_byte}
+use Rattle.std.proofs.lemmas.List.{drop_all}
 use Rattle.cardfile.proofs.Splits.{split-some, split-feed, split-last, split-nil}
 use Rattle.cardfile.proofs.Spellings.{read_is, bytes-number, digits-few, length-hex, length-padded}
 use Rattle.cardfile.proofs.Names.{width_fits, number_fits}
@@ -98,7 +98,7 @@ module _ (w : ℕ) (text : List ℕ) (at : ℕ) where
 
   pub line-end : length text ≤ at → (n : ℕ) → convert_lines w n (split_lines (drop at text)) ≡ output []
   unfolding convert_lines last_converted
-  line-end h n = rw (no_byte text at h, split-nil)
+  line-end h n = rw (drop_all at text h, split-nil)
 
   pub line-found : (x : Line) → line_at text at ≡ Ok (Some x) → Next w text at x.card x.next
   line-found x e =
@@ -301,3 +301,19 @@ module _ {w : ℕ} {text : List ℕ} {most : ℕ} {s t : Lines} {count k : ℕ} 
             → (c : Card) → Ok c ≡ card_told (k + 1) r → Next w text s.at c t.at
         go (Ok x) e b c h = let z : x.card ≡ c = cc in rw (b x refl, ← z) (line-found w text s.at x (shown-line text s.at x (sym e)))
         go (Err f) e b c h = cc
+
+    -- what the code knows of the card of such a line, and where it leads
+    module _ (c : Card) (h : Ok c ≡ card_told (k + 1) r) where
+      pub told-bytes : c.serial.bytes ≤ 7
+      told-bytes = bytes_fit w text s.at c t.at (tested-card c h)
+
+      pub told-digits : c.digits ≤ 8
+      told-digits = digits-fit w text s.at c t.at (tested-card c h)
+
+      pub told-same : w ≡ letter_of c.spelling → refused 24 ((k + 1) ∷ []) ≡ answer_for most (convert_file w text)
+      told-same = tested-same w text most s.at (k + 1) room tested-here c t.at (tested-card c h)
+
+      pub told-more : (w ≡ letter_of c.spelling → ⊥) → (size : ℕ) → size ≡ spelt_size w c.serial.bytes → (room' : Option ℕ)
+          → ((t : List ℕ) (d : Conversion) → length t ≡ size + c.digits + 4 → answer_behind most room (onto t d) ≡ answer_behind most room' d)
+          → IfSome room' (λ n. n ≤ most) → Tested w text most t.at (k + 1 + 1) room'
+      told-more = tested-more w text most s.at (k + 1) room tested-here c t.at (tested-card c h)

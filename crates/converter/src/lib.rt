@@ -13,11 +13,6 @@ ghost use Rattle.converter.specs.Passes.{answer_behind, answer_for, card_told, o
 use cardfile::{Card, Line, LineFault, Lines, Serial, Spelling, name_of};
 use text::Writer;
 
-// Ten to the number of digits of a D line: 10 for four bytes, 17 for seven.
-const SHORT_UNIT: u64 = 10000000000;
-
-const LONG_UNIT: u64 = 100000000000000000;
-
 // Two semicolons, the letter and the feed of a line.
 const SIGNS: usize = 4;
 
@@ -102,20 +97,20 @@ fn test_lines(text: &[u8], wanted: Spelling, most: usize) -> Result<usize, Conve
 
 // ---- the second pass: every line is written
 
-// The last digits of a number, so many of them, the highest first; unit is ten to that number.
-fn put_padded(w: &mut Writer, count: usize, unit: u64, n: u64)
-    requires { unit ≡ 10 ^ count }
+// The last digits of a number, so many of them, the highest first.
+fn put_padded(w: &mut Writer, count: usize, n: u64)
+    requires { count ≤ 17 }
     ensures { Put w.old w.new (padded count n) }
 {
-    let mut u = unit;
+    let mut u = 10u64.pow(count as u32);
     for _ in 0..count {
         u /= 10;
         w.put(b'0' + (n / u % 10) as u8);
     }
 }
 
-// A card's serial in the wanted spelling. Its bytes stand in the card's name, behind their number. Both facts together are asked here and in put_card alone: as a ghost
-// field of Serial it would have to be proved in each definition that tells a serial.
+// A card's serial in the wanted spelling. Its bytes stand in the card's name, behind their number. No ghost field of Serial tells the two facts: cardfile's name_of takes
+// a card with any number of bytes, and would then ask more of callers.
 fn put_serial(w: &mut Writer, card: Card, wanted: Spelling)
     requires { (card.serial.bytes ≤ 7) × (card.serial.number < 256 ^ card.serial.bytes) }
     ensures { Put w.old w.new (spell (letter_of wanted) (bytes_of card.serial.bytes card.serial.number)) }
@@ -127,9 +122,9 @@ fn put_serial(w: &mut Writer, card: Card, wanted: Spelling)
             w.put_hex(&name[1..bytes + 1]);
         }
         Spelling::Decimal if bytes == Serial::SHORT => {
-            put_padded(w, Serial::SHORT_DECIMAL, SHORT_UNIT, number);
+            put_padded(w, Serial::SHORT_DECIMAL, number);
         }
-        Spelling::Decimal => put_padded(w, Serial::LONG_DECIMAL, LONG_UNIT, number),
+        Spelling::Decimal => put_padded(w, Serial::LONG_DECIMAL, number),
     }
 }
 

@@ -4,23 +4,12 @@
 use cardfile::Spelling;
 use converter::{ConvertFault, convert};
 use std::io;
-use trial::number;
-
-fn refused(rt: &impl Print, why: ConvertFault) -> io::Result<()> {
-    rt.write_all(b"refused")?;
-    number(rt, why.number())?;
-    number(rt, why.line().unwrap_or(0))
-}
 
 fn show_answer(rt: &impl Print, answer: Result<usize, ConvertFault>) -> io::Result<()> {
     match answer {
-        Ok(n) => {
-            rt.write_all(b"length")?;
-            number(rt, n)?;
-        }
-        Err(fault) => refused(rt, fault)?,
+        Ok(n) => println!(rt; "length {n}"),
+        Err(why) => println!(rt; "refused {} {}", why.number(), why.line().unwrap_or(0)),
     }
-    rt.write_all(b"\n")
 }
 
 fn show(rt: &impl Print, wanted: Spelling, text: &[u8], out: &mut [u8]) -> io::Result<()> {

@@ -3,95 +3,81 @@
 #![tactic(auto)]
 
 use block::{block_in, load, load2};
-use mounted::{Mounted, SMALLEST};
+use mounted::Mounted;
 use spec::{DiskBlock, Phase, Session};
 use std::io;
-use trial::{number, stage};
+use trial::SMALLEST;
 
 // The session after a cut: recovering where the header lists a target, else ready. The blocks stored are no sound store, so it is not opened by the call.
 fn reopened(device: &[u8]) -> Session {
-    let head = block_in(device, DiskBlock(0));
-    if load2(head, 0) == 0 {
-        return Session::opened(64, Phase::Ready);
-    }
-    Session::opened(64, Phase::Recovering(0))
+    let phase = match load2(device, 0) {
+        0 => Phase::Ready,
+        _ => Phase::Recovering(0),
+    };
+    Session::opened(64, phase)
 }
 
-// Whether block b begins with a byte.
-fn is_new(device: &[u8], b: u32, byte: u32) -> bool {
-    load(block_in(device, DiskBlock(b)), 0) == byte
+// The blocks staged, and the byte that each begins with when it is new.
+const BLOCKS: [(u32, u8); 3] = [(34, 1), (50, 2), (42, 3)];
+
+fn is_new(device: &[u8], b: u32, byte: u8) -> bool {
+    load(block_in(device, DiskBlock(b)), 0) == u32::from(byte)
 }
 
-// Which of the three blocks are new.
-fn new_blocks(device: &[u8]) -> [bool; 3] {
-    [
-        is_new(device, 34, 1),
-        is_new(device, 50, 2),
-        is_new(device, 42, 3),
-    ]
-}
-
-// Block b staged with 512 times a byte.
-fn stage_block(t: &mut Mounted<SMALLEST>, b: u32, byte: u8) {
-    t.session = stage(&mut t.work, t.session, b, byte);
+// How many of the three blocks are new.
+fn new_blocks(device: &[u8]) -> usize {
+    BLOCKS
+        .iter()
+        .filter(|staged| is_new(device, staged.0, staged.1))
+        .count()
 }
 
 // The commit of three blocks on an empty store begun.
 fn commit_three() -> Mounted<SMALLEST> {
     let mut t = Mounted::empty();
-    stage_block(&mut t, 34, 1);
-    stage_block(&mut t, 50, 2);
-    stage_block(&mut t, 42, 3);
+    for (b, byte) in BLOCKS {
+        t.lent.stage(b, byte);
+    }
     let _ = t.commit();
     t
 }
 
 // A cut, and so many stores of the recovery.
 fn cut(t: &mut Mounted<SMALLEST>, n: usize) {
-    t.session = reopened(&t.device);
+    t.lent.session = reopened(&t.lent.device);
     t.advance_by(n);
 }
 
-// The blocks that are new after cuts behind i stores of the commit, j of a recovery and m of the next one, and a recovery to the end.
-fn after_cuts(i: usize, j: usize, m: usize) -> [bool; 3] {
+// How many blocks are new after cuts behind i stores of the commit, j of a recovery and m of the next one, and a recovery to the end.
+fn after_cuts(i: usize, j: usize, m: usize) -> usize {
     let mut t = commit_three();
     t.advance_by(i);
     cut(&mut t, j);
     cut(&mut t, m);
     cut(&mut t, 4);
-    new_blocks(&t.device)
+    new_blocks(&t.lent.device)
 }
 
-fn print_if(rt: &impl Print, word: &[u8], n: u64) -> io::Result<()> {
+// All second and third cuts behind a cut at i: how many of the 25 runs leave so many blocks new. One range for both cuts: of a `flat_map` over two ranges it
+// stayed open that its items can be counted.
+fn later_cuts(i: usize, new: usize) -> usize {
+    (0..25usize)
+        .filter(|k| after_cuts(i, *k / 5, *k % 5) == new)
+        .count()
+}
+
+fn count(rt: &impl Print, word: &str, n: usize) -> io::Result<()> {
     if n != 0 {
-        rt.write_all(word)?;
-        number(rt, n)?;
+        print!(rt; ", {word} of the blocks new in {n}")?;
     }
     Ok(())
 }
 
-// All second and third cuts behind a cut at i: how many of the 25 runs leave all three blocks new, or none of them.
-fn later_cuts(i: usize, new: bool) -> usize {
-    (0..25usize)
-        .filter(|k| after_cuts(i, *k / 5, *k % 5) == [new; 3])
-        .count()
-}
-
 fn line(rt: &impl Print, i: usize) -> io::Result<()> {
-    rt.write_all(b"cut behind store")?;
-    number(rt, i)?;
-    rt.write_all(b": of 25 runs")?;
-    print_if(
-        rt,
-        b", none of the blocks new in",
-        later_cuts(i, false) as u64,
-    )?;
-    print_if(
-        rt,
-        b", all of the blocks new in",
-        later_cuts(i, true) as u64,
-    )?;
-    rt.write_all(b"\n")
+    print!(rt; "cut behind store {i}: of 25 runs")?;
+    count(rt, "none", later_cuts(i, 0))?;
+    count(rt, "all", later_cuts(i, 3))?;
+    println!(rt)
 }
 
 fn main(rt: HostRuntime) -> io::Result<()> {

@@ -3,7 +3,7 @@ use Prim.Native.Nat.{ℕ, zero, suc, ◌+◌, ◌-◌, ◌<◌, ◌≤◌, min}
 use mathlib.Core.Path.{◌≡◌, refl, sym, ap, ◌∙◌}
 use mathlib.Core.Bool.{Bool, true, false, cond}
 use mathlib.Core.Logic.{◌⊎◌, inl, inr}
-use mathlib.Core.List.{List, [], ◌∷◌, ◌++◌, append-nil, append_assoc}
+use mathlib.Core.List.{List, [], ◌∷◌, ◌++◌, append_assoc}
 use native.Mathlib.Omega.{arith}
 use borrow.Author.Tests.{eq-eqb, ne_eqb, le-leb, lt-leb}
 use lib.Dec.{eqb, leb}
@@ -15,32 +15,24 @@ use Rattle.spec.specs.Disk.{Disk}
 use Rattle.spec.specs.Inode.{extent, inode_at, block_of_inode, blocks_in, extents_of, data_of, prepend, runs}
 use Rattle.spec.specs.Transaction.{State, view}
 use Rattle.spec.specs.Calls.{runs_of}
+use Rattle.lists.specs.Counts.{length-up_from}
 use Rattle.block.proofs.Laws.{lt-or-le}
+use Rattle.block.proofs.Lists.{up_from-append}
 use Rattle.transaction.specs.Volumes.{working, Shows}
 use Rattle.transaction.specs.declared.volume.Volume.{Volume}
 use Rattle.transaction.proofs.Laws.{shows-view}
 use Rattle.inode.specs.declared.Cursor.{Cursor}
-use Rattle.inode.specs.declared.Step.{Step}
-use Rattle.inode.specs.declared.Step.TheVariants.{Leaf}
-use Rattle.inode.specs.Walk.{Slot, live, rest, start_of, Onward, Inward, Ended, Steps}
-use Rattle.inode.proofs.Walk.{walk-leaf, walk_end, extents-start, block_start, slot_of, step-leaf}
+use Rattle.inode.specs.Walk.{Slot, live, rest, start_of, Onward, Inward, Ended}
+use Rattle.inode.proofs.Laws.{drop-take}
+use Rattle.inode.proofs.Walk.{extents-start, block_start, slot_of, step-leaf}
 use Rattle.extents.specs.declared.Scan.{Scan}
-use Rattle.std.specs.Prelude.{Option as Returned, Some, None, slice_get, option_map}
-use Rattle.extents.specs.Stretches.{run_of}
-use Rattle.extents.specs.Stretches.{Reached, Held, pending, Starts, blocks_at, pieces, left_at, TakesPiece, GoesOn, Passes, moved, runs_in}
+use Rattle.std.specs.Prelude.{Option as Returned, Some, None, MatchOption, slice_get, option_map}
+use Rattle.std.specs.Option.{ForSome}
+use Rattle.std.specs.Iterator.{YieldsFirst, MakesProgress, item_count}
+use Rattle.extents.specs.Stretches.{run_of, held_blocks, held_count}
+use Rattle.extents.specs.Stretches.{pending, Starts, blocks_at, pieces, left_at, TakesPiece, GoesOn, Passes, moved, runs_in}
 
 -- ---- lists of numbers in a row
-
-pub length_up : (a n : ℕ) → length (up_from a n) ≡ n
-length_up a zero = refl
-length_up a (suc n) = ap suc (length_up (suc a) n)
-
-pub up-join : (a n m : ℕ) → up_from a n ++ up_from (a + n) m ≡ up_from a (n + m)
-up-join a zero m = let y : a + 0 ≡ a = omega arith in let z : 0 + m ≡ m = omega arith in rw (y, z)
-up-join a (suc n) m =
-    let y : a + suc n ≡ suc a + n = omega arith in
-    let z : suc n + m ≡ suc (n + m) = omega arith in
-    rw (y, z) (ap (λ (l : List ℕ). a ∷ l) (up-join (suc a) n m))
 
 drop-inside : (a n k : ℕ) (ys : List ℕ) → k ≤ n → drop k (up_from a n ++ ys) ≡ up_from (a + k) (n - k) ++ ys
 drop-inside a n zero ys h = let y : a + 0 ≡ a = omega arith in let z : n - 0 ≡ n = omega arith in rw (y, z)
@@ -64,12 +56,6 @@ take-up a (suc n) (suc r) m ys e =
     rw (y, z) (ap (λ (l : List ℕ). a ∷ l) (take-up (suc a) n r (min n r) ys refl))
 
 -- a stretch of a list that is cut
-drop-cut : (M p : ℕ) (xs : List ℕ) → drop p (take M xs) ≡ take (M - p) (drop p xs)
-drop-cut M zero xs = let z : M - 0 ≡ M = omega arith in rw z
-drop-cut zero (suc p) xs = let z : 0 - suc p ≡ 0 = omega arith in rw z
-drop-cut (suc M) (suc p) [] = sym (take-nil {A = ℕ} (suc M - suc p))
-drop-cut (suc M) (suc p) (x ∷ xs) = let z : suc M - suc p ≡ M - p = omega arith in rw z (drop-cut M p xs)
-
 take-both : (n m : ℕ) (xs : List ℕ) → take n (take m xs) ≡ take (min n m) xs
 take-both zero m xs = let z : min 0 m ≡ 0 = omega arith in rw z
 take-both (suc n) zero xs = let z : min (suc n) 0 ≡ 0 = omega arith in rw z
@@ -80,66 +66,12 @@ take-both (suc n) (suc m) (x ∷ xs) = let z : min (suc n) (suc m) ≡ suc (min 
 data-from : (v : Disk) (i p : ℕ) → drop p (data_of v (inode_at v i)) ≡ take (2048 - p) (drop p (blocks_in (rest v (block_of_inode i) (start_of v i))))
 unfolding data_of
 data-from v i p =
-    drop-cut 2048 p (blocks_in (extents_of v (inode_at v i)))
+    drop-take 2048 p (blocks_in (extents_of v (inode_at v i)))
     ∙ ap (λ (es : List Extent). take (2048 - p) (drop p (blocks_in es))) (sym (extents-start v i))
 
 data-stretch : (v : Disk) (i p n : ℕ)
     → take n (drop p (data_of v (inode_at v i))) ≡ take (min n (2048 - p)) (drop p (blocks_in (rest v (block_of_inode i) (start_of v i))))
 data-stretch v i p n = ap (take n) (data-from v i p) ∙ take-both n (2048 - p) (drop p (blocks_in (rest v (block_of_inode i) (start_of v i))))
-
--- ---- one block
-
--- the blocks from place p on among those of some extents
-unfoldable pub blocks_from : ℕ → List Extent → List ℕ
-blocks_from p es = drop p (blocks_in es)
-
-module _ (v : Disk) (tb : ℕ) (c₀ c : Cursor) (p k : ℕ) (h : blocks_from k (rest v tb c) ≡ blocks_from p (rest v tb c₀)) where
-  pub seek_hit : (e : Extent) (d : Cursor) → Onward v tb c e d → k < e.count → Reached v tb c₀ p e k d
-  unfolding blocks_from blocks_in
-  seek_hit e d s l =
-      record {
-        blocks = sym (walk-leaf (blocks_from k) v tb c _ h e d s) ∙ drop-inside e.first e.count k (blocks_in (rest v tb d)) (omega arith);
-        inside = l;
-        first = s.first;
-        count = s.count;
-      }
-
-  pub seek-past : (e : Extent) (d : Cursor) → Onward v tb c e d → e.count ≤ k → blocks_from (k - e.count) (rest v tb d) ≡ blocks_from p (rest v tb c₀)
-  unfolding blocks_from blocks_in
-  seek-past e d s l = sym (drop_past e.first e.count k (blocks_in (rest v tb d)) l) ∙ walk-leaf (blocks_from k) v tb c _ h e d s
-
-  pub seek-end : Ended v tb c → drop p (blocks_in (rest v tb c₀)) ≡ []
-  unfolding blocks_from blocks_in
-  seek-end s = sym (walk_end (blocks_from k) v tb c _ h s) ∙ drop-nil k
-
--- a step over an extent
-pub on_leaf : (v : Disk) (tb : ℕ) (c : Cursor) (s : Step) (d : Cursor) (e : Extent) → Steps v tb c (Some (s, d)) → s ≡ Leaf e → Onward v tb c e d
-on_leaf v tb c s d e h q = rw q at h
-
-module _ (v : Disk) (i p tb : ℕ) (c : Cursor) (t : tb ≡ block_of_inode i) (b : c ≡ start_of v i) where
-  pub held_in : (e : Extent) (k : ℕ) (d : Cursor) → p < 2048 → Reached v tb c p e k d → Held v i p e k
-  held_in e k d low s =
-      let z : Reached v (block_of_inode i) (start_of v i) p e k d = rw (t, b) at s in
-      record {
-        follow = λ m h g.
-            let x : min m (2048 - p) ≡ m = omega arith in
-            let y : m ≡ min (e.count - k) m = omega arith in
-            let w : m - m ≡ 0 = omega arith in
-            data-stretch v i p m ∙ rw (x, z.blocks, take-up (e.first + k) (e.count - k) m m (blocks_in (rest v (block_of_inode i) d)) y, w) (append-nil (up_from (e.first + k) m));
-        inside = z.inside;
-        low = low;
-        first = z.first;
-        count = z.count;
-      }
-
-  pub held_none : drop p (blocks_in (rest v tb c)) ≡ [] → drop p (data_of v (inode_at v i)) ≡ []
-  held_none s =
-      let z : drop p (blocks_in (rest v (block_of_inode i) (start_of v i))) ≡ [] = rw (t, b) at s in
-      data-from v i p ∙ rw z (take-nil (2048 - p))
-
-module _ (v : Disk) (i p : ℕ) where
-  pub held-past : 2048 ≤ p → drop p (data_of v (inode_at v i)) ≡ []
-  held-past h = data-from v i p ∙ (let z : 2048 - p ≡ 0 = omega arith in rw z)
 
 -- ---- pieces of a stretch
 
@@ -244,7 +176,7 @@ pass-end c d X at left skip e h v tb x = rw e (h v tb x)
 
 -- a run that goes on
 pub run-joined : (a n m : ℕ) (ys : List ℕ) → up_from a n ++ (up_from (a + n) m ++ ys) ≡ up_from a (n + m) ++ ys
-run-joined a n m ys = sym (append_assoc (up_from a n) (up_from (a + n) m) ys) ∙ rw (up-join a n m)
+run-joined a n m ys = sym (append_assoc (up_from a n) (up_from (a + n) m) ys) ∙ rw (up_from-append a n m)
 
 -- a run that ends: its last block does not join what follows
 run-front : (a n : ℕ) (ys : List ℕ) → prepend (a + n) (runs ys) ≡ extent (a + n) 1 ∷ runs ys → runs (up_from a (suc n) ++ ys) ≡ extent a (suc n) ∷ runs ys
@@ -278,34 +210,55 @@ run-last a (suc n) p = run-front a n [] refl
 -- the blocks of the first piece and of the others
 pub piece-counts : (ps : List Extent) (e : Extent) (qs : List Extent) → ps ≡ e ∷ qs → length (blocks_in ps) ≡ e.count + length (blocks_in qs)
 unfolding blocks_in
-piece-counts ps e qs h = rw h (length-append (up_from e.first e.count) (blocks_in qs) ∙ ap (λ (k : ℕ). k + length (blocks_in qs)) (length_up e.first e.count))
+piece-counts ps e qs h = rw h (length-append (up_from e.first e.count) (blocks_in qs) ∙ ap (λ (k : ℕ). k + length (blocks_in qs)) (length-up_from e.first e.count))
 
--- the runs of a run in the making and of the pieces behind it
-module _ (first count : ℕ) (ps : List Extent) where
+-- an extent that an Option is said to hold
+pub first-held : {e x : Extent} → Some e ≡ Some x → e.first ≡ x.first
+first-held h = ap first_of h
+  where
+    first_of : Returned Extent → ℕ
+    first_of None = 0
+    first_of (Some e) = e.first
+
+pub count-held : {e x : Extent} → Some e ≡ Some x → e.count ≡ x.count
+count-held h = ap held_count h
+
+-- the runs of a run that may be held and of the pieces behind it
+abbrev runs_on : Returned Extent → List Extent → List Extent
+runs_on o ps = runs (held_blocks o ++ blocks_in ps)
+
+module _ (o : Returned Extent) (ps : List Extent) where
   -- the pieces begin with e, which goes on with the run or not
   module _ (e : Extent) (qs : List Extent) (h : ps ≡ e ∷ qs) where
-    pub run-begins : count ≡ 0 → runs (up_from first count ++ blocks_in ps) ≡ runs (up_from e.first e.count ++ blocks_in qs)
+    pub run-begins : o ≡ None → runs_on o ps ≡ runs_on (Some e) qs
     unfolding blocks_in
-    run-begins z = rw (z, h)
+    run-begins n = rw (n, h) refl
 
-    pub run-goes_on : first + count ≡ e.first → runs (up_from first count ++ blocks_in ps) ≡ runs (up_from first (count + e.count) ++ blocks_in qs)
-    unfolding blocks_in
-    run-goes_on q = rw (h, ← q) (ap runs (run-joined first count e.count (blocks_in qs)))
+    module _ (run : Extent) (s : o ≡ Some run) where
+      pub run-goes_on : run.first + run.count ≡ e.first → runs_on o ps ≡ runs_on (Some (extent run.first (run.count + e.count))) qs
+      unfolding blocks_in
+      run-goes_on q = rw (s, h, ← q) (ap runs (run-joined run.first run.count e.count (blocks_in qs)))
 
-    pub run-ends : (count ≡ 0 → ⊥) → 0 < e.count → (first + count ≡ e.first → ⊥)
-        → runs (up_from first count ++ blocks_in ps) ≡ extent first count ∷ runs (up_from e.first e.count ++ blocks_in qs)
-    unfolding blocks_in
-    run-ends z p q = rw h (run-apart first count e.first e.count (blocks_in qs) (omega arith) p q)
+      pub run-ends : 0 < run.count → 0 < e.count → (run.first + run.count ≡ e.first → ⊥) → runs_on o ps ≡ run ∷ runs_on (Some e) qs
+      unfolding blocks_in
+      run-ends z p q = rw (s, h) (run-apart run.first run.count e.first e.count (blocks_in qs) z p q)
 
-  -- no piece is left
-  module _ (h : ps ≡ []) where
-    pub run_none : count ≡ 0 → runs (up_from first count ++ blocks_in ps) ≡ []
+  -- no piece is left: the last run, and none behind it
+  module _ (qs : List Extent) (h : ps ≡ []) (k : qs ≡ []) where
+    pub last-told : (r n : Returned Extent) → ForSome o (λ e. 0 < e.count) → r ≡ o → n ≡ None
+        → MatchOption r ((runs_on o ps ≡ []) × (runs_on n qs ≡ [])) (λ e. runs_on o ps ≡ e ∷ runs_on n qs)
     unfolding blocks_in runs
-    run_none z = rw (z, h)
+    last-told r n z q m = rw (q, m, h, k) (go o z)
+      where
+        go : (o : Returned Extent) → ForSome o (λ e. 0 < e.count)
+            → MatchOption o ((runs_on o [] ≡ []) × (runs_on None [] ≡ [])) (λ e. runs_on o [] ≡ e ∷ runs_on None [])
+        go None z = (refl, refl)
+        go (Some e) z = run-last e.first e.count (z e refl)
 
-    pub run-is-last : (count ≡ 0 → ⊥) → runs (up_from first count ++ blocks_in ps) ≡ extent first count ∷ []
-    unfolding blocks_in
-    run-is-last z = rw h (run-last first count (omega arith))
+-- a step over the list of what is left goes on
+pub list-step : {S A : Type 0} (rest : S → List A) (s t : S) (r : Returned A) → YieldsFirst rest s r t → MakesProgress (λ _. Unit {0}) (item_count rest) s r t
+list-step rest s t None y = record { on = λ _. tt; keeps = tt; rests = λ _. tt }
+list-step rest s t (Some e) y = record { on = λ _. (tt, tt, omega (arith, ap length y)); keeps = tt; rests = λ _. tt }
 
 -- no list has more runs than numbers
 pub runs-few : (xs : List ℕ) → length (runs xs) ≤ length xs
@@ -321,9 +274,9 @@ runs-few (x ∷ xs) = go (runs xs) (runs-few xs)
         join true h = omega arith
         join false h = omega arith
 
--- at the start all runs of the stretch are left
+-- at the start, with no run held, all runs of the stretch are left
 pub record BegunIn (v : Disk) (i from n : ℕ) (ps : List Extent) : Type 0 where
-  pub runs : runs (up_from 0 0 ++ blocks_in ps) ≡ runs_in v i from n
+  pub runs : runs (blocks_in ps) ≡ runs_in v i from n
   pub some : length (runs_in v i from n) ≤ 2048
   pub few : length (blocks_in ps) ≤ 2048
 

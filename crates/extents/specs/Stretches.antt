@@ -1,5 +1,5 @@
 -- Stretches of a file's data blocks, as the steps of this crate go through them.
-use Rattle.std.specs.Prelude.{ℕ, ◌+◌, ◌-◌, ◌<◌, ◌≤◌, ◌≡◌, cond, eqb, leb, min, List, [], ◌∷◌, ◌++◌, take, drop}
+use Rattle.std.specs.Prelude.{ℕ, ◌+◌, ◌-◌, ◌<◌, ◌≤◌, ◌≡◌, cond, eqb, leb, min, List, [], ◌∷◌, take, drop}
 use Rattle.std.specs.Prelude.{Option as Returned, Some, None}
 use Rattle.std.proofs.Math.Option.{Option, none, some}
 use Rattle.spec.specs.declared.DiskBlock.{DiskBlock}
@@ -7,38 +7,11 @@ use Rattle.spec.specs.declared.Extent.{Extent}
 use Rattle.spec.specs.Bytes.{exactly, up_from}
 use Rattle.spec.specs.Disk.{Disk}
 use Rattle.spec.specs.Inode.{extent, inode_at, block_of_inode, blocks_in, data_of, runs}
-use Rattle.inode.specs.declared.Cursor.{Cursor}
 use Rattle.inode.specs.declared.slot_block.SlotBlock.{SlotBlock}
 use Rattle.inode.specs.Walk.{rest, leaf, weight}
-use Rattle.extents.specs.declared.Place.{Place}
 use Rattle.extents.specs.declared.Scan.{Scan}
 use Rattle.extents.specs.declared.AtSlot.{AtSlot}
 use Rattle.extents.specs.declared.AtSlot.TheVariants as slot
-
--- ---- one block
-
--- block k of the extent e is p blocks on from the cursor c, and d is behind e
-pub record Reached (v : Disk) (tb : ℕ) (c : Cursor) (p : ℕ) (e : Extent) (k : ℕ) (d : Cursor) : Type 0 where
-  pub blocks : drop p (blocks_in (rest v tb c)) ≡ up_from (e.first + k) (e.count - k) ++ blocks_in (rest v tb d)
-  pub inside : k < e.count
-  pub first : e.first < 65536
-  pub count : e.count < 65536
-
-abbrev pub Seeks : Disk → ℕ → Cursor → ℕ → Returned (Place × Cursor) → Type 0
-Seeks v tb c p (Some (e, d)) = Reached v tb c p e.extent e.skip d
-Seeks v tb c p None = drop p (blocks_in (rest v tb c)) ≡ []
-
--- block p of the file of record i is block k of the extent e, and the blocks behind it, to the end of e or of the largest file, follow it in the file
-pub record Held (v : Disk) (i p : ℕ) (e : Extent) (k : ℕ) : Type 0 where
-  pub follow : (m : ℕ) → m ≤ e.count - k → p + m ≤ 2048 → take m (drop p (data_of v (inode_at v i))) ≡ up_from (e.first + k) m
-  pub inside : k < e.count
-  pub low : p < 2048
-  pub first : e.first < 65536
-  pub count : e.count < 65536
-
-abbrev pub Places : Disk → ℕ → ℕ → Returned Place → Type 0
-Places v i p (Some e) = Held v i p e.extent e.skip
-Places v i p None = drop p (data_of v (inode_at v i)) ≡ []
 
 -- ---- a stretch
 
@@ -112,3 +85,12 @@ runs_in v i from n = runs (take n (drop from (data_of v (inode_at v i))))
 abbrev pub run_of : Option Extent → Returned Extent
 run_of none = None
 run_of (some e) = Some e
+
+-- the blocks of a run that is held, and how many they are
+abbrev pub held_blocks : Returned Extent → List ℕ
+held_blocks None = []
+held_blocks (Some e) = up_from e.first e.count
+
+abbrev pub held_count : Returned Extent → ℕ
+held_count None = 0
+held_count (Some e) = e.count

@@ -1,17 +1,18 @@
-// Stretches of a file's data blocks: the extent that holds a block of a file, the pieces of a stretch and its maximal runs.
+// Stretches of a file's data blocks: their pieces and their maximal runs.
 #![tactic(auto)]
 
 ghost use Rattle.std.specs.Prelude.{◌≡◌, [], ℕ, ◌+◌, ◌<◌, ◌≤◌, length};
+ghost use Rattle.std.specs.Option.{ForSome};
 ghost use Rattle.std.proofs.Math.ListN.{get_elem?};
 ghost use Rattle.spec.specs.Bytes.{exactly};
 ghost use Rattle.spec.specs.Disk.{Disk};
 ghost use Rattle.spec.specs.Inode.{block_of_inode, blocks_in};
 ghost use Rattle.transaction.specs.Volumes.{working};
 ghost use Rattle.inode.specs.Walk.{leaf};
-ghost use Rattle.extents.specs.Stretches.{Seeks, Places, Starts, SlotSteps, NodeSteps, Passes, moved, run_of, runs_in};
+ghost use Rattle.extents.specs.Stretches.{Starts, SlotSteps, NodeSteps, Passes, moved, run_of, runs_in, held_count};
 ghost use Rattle.extents.specs.Pieces.{pieces_left};
 
-use inode::{Cursor, InodeNumber, SlotBlock, Step, is_live, next, start, start_at, table_block};
+use inode::{Cursor, InodeNumber, SlotBlock, is_live, start_at};
 use spec::{DiskBlock, Extent, FileBlock, Limits};
 use transaction::WorkingCopy;
 
@@ -20,48 +21,6 @@ mod pieces;
 
 pub use piece::Piece;
 pub use pieces::Pieces;
-
-// Where a block of a file stands: so far into an extent.
-#[derive(Clone, Copy)]
-pub struct Place {
-    pub extent: Extent,
-    pub skip: u32,
-}
-
-// The block that is `place` blocks on from a cursor, with the cursor behind its extent. A loop, since a step takes the cursor that the last one gave: an iterator over the tree would have to say of each step that its numbers are small, for this one user, which tests and one program call.
-fn seek(copy: &WorkingCopy, tb: DiskBlock, cur: Cursor, place: FileBlock) -> Option<(Place, Cursor)>
-    ensures { Seeks (working copy.now) tb.0 cur place.0 result }
-{
-    let mut at = cur;
-    let mut left = place.0;
-    while let Some((step, then)) = next(copy, tb, at) {
-        if let Step::Leaf(e) = step {
-            let count = e.count as usize;
-            if left < count {
-                let found = Place {
-                    extent: e,
-                    skip: left as u32,
-                };
-                return Some((found, then));
-            }
-            left -= count;
-        }
-        at = then;
-    }
-    None
-}
-
-// Block `place` of the file of record i.
-pub fn extent_at(copy: &WorkingCopy, i: InodeNumber, place: FileBlock) -> Option<Place>
-    ensures { Places (working copy.now) i.n place.0 result }
-{
-    if Limits::MAX_FILE_BLOCKS <= place.0 {
-        return None;
-    }
-    let cur = start(copy, i);
-    let (found, _) = seek(copy, table_block(i), cur, place)?;
-    Some(found)
-}
 
 // n data blocks of a record from a block of its file on, as far as there are.
 #[derive(Clone, Copy)]
@@ -177,13 +136,14 @@ fn take_node(table: &SlotBlock, scan: Scan) -> Option<(DiskBlock, Scan)>
     Some((b, Scan { at, ..scan }))
 }
 
-// The maximal runs of a stretch, one by one: pieces that touch, as a damaged file may have them, are joined. A run that may go on is held, of no blocks where there is none: a test of its count is as plain as an Option, and the ghost fields speak of its numbers either way.
+// The maximal runs of a stretch, one by one: pieces that touch, as a damaged file may have them, are joined. The run that may go on is held, where there is one.
 #[derive(Clone, Copy)]
 pub struct Runs<'a> {
     pieces: Pieces<'a>,
-    run: Extent,
-    ghost first: { run.first < 131072 },
-    ghost few: { run.count + length (blocks_in (pieces_left pieces)) ≤ 2048 },
+    run: Option<Extent>,
+    ghost first: { ForSome run (λ e. e.first < 131072) },
+    ghost some: { ForSome run (λ e. 0 < e.count) },
+    ghost few: { held_count run + length (blocks_in (pieces_left pieces)) ≤ 2048 },
 }
 
 impl<'a> Runs<'a> {
@@ -195,7 +155,7 @@ impl<'a> Runs<'a> {
     {
         Runs {
             pieces: Pieces::of(copy, stretch),
-            run: Extent { first: 0, count: 0 },
+            run: None,
         }
     }
 }
@@ -214,22 +174,21 @@ impl<'a> Iterator for Runs<'a> {
     fn next(&mut self) -> Option<Extent> {
         while let Some(piece) = self.pieces.next() {
             let e = piece.extent;
-            if self.run.count == 0 {
-                self.run = e;
-            } else if self.run.first + self.run.count == e.first {
-                self.run.count += e.count;
-            } else {
-                let run = self.run;
-                self.run = e;
-                return Some(run);
+            match self.run {
+                Some(run) if run.first + run.count == e.first => {
+                    self.run = Some(Extent {
+                        first: run.first,
+                        count: run.count + e.count,
+                    });
+                }
+                Some(run) => {
+                    self.run = Some(e);
+                    return Some(run);
+                }
+                None => self.run = Some(e),
             }
         }
-        let run = self.run;
-        self.run = Extent { first: 0, count: 0 };
-        if run.count == 0 {
-            return None;
-        }
-        Some(run)
+        self.run.take()
     }
 }
 

@@ -90,19 +90,18 @@ run-direct [] device work first count skip len z h k =
     run-few : (v : Disk) → ((b : ℕ) → length (v b) ≡ 512) → length (take len (drop skip (run_bytes v first count))) ≡ len
     run-few v w = simp (length-take, length-drop) (omega (arith, run_length v w first count))
 
--- what comes next, `done` bytes into a stretch of the run that begins at byte `skip`
-pub run-next : (v : Disk) → ((b : ℕ) → length (v b) ≡ 512) → (first count skip len done n : ℕ) → skip + len ≤ 512 * count → done + n ≤ len → 0 < n
-    → (skip + done) % 512 + n ≤ 512
-    → take n (drop done (take len (drop skip (run_bytes v first count)))) ≡ take n (drop ((skip + done) % 512) (v (first + (skip + done) / 512)))
-run-next v w first count skip len done n h k z m =
+-- what comes next, `done` bytes into a stretch of the run that begins at byte `skip`: n bytes of block k, from byte `off` of it on
+pub run-next : (v : Disk) → ((b : ℕ) → length (v b) ≡ 512) → (first count skip len done k off n : ℕ) → skip + len ≤ 512 * count → skip + done ≡ 512 * k + off
+    → done + n ≤ len → off + n ≤ 512
+    → take n (drop done (take len (drop skip (run_bytes v first count)))) ≡ take n (drop off (v (first + k)))
+run-next v w first count skip len done k off zero h f l m = refl
+run-next v w first count skip len done k off (suc n) h f l m =
     let R = run_bytes v first count in
-    let q = skip + done in
-    let f : q ≡ 512 * (q / 512) + q % 512 = omega arith in
-    ap (take n) (drop-take len done (drop skip R))
-    ∙ take-take n (len - done) (drop done (drop skip R)) (omega arith)
-    ∙ ap (take n) (drop-drop done skip R)
-    ∙ ap (λ (i : ℕ). take n (drop i R)) f
-    ∙ run-part v w first count (q / 512) (q % 512) n (omega arith) m
+    ap (take (suc n)) (drop-take len done (drop skip R))
+    ∙ take-take (suc n) (len - done) (drop done (drop skip R)) (omega arith)
+    ∙ ap (take (suc n)) (drop-drop done skip R)
+    ∙ ap (λ (i : ℕ). take (suc n) (drop i R)) f
+    ∙ run-part v w first count k off (suc n) (omega arith) m
 
 -- ---- a stretch lands behind the one before it
 

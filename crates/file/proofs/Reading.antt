@@ -13,6 +13,7 @@ use Rattle.spec.specs.declared.Extent.{Extent}
 use Rattle.spec.specs.Inode.{inode_at, data_of, blocks_in}
 use Rattle.spec.specs.Map.{content_of}
 use Rattle.block.proofs.Laws.{lt-or-le}
+use Rattle.block.proofs.Lists.{concat-map-append}
 use Rattle.inode.proofs.Laws.{drop-take}
 use Rattle.extents.specs.Stretches.{blocks_at}
 use Rattle.extents.proofs.Laws.{piece-counts}
@@ -20,10 +21,6 @@ use Rattle.file.specs.Bytes.{run_bytes, block_bytes, Filled}
 use Rattle.file.proofs.Laws.{run_length, landed, landed_none, landed-length, landed-step}
 
 -- ---- bytes of blocks
-
-concat-append : (v : Disk) (xs ys : List ℕ) → concat (map v (xs ++ ys)) ≡ concat (map v xs) ++ concat (map v ys)
-concat-append v [] ys = refl
-concat-append v (x ∷ xs) ys = ap (λ (l : List ℕ). v x ++ l) (concat-append v xs ys) ∙ sym (append_assoc (v x) (concat (map v xs)) (concat (map v ys)))
 
 concat-drop : (v : Disk) → ((b : ℕ) → length (v b) ≡ 512) → (p : ℕ) (bs : List ℕ) → drop (512 * p) (concat (map v bs)) ≡ concat (map v (drop p bs))
 concat-drop v w zero bs = refl
@@ -50,7 +47,7 @@ left-start v w i x ps few s =
 
 left-next : (v : Disk) (ps : List Extent) (e : Extent) (qs : List Extent) → ps ≡ e ∷ qs → left_bytes v ps ≡ run_bytes v e.first e.count ++ left_bytes v qs
 unfolding left_bytes run_bytes blocks_in
-left-next v ps e qs h = rw h (concat-append v (up_from e.first e.count) (blocks_in qs))
+left-next v ps e qs h = rw h (concat-map-append v (up_from e.first e.count) (blocks_in qs))
 
 left-none : (v : Disk) (ps : List Extent) → ps ≡ [] → left_bytes v ps ≡ []
 unfolding left_bytes blocks_in

@@ -39,20 +39,20 @@ fn copy_part(block: &[u8], off: usize, to: &mut [u8])
 }
 
 // Bytes of blocks that follow each other, in the working copy: from byte `skip` of block `first` on, block by block.
-// A `while` over bytes: the first and the last part are shorter than a block.
 fn copy_blocks(copy: &WorkingCopy, run: Piece, skip: usize, to: &mut [u8])
     requires { skip + length to.old ≤ 512 * run.extent.count }
     ensures { to.new ≡ take (length to.old) (drop skip (run_bytes (working copy.now) run.extent.first run.extent.count)) }
 {
     let first = run.extent.first;
+    let end = skip + to.len();
+    let mut off = skip % Limits::BLOCK_SIZE;
     let mut done: usize = 0;
-    while done < to.len() {
-        let at = skip + done;
-        let off = at % Limits::BLOCK_SIZE;
-        let end = done + (Limits::BLOCK_SIZE - off).min(to.len() - done);
-        let block = copy.block(DiskBlock(first + (at / Limits::BLOCK_SIZE) as u32));
-        copy_part(block, off, &mut to[done..end]);
-        done = end;
+    for k in skip / Limits::BLOCK_SIZE..end.div_ceil(Limits::BLOCK_SIZE) {
+        let until = to.len().min(done + Limits::BLOCK_SIZE - off);
+        let block = copy.block(DiskBlock(first + k as u32));
+        copy_part(block, off, &mut to[done..until]);
+        done = until;
+        off = 0;
     }
 }
 
@@ -63,7 +63,7 @@ fn copy_run(copy: &WorkingCopy, run: Piece, skip: usize, to: &mut [u8])
 {
     let from = Limits::BLOCK_SIZE * (run.extent.first as usize) + skip;
     let end = from + to.len();
-    if (copy.staged.list.len() == 0) & (end <= copy.device.len()) {
+    if copy.staged.list.is_empty() && end <= copy.device.len() {
         to.copy_from_slice(&copy.device[from..end]);
     } else {
         copy_blocks(copy, run, skip, to);

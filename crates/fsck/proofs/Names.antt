@@ -1,7 +1,7 @@
 -- Names as numbers. Assumes nothing.
 use Prim.Native.Nat.{ℕ, zero, suc, ◌+◌, ◌-◌, ◌%◌, ◌<◌, ◌≤◌}
 use mathlib.Core.Path.{◌≡◌, refl, sym, ap, ◌∙◌}
-use mathlib.Core.Bool.{Bool, true, false, ◌||◌, true≢false}
+use mathlib.Core.Bool.{Bool, true, false, true≢false}
 use mathlib.Core.Logic.{⊎_elim}
 use mathlib.Core.List.{List, [], ◌∷◌}
 use mathlib.Core.Option.{Option, none, some}
@@ -17,13 +17,13 @@ use Rattle.spec.specs.Sound.{first_of_name}
 use Rattle.lists.specs.Lowest.{lowest-some, lowest-none, lowest-no}
 use Rattle.block.proofs.Laws.{lt-or-le, same_self}
 use Rattle.zeros.proofs.Laws.{zero-at}
+use Rattle.std.proofs.lemmas.Bool.{or_parts}
 use Rattle.block.specs.Keys.{key_of, Name}
 use Rattle.block.proofs.Keys.{same_key, zero-key, key-as}
 use Rattle.std.specs.Prelude.{Option as Returned, Some, None}
 use Rattle.inode.specs.Records.{record_in, found_of, lowest_to}
 use Rattle.block.proofs.Places.{found-some}
 use Rattle.inode.proofs.Laws.{record-at, lowest-hit, lowest-in, lowest-past, named_at, find-all}
-use Rattle.marks.proofs.Laws.{zero-byte}
 use Rattle.fsck.specs.declared.NameTable.{NameTable}
 use Rattle.fsck.specs.Names.{Seen, Told, seen_to}
 
@@ -32,10 +32,6 @@ found-none none e = refl
 found-none (some i) e = cc
 
 -- ---- numbers seen before
-
-neither : (a b : Bool) → (a || b) ≡ false → (a ≡ false) × (b ≡ false)
-neither false b q = (refl, q)
-neither true b q = absurd (true≢false q)
 
 module _ (x : ℕ) where
   seen_none : (numbers : List ℕ) (n : ℕ) → ((j : ℕ) → j < n → eqb (get_or numbers j 0) x ≡ false) → seen_to n x numbers ≡ false
@@ -46,8 +42,8 @@ module _ (x : ℕ) where
   seen_all : (numbers : List ℕ) (n : ℕ) → n ≤ length numbers → seen_to n x numbers ≡ false → (j : ℕ) → j < n → eqb (get_or numbers j 0) x ≡ false
   seen_all [] n l e j h = absurd (omega arith)
   seen_all (y ∷ ys) zero l e j h = absurd (omega arith)
-  seen_all (y ∷ ys) (suc n) l e zero h = (neither (eqb y x) _ e).0
-  seen_all (y ∷ ys) (suc n) l e (suc j) h = seen_all ys n (omega arith) (neither (eqb y x) _ e).1 j (omega arith)
+  seen_all (y ∷ ys) (suc n) l e zero h = (or_parts (eqb y x) _ e).0
+  seen_all (y ∷ ys) (suc n) l e (suc j) h = seen_all ys n (omega arith) (or_parts (eqb y x) _ e).1 j (omega arith)
 
 -- ---- the table of remainders
 
@@ -94,7 +90,7 @@ module _ (v : Disk) (full : (b : ℕ) → length (v b) ≡ 512) where
       full = length-replicate {A = ℕ} 128 0;
       number = λ j h. absurd (omega arith);
       bytes = λ j h. absurd (omega arith);
-      rest = λ j h. zero-byte 128 j;
+      rest = λ j h. zero-at (replicate 128 0) j refl;
     };
     remainders = record { full = length-replicate {A = Bool} 1021 false; told = λ j h. absurd (omega arith) };
   })

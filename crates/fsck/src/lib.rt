@@ -30,7 +30,8 @@ pub enum Damage {
     Block(DiskBlock),
 }
 
-// The names of the records passed, as numbers, by record; and which remainders are those of numbers that are not zero.
+// The names of the records passed, as numbers, by record; and which remainders are those of numbers that are not zero: flags in an array, since a HashSet wants
+// a heap.
 #[derive(Drop)]
 struct NameTable {
     numbers: [u64; Limits::INODE_COUNT],
@@ -38,7 +39,7 @@ struct NameTable {
 }
 
 impl NameTable {
-    // No name yet. A constructor and no Default: its contract says what it makes.
+    // No name yet. A constructor and no Default, which would leave it to a reader that zeros and false are no name.
     fn none() -> NameTable
         ensures { result ≡ record { numbers = replicate 128 0; seen = replicate 1021 false } }
     {

@@ -15,6 +15,7 @@ use std::marker::Model;
 use zeros::is_zero;
 
 // What a log lists: the first `count` cells of `list` are in use. An array and a length, since there is no heap; users see a list.
+// Not Copy: a type whose view leaves out the unused cells is refused as Copy.
 #[derive(Drop)]
 pub struct Targets {
     list: [u32; Limits::LOG_LENGTH],
@@ -65,7 +66,7 @@ fn record_targets(head: &[u8]) -> [u32; Limits::LOG_LENGTH]
     q
 }
 
-// Whether the last 14 bytes of record i are zero.
+// Whether the last 14 bytes of record i are zero: those that there are, where the header ends early, of which get(..) would give none.
 fn is_blank(head: &[u8], i: usize) -> bool
     requires { i < 32 }
     ensures { result ≡ all_zero (part (16 * i + 2) 14 head.now) }
@@ -77,8 +78,8 @@ fn is_blank(head: &[u8], i: usize) -> bool
 }
 
 // Whether record i is wrong, where l has the targets of all records.
-fn is_record_wrong(blocks: usize, head: &[u8], l: &[u32], i: usize) -> bool
-    requires { (l.now ≡ record_targets head.now) × (length l.now ≡ 32) × (i < 32) }
+fn is_record_wrong(blocks: usize, head: &[u8], l: &[u32; Limits::LOG_LENGTH], i: usize) -> bool
+    requires { (l.now ≡ record_targets head.now) × (i < 32) }
     ensures { result ≡ is_record_wrong blocks head.now i }
 {
     let t = l[i];

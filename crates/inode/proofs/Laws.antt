@@ -1,15 +1,15 @@
 -- Laws of file records. Assumes nothing.
 use Prim.Native.Nat.{ℕ, zero, suc, ◌+◌, ◌*◌, ◌-◌, ◌/◌, ◌%◌, ◌<◌, ◌≤◌}
 use mathlib.Core.Path.{◌≡◌, refl, sym, ap, ap₂, ◌∙◌}
+use mathlib.Core.Logic.{⊎_elim}
 use mathlib.Core.Bool.{Bool, true, false, cond, not, ◌&&◌}
 use mathlib.Core.List.{List, [], ◌∷◌}
 use mathlib.Core.Option.{Option, none, some}
-use native.Mathlib.Nat.{add-zero}
 use native.Mathlib.Numerals.{add-one}
 use native.Mathlib.Omega.{arith}
-use lib.Dec.{eqb, leb}
-use borrow.Author.Tests.{eqb-true, eq-eqb, ne_eqb, leb-true, le-leb, lt-leb, lt-ltb, le-ltb}
-use lib.ListN.{length, take, drop, get_or, replicate, length-take, length-drop}
+use lib.Dec.{eqb}
+use borrow.Author.Tests.{eqb-true, le-leb, lt-leb, lt-ltb, le-ltb}
+use lib.ListN.{length, take, drop, get_or, replicate, length-take, length-drop, get_or-eq_default}
 use lib.Seq.{ext_get_or, get_or-take, get_or-drop, take-take, take-nil, drop-drop}
 use Rattle.spec.specs.Bytes.{exactly, part, number2, number4, same, all_zero, found, place, lowest}
 use Rattle.spec.specs.Disk.{Disk, blocks_of, area_of}
@@ -17,17 +17,20 @@ use Rattle.spec.specs.declared.Session.{Session}
 use Rattle.spec.specs.Session.{staged_in}
 use Rattle.spec.specs.Transaction.{view, state_of}
 use Rattle.spec.specs.Inode.{slots_in, inode_of, inode_bytes, inode_at, name_at, is_empty, block_of_inode, place_of_inode, find, find_empty, nodes_for, levels_for}
-use Rattle.block.proofs.Laws.{length-exactly, get_or-exactly, exactly-all, block-length, block-is}
-use Rattle.lists.specs.Tests.{both_true}
+use Rattle.block.proofs.Laws.{lt-or-le, block-byte, length-exactly, get_or-exactly, exactly-all, block-length, block-is}
 use Rattle.lists.specs.Lowest as lows
 use Rattle.transaction.specs.Places.{view_in}
 use Rattle.transaction.proofs.Laws.{view-new}
 use Rattle.block.specs.Keys.{key_of, Name}
-use Rattle.block.proofs.Keys.{eight, same_key}
+use Rattle.block.proofs.Keys.{same_key}
 use Rattle.std.specs.List.{AllPass}
+use Rattle.std.specs.Int.{div_ceil}
 use Rattle.lists.specs.Places.{place-lt, place-value}
 use Rattle.inode.specs.Records.{bytes_in, record_in, named, found_of, lowest_to, is_table}
-use Rattle.std.specs.Prelude.{Option as Returned, Some, None}
+use Rattle.std.specs.Prelude.{Option as Returned, Some, None, ◌==◌}
+use Rattle.std.specs.List.{position, position_from}
+use Rattle.std.proofs.lemmas.Iterator.Adapters.{position_from-zero}
+use Rattle.std.specs.Simd.{first_chunks}
 
 -- ---- a record of w bytes at a place of a block
 
@@ -101,25 +104,14 @@ module _ (t : List ℕ) (i p r : ℕ) (e : p ≡ place_of_inode i) where
   depth-in q = q ∙ rw e (sym (field-byte t (place_of_inode i) 32 (place-fits i) 12 (omega arith)))
 
 -- the name as the code reads it, with the record's place p
-pub name-bytes : (t : List ℕ) (i p : ℕ) → p ≡ place_of_inode i
-    → (get_or t p 0 ∷ get_or t (p + 1) 0 ∷ get_or t (p + 2) 0 ∷ get_or t (p + 3) 0 ∷ get_or t (p + 4) 0 ∷ get_or t (p + 5) 0 ∷ get_or t (p + 6) 0 ∷ get_or t (p + 7) 0 ∷ [])
-    ≡ take 8 (record_in t i)
+pub name-bytes : (t : List ℕ) (i p : ℕ) → p ≡ place_of_inode i → exactly 8 (drop p t) ≡ take 8 (record_in t i)
 name-bytes t i p e =
     let f = place-fits i in
     let q : p + 8 ≤ 512 = omega arith in
-    let z : get_or t p 0 ≡ get_or (bytes_in t p 8) 0 0 = ap (λ (k : ℕ). get_or t k 0) (sym (add-zero p)) ∙ sym (field-byte t p 8 q 0 (omega arith)) in
-    rw (
-      z,
-      ← field-byte t p 8 q 1 (omega arith),
-      ← field-byte t p 8 q 2 (omega arith),
-      ← field-byte t p 8 q 3 (omega arith),
-      ← field-byte t p 8 q 4 (omega arith),
-      ← field-byte t p 8 q 5 (omega arith),
-      ← field-byte t p 8 q 6 (omega arith),
-      ← field-byte t p 8 q 7 (omega arith),
-    )
-    (sym (eight (bytes_in t p 8) (field-length t p 8 q))
-    ∙ ap (λ (k : ℕ). bytes_in t k 8) e ∙ sym (field-take t (place_of_inode i) 32 (place-fits i) 8 (omega arith)))
+    let l = length-exactly 8 (drop p t) in
+    ext_get_or 0 (exactly 8 (drop p t)) (bytes_in t p 8) (l ∙ sym (field-length t p 8 q))
+    (λ j k. let m : j < 8 = rw l at k in get_or-exactly 8 (drop p t) j m ∙ get_or-drop p t j 0 ∙ sym (field-byte t p 8 q j m))
+    ∙ ap (λ (k : ℕ). bytes_in t k 8) e ∙ sym (field-take t (place_of_inode i) 32 f 8 (omega arith))
 
 module _ (v : Disk) (t : List ℕ) (i : ℕ) (h : exactly 512 t ≡ v (block_of_inode i)) where
   pub record-at : record_in t i ≡ inode_bytes v i
@@ -134,30 +126,6 @@ module _ (v : Disk) (t : List ℕ) (i : ℕ) (h : exactly 512 t ≡ v (block_of_
   empty-at = ap (λ (x : List ℕ). all_zero (take 8 x)) record-at
 
 -- ---- names
-
--- where the block reaches so far, bytes at a place of it are a part of it
-pub bytes-part : (t : List ℕ) (at w : ℕ) → at + w ≤ 512 → at + w ≤ length t → take (at + w - at) (drop at t) ≡ bytes_in t at w
-bytes-part t at w fits long =
-    let n : at + w - at ≡ w = omega arith in
-    let l : length (take w (drop at t)) ≡ w = simp (length-take, length-drop) (omega arith) in
-    rw n (ext_get_or 0 (take w (drop at t)) (bytes_in t at w) (l ∙ sym (field-length t at w fits))
-    (λ i k. let m : i < w = rw l at k in get_or-take w (drop at t) i 0 m ∙ get_or-drop at t i 0 ∙ sym (field-byte t at w fits i m)))
-
-pub name-part : (t : List ℕ) (i at : ℕ) → at ≡ place_of_inode i → at + 8 ≤ length t → take (at + 8 - at) (drop at t) ≡ take 8 (record_in t i)
-name-part t i at e h =
-    let f = place-fits i in
-    bytes-part t at 8 (omega arith) h ∙ ap (λ (k : ℕ). bytes_in t k 8) e ∙ sym (field-take t (place_of_inode i) 32 f 8 (omega arith))
-
-module _ (t name : List ℕ) (i k key : ℕ) (n : Name name) (m : Name (take 8 (record_in t i))) (e : key ≡ key_of name) (f : k ≡ key_of (take 8 (record_in t i))) where
-  named-key : named t name i ≡ eqb k key
-  unfolding named
-  named-key = same_key (take 8 (record_in t i)) name (m.long ∙ sym n.long) m.small n.small ∙ rw (e, f)
-
-  pub key-hit : k ≡ key → named t name i ≡ true
-  key-hit h = named-key ∙ eq-eqb k key h
-
-  pub key-miss : (k ≡ key → ⊥) → named t name i ≡ false
-  key-miss h = named-key ∙ ne_eqb k key h
 
 pub same-zeros : (xs : List ℕ) → same xs (replicate (length xs) 0) ≡ all_zero xs
 same-zeros [] = refl
@@ -189,13 +157,9 @@ module _ (n : ℕ) (f : ℕ → Bool) (i : ℕ) where
   lowest-miss h q = let e : n - i ≡ suc (n - (i + 1)) = omega arith in rw (e, q, add-one i)
 
 -- two tests that agree
-lowest-same : (f g : ℕ → Bool) (a n : ℕ) → ((k : ℕ) → a ≤ k → k < a + n → f k ≡ g k) → lowest a n f ≡ lowest a n g
-lowest-same f g a zero h = refl
-lowest-same f g a (suc n) h = rw (h a (omega arith) (omega arith), lowest-same f g (suc a) n (λ k p q. h k (omega arith) (omega arith)))
-
 pub lowest-agree : (n : ℕ) (f g : ℕ → Bool) (i : ℕ) → ((k : ℕ) → i ≤ k → k < n → f k ≡ g k) → lowest_to n f i ≡ lowest_to n g i
 unfolding lowest_to
-lowest-agree n f g i h = ap found_of (lowest-same f g i (n - i) (λ k p q. h k p (omega arith)))
+lowest-agree n f g i h = ap found_of (lows.lowest-agree i (n - i) f g (λ k p q. h k p (omega arith)))
 
 -- a search in two parts
 lowest-first : (f : ℕ → Bool) (a d e j : ℕ) → found_of (lowest a d f) ≡ Some j → found_of (lowest a (d + e) f) ≡ Some j
@@ -262,6 +226,98 @@ lowest-moved f g a b (suc n) h = rw (h b (omega arith)) (go (g b) (lowest-moved 
     go true e = refl
     go false e = let z : suc (a + b) ≡ a + suc b = omega arith in rw z e
 
+-- ---- records of 32 bytes that lie one behind the other
+
+part-small : (t : List ℕ) (n at : ℕ) → ((i : ℕ) → get_or t i 0 < 256) → (i : ℕ) → get_or (take n (drop at t)) i 0 < 256
+part-small t n at h i =
+    ⊎_elim (λ (l : i < n). rw (get_or-take n (drop at t) i 0 l, get_or-drop at t i 0) (h (at + i)))
+    (λ (g : n ≤ i). rw (get_or-eq_default (take n (drop at t)) 0 {n = i} (rw length-take (omega arith))) (omega arith))
+    (lt-or-le i n)
+
+-- the name of record k of the table on the device
+lies-at : (t device : List ℕ) (k : ℕ) → 21504 ≤ length device → t ≡ take (21504 - 17408) (drop 17408 device) → k < 128 → take 8 (take 32 (drop (32 * k) t)) ≡ name_at (blocks_of device) k
+unfolding inode_bytes
+lies-at t device k l q h =
+    let long : length t ≡ 4096 = rw q (simp (length-take, length-drop) (omega arith)) in
+    let own = take 8 (take 32 (drop (32 * k) t)) in
+    let a : length own ≡ 8 = simp (length-take, length-drop) (omega arith) in
+    let b : length (name_at (blocks_of device) k) ≡ 8 = simp (length-take, length-drop, block-length) (omega arith) in
+    ext_get_or 0 own (name_at (blocks_of device) k) (a ∙ sym b)
+    (λ i u.
+    let n : i < 8 = rw a at u in
+    let y : 17408 + (32 * k + i) ≡ 512 * (34 + k / 16) + (32 * (k % 16) + i) = omega arith in
+    get_or-take 8 (take 32 (drop (32 * k) t)) i 0 n ∙ get_or-take 32 (drop (32 * k) t) i 0 (omega arith) ∙ get_or-drop (32 * k) t i 0
+    ∙ ap (λ (x : List ℕ). get_or x (32 * k + i) 0) q ∙ get_or-take 4096 (drop 17408 device) (32 * k + i) 0 (omega arith) ∙ get_or-drop 17408 device (32 * k + i) 0
+    ∙ ap (λ (x : ℕ). get_or device x 0) y
+    ∙ sym (get_or-take 8 (part (place_of_inode k) 32 (blocks_of device (block_of_inode k))) i 0 n
+    ∙ get_or-take 32 (drop (place_of_inode k) (blocks_of device (block_of_inode k))) i 0 (omega arith)
+    ∙ get_or-drop (place_of_inode k) (blocks_of device (block_of_inode k)) i 0
+    ∙ block-byte device (block_of_inode k) (place_of_inode k + i) (omega arith)))
+
+-- gone through from record i on
+from-record : (p : List ℕ → Bool) (f : ℕ → Bool) (n i : ℕ) (t : List ℕ) → ((k : ℕ) → k < n → p (take 32 (drop (32 * k) t)) ≡ f (i + k))
+    → position_from p i (first_chunks 32 n t) ≡ found_of (lowest i n f)
+from-record p f zero i t h = refl
+from-record p f (suc n) i t h =
+    let z : i + 0 ≡ i = omega arith in
+    rw (h 0 (omega arith), z)
+    (go (f i) (from-record p f n (i + 1) (drop 32 t)
+    (λ k l.
+    let y : 32 * k + 32 ≡ 32 * suc k = omega arith in
+    let x : i + suc k ≡ i + 1 + k = omega arith in
+    ap (λ (u : List ℕ). p (take 32 u)) (drop-drop (32 * k) 32 t ∙ ap (λ (q : ℕ). drop q t) (omega arith)) ∙ h (suc k) (omega arith) ∙ ap f x)))
+  where
+    go : (b : Bool) → position_from p (i + 1) (first_chunks 32 n (drop 32 t)) ≡ found_of (lowest (i + 1) n f)
+        → cond b (Some i) (position_from p (i + 1) (first_chunks 32 n (drop 32 t))) ≡ found_of (cond b (some i) (lowest (suc i) n f))
+    go true e = refl
+    go false e = e ∙ rw (add-one i)
+
+-- a name by its key, where the records are those whose names f tells
+pub first-named : (t name : List ℕ) (key n m : ℕ) (f : ℕ → Bool) → m ≡ n → 32 * n ≤ length t → ((i : ℕ) → get_or t i 0 < 256) → Name name → key ≡ key_of name
+    → ((k : ℕ) → k < n → same (take 8 (take 32 (drop (32 * k) t))) name ≡ f k)
+    → position (λ inode. key_of (take 8 inode) == key) (first_chunks 32 m t) ≡ found_of (lowest 0 n f)
+first-named t name key n m f q long small w e h =
+    position_from-zero (λ inode. key_of (take 8 inode) == key) (first_chunks 32 m t)
+    ∙ rw q
+    (from-record (λ inode. key_of (take 8 inode) == key) f n 0 t
+    (λ k l.
+    let own = take 32 (drop (32 * k) t) in
+    let whole : length (take 8 own) ≡ 8 = simp (length-take, length-drop) (omega arith) in
+    let z : 0 + k ≡ k = omega arith in
+    ap (λ (x : ℕ). key_of (take 8 own) == x) e
+    ∙ sym (same_key (take 8 own) name (whole ∙ sym w.long) (part-small own 8 0 (part-small t 32 (32 * k) small)) w.small)
+    ∙ h k l ∙ ap f (sym z)))
+
+-- what a search by a name's key answers of the records in some bytes
+abbrev SearchedIn : List ℕ → List (List ℕ) → ℕ → Returned ℕ → Type 0
+SearchedIn t records key r = (records ≡ first_chunks 32 (length t / 32) t) × (r ≡ position (λ inode. key_of (take 8 inode) == key) records)
+
+-- of a whole block
+pub first-in-block : (t name : List ℕ) (records : List (List ℕ)) (key : ℕ) (r : Returned ℕ) → SearchedIn t records key r → length t ≡ 512 → ((i : ℕ) → get_or t i 0 < 256)
+    → Name name → key ≡ key_of name → r ≡ lowest_to 16 (named t name) 0
+unfolding lowest_to named bytes_in
+first-in-block t name records key r s l small w e =
+    let z : length t / 32 ≡ 16 = omega arith in
+    s.1
+    ∙ rw s.0
+    (first-named t name key 16 (length t / 32) (named t name) z (omega arith) small w e
+    (λ k h.
+    let p : 32 * (k % 16) ≡ 32 * k = omega arith in
+    rw (exactly-all 512 t l, p)))
+
+-- of the table on the device
+pub first-on-device : (t device name : List ℕ) (records : List (List ℕ)) (key : ℕ) (r : Returned ℕ) → SearchedIn t records key r → 21504 ≤ length device
+    → t ≡ take (21504 - 17408) (drop 17408 device) → ((i : ℕ) → get_or device i 0 < 256) → Name name → key ≡ key_of name → r ≡ found_of (find (blocks_of device) name)
+unfolding find inode_bytes
+first-on-device t device name records key r s l q small w e =
+    let long : length t ≡ 4096 = rw q (simp (length-take, length-drop) (omega arith)) in
+    let z : length t / 32 ≡ 128 = omega arith in
+    let v = blocks_of device in
+    s.1
+    ∙ rw s.0
+    (first-named t name key 128 (length t / 32) (λ i. same (name_at v i) name) z (omega arith) (rw q (part-small device 4096 17408 small)) w e
+    (λ k h. ap (λ (x : List ℕ). same x name) (lies-at t device k l q h)))
+
 -- the 16 records of one block searched
 module _ (v : Disk) (t name : List ℕ) (first : ℕ) (low : first < 128) (whole : first % 16 ≡ 0) (e : exactly 512 t ≡ v (block_of_inode first)) where
   named-in : (k : ℕ) → k < 16 → named_at v name (first + k) ≡ named t name k
@@ -304,7 +360,7 @@ pub find-zeros : (v : Disk) (name : List ℕ) (r : Returned ℕ) → ((b : ℕ) 
 unfolding find find_empty inode_bytes
 find-zeros v name r l e q =
     q
-    ∙ ap found_of (lowest-same (λ i. same (name_at v i) name) (is_empty v) 0 128
+    ∙ ap found_of (lows.lowest-agree 0 128 (λ i. same (name_at v i) name) (is_empty v)
     (λ k p h.
     let n : length (name_at v k) ≡ 8 = simp (length-take, length-drop, l) (omega arith) in
     rw e (ap (λ (m : ℕ). same (name_at v k) (replicate m 0)) (sym n) ∙ same-zeros (name_at v k))))
@@ -352,14 +408,12 @@ pub block-lent : (device : List ℕ) (b at end : ℕ) → at ≡ 512 * b → end
 block-lent device b at end e f = let z : end - at ≡ 512 = omega arith in ap₂ (λ (n k : ℕ). exactly 512 (take n (drop k device))) z e ∙ sym (block-is device b)
 
 -- the block of record i, where nothing is staged
-pub table-lent : (staged device work : List ℕ) (i at end : ℕ) → (eqb (length staged) 0 && leb 21504 (length device)) ≡ true → i < 128 → at ≡ 17408 + 512 * (i / 16) → end ≡ at + 512
-    → (end ≤ length device)
-    × (exactly 512 (take (end - at) (drop at device)) ≡ view_in staged device work (block_of_inode i))
+pub table-lent : (staged device work : List ℕ) (i at end : ℕ) → true ≡ eqb (length staged) 0 → i < 128 → at ≡ 17408 + 512 * (i / 16) → end ≡ at + 512
+    → (exactly 512 (take (end - at) (drop at device)) ≡ view_in staged device work (block_of_inode i))
     × (length (take (end - at) (drop at device)) ≤ 512)
-table-lent (x ∷ xs) device work i at end t h e f = absurd (omega (arith, eqb-true (length (x ∷ xs)) 0 (both_true (eqb (length (x ∷ xs)) 0) (leb 21504 (length device)) t).0))
+table-lent (x ∷ xs) device work i at end t h e f = absurd (omega (arith, eqb-true (length (x ∷ xs)) 0 (sym t)))
 table-lent [] device work i at end t h e f =
     let z : end - at ≡ 512 = omega arith in (
-      omega (arith, leb-true 21504 (length device) (both_true (eqb 0 0) (leb 21504 (length device)) t).1),
       block-lent device (block_of_inode i) at end (omega arith) f ∙ sym (view-new [] device work (block_of_inode i) refl),
       rw z (simp length-take (omega arith)),
     )
@@ -370,6 +424,6 @@ pub nodes-few : (n : ℕ) → n ≤ 4 → 0 ≡ nodes_for n
 unfolding levels_for
 nodes-few n h = rw (le-leb n 4 h)
 
-pub nodes-many : (n : ℕ) → 4 < n → (n - 1) / 128 + 1 ≡ nodes_for n
+pub nodes-many : (n : ℕ) → 4 < n → div_ceil n 128 ≡ nodes_for n
 unfolding levels_for
 nodes-many n h = rw (lt-leb n 4 h) (omega arith)

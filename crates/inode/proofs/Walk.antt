@@ -161,14 +161,6 @@ module _ (v : Disk) (tb : ℕ) (c : Cursor) where
       record { extents = rw (k, j); nodes = rw j }
   -- a step by its kind
 
--- any function of the extents that are left, along a step
-module _ {B : Type 0} (F : List Extent → B) (v : Disk) (tb : ℕ) (c : Cursor) (r : B) (h : F (rest v tb c) ≡ r) where
-  pub walk-leaf : (e : Extent) (d : Cursor) → Onward v tb c e d → F (e ∷ rest v tb d) ≡ r
-  walk-leaf e d s = ap F (sym s.extents) ∙ h
-
-  pub walk_end : Ended v tb c → F [] ≡ r
-  walk_end s = ap F (sym s.extents) ∙ h
-
 -- ---- the start
 
 module _ (v : Disk) (t : List ℕ) (i tb p x : ℕ) (b : tb ≡ block_of_inode i) (q : p ≡ place_of_inode i)
@@ -200,43 +192,44 @@ module _ (v : Disk) (i : ℕ) where
   deep : (d : ℕ) → (d ≡ 0 → ⊥) → min d 1 ≡ 1
   deep d h = omega arith
 
-  pub extents-start : rest v (block_of_inode i) (start_of v i) ≡ extents_of v (inode_at v i)
-  unfolding start_of rest extents_of
-  extents-start = go (eqb (inode_at v i).depth 0) refl
+  -- whichever the depth
+  record Begun : Type 0 where
+    extents : rest v (block_of_inode i) (start_of v i) ≡ extents_of v (inode_at v i)
+    nodes : rest_nodes v (block_of_inode i) (start_of v i) ≡ nodes_of v (inode_at v i)
+    block : (start_of v i).block ≡ block_of_inode i
+    light : weight (start_of v i) ≤ 516
+
+  begun : Begun
+  unfolding start_of rest rest_nodes extents_of levels_of
+  begun = go (eqb (inode_at v i).depth 0) refl
     where
-      go : (t : Bool) → eqb (inode_at v i).depth 0 ≡ t → rest v (block_of_inode i) (start_of v i) ≡ extents_of v (inode_at v i)
+      go : (t : Bool) → eqb (inode_at v i).depth 0 ≡ t → Begun
       go true z =
           let d : tree_depth (inode_at v i) ≡ 0 = flat (inode_at v i).depth (eqb-true (inode_at v i).depth 0 z) in
-          rw (z, d, leaf-none (block_of_inode i) 0, leaf-start, append-nil)
+          record {
+            extents = rw (z, d, leaf-none (block_of_inode i) 0, leaf-start, append-nil);
+            nodes = rw (z, d, leaf-none (block_of_inode i) 0);
+            block = rw z;
+            light = rw z (omega arith);
+          }
       go false z =
           let d : tree_depth (inode_at v i) ≡ 1 = deep (inode_at v i).depth (eqb-false (inode_at v i).depth 0 z) in
-          rw (z, d, leaf-none (block_of_inode i) 0, leaf-start)
+          record {
+            extents = rw (z, d, leaf-none (block_of_inode i) 0, leaf-start);
+            nodes = rw (z, d, leaf-start) (sym (append-nil _));
+            block = rw z;
+            light = rw z (omega arith);
+          }
+
+  pub extents-start : rest v (block_of_inode i) (start_of v i) ≡ extents_of v (inode_at v i)
+  extents-start = begun.extents
 
   pub nodes-start : rest_nodes v (block_of_inode i) (start_of v i) ≡ nodes_of v (inode_at v i)
-  unfolding start_of rest_nodes levels_of
-  nodes-start = go (eqb (inode_at v i).depth 0) refl
-    where
-      go : (t : Bool) → eqb (inode_at v i).depth 0 ≡ t → rest_nodes v (block_of_inode i) (start_of v i) ≡ nodes_of v (inode_at v i)
-      go true z =
-          let d : tree_depth (inode_at v i) ≡ 0 = flat (inode_at v i).depth (eqb-true (inode_at v i).depth 0 z) in
-          rw (z, d, leaf-none (block_of_inode i) 0)
-      go false z =
-          let d : tree_depth (inode_at v i) ≡ 1 = deep (inode_at v i).depth (eqb-false (inode_at v i).depth 0 z) in
-          rw (z, d, leaf-start) (sym (append-nil _))
+  nodes-start = begun.nodes
 
   -- the walk begins in the record's block
   pub block_start : (start_of v i).block ≡ block_of_inode i
-  unfolding start_of
-  block_start = go (eqb (inode_at v i).depth 0) refl
-    where
-      go : (t : Bool) → eqb (inode_at v i).depth 0 ≡ t → (start_of v i).block ≡ block_of_inode i
-      go true z = rw z
-      go false z = rw z
+  block_start = begun.block
 
   pub weight-start : weight (start_of v i) ≤ 516
-  unfolding start_of
-  weight-start = go (eqb (inode_at v i).depth 0) refl
-    where
-      go : (t : Bool) → eqb (inode_at v i).depth 0 ≡ t → weight (start_of v i) ≤ 516
-      go true z = rw z (omega arith)
-      go false z = rw z (omega arith)
+  weight-start = begun.light

@@ -2,16 +2,16 @@
 #![tactic(auto)]
 
 ghost use Rattle.std.specs.List.{AllPass};
-ghost use Rattle.std.specs.Prelude.{◌≡◌, true, not, List, [], ℕ, ◌+◌, ◌*◌, ◌<◌, ◌≤◌, length, take, get_or, IfSome};
+ghost use Rattle.std.specs.Prelude.{◌≡◌, true, not, List, [], ℕ, ◌+◌, ◌*◌, ◌<◌, ◌≤◌, ◌==◌, length, take, get_or, position, IfSome};
 ghost use Rattle.spec.specs.Bytes.{exactly, all_zero};
 ghost use Rattle.spec.specs.Disk.{Disk, blocks_of};
 ghost use Rattle.spec.specs.Inode.{inode_of, block_of_inode, find, find_empty, blocks_for, nodes_for};
 ghost use Rattle.transaction.specs.Volumes.{working};
 ghost use Rattle.block.specs.Keys.{key_of, Name};
 ghost use Rattle.inode.specs.Records.{record_in, named, found_of, lowest_to, number_told, is_table};
-ghost use Rattle.inode.specs.Walk.{slot_in, live, leaf, Passed, Enters, Steps, start_of};
+ghost use Rattle.inode.specs.Walk.{slot_in, live, leaf, Passed, Enters, start_of};
 
-use block::{area_of, byte, copy_of, key_of, load, load4, place_in_block};
+use block::{area_of, bytes_at, copy_of, key_of, load, load4, place_in_block};
 use spec::{Area, DiskBlock, Extent, Limits};
 use transaction::WorkingCopy;
 
@@ -40,7 +40,7 @@ pub fn inode_block<'a>(copy: &WorkingCopy<'a>, i: InodeNumber) -> &'a [u8]
     ensures { (exactly 512 result.now ≡ working copy.now (block_of_inode i.n)) × (length result.now ≤ 512) }
 {
     let device = copy.device;
-    if (copy.staged.list.len() == 0) & (TABLE_END <= device.len()) {
+    if copy.staged.list.is_empty() && TABLE_END <= device.len() {
         let at = TABLE_START + Limits::BLOCK_SIZE * (i.n / Limits::INODES_PER_BLOCK);
         let end = at + Limits::BLOCK_SIZE;
         return &device[at..end];
@@ -63,33 +63,17 @@ pub fn depth_of(table: &[u8], i: usize) -> u32
 }
 
 // The name of record i.
-pub fn name_of(table: &[u8], i: usize) -> [u8; 8]
+pub fn name_of(table: &[u8], i: usize) -> [u8; Limits::NAME_SIZE]
     ensures { result ≡ take 8 (record_in table.now i) }
 {
-    let p = place_in_block(i);
-    [
-        byte(table, p),
-        byte(table, p + 1),
-        byte(table, p + 2),
-        byte(table, p + 3),
-        byte(table, p + 4),
-        byte(table, p + 5),
-        byte(table, p + 6),
-        byte(table, p + 7),
-    ]
+    bytes_at(table, place_in_block(i))
 }
 
 // The name of record i as one number.
 pub fn key_at(table: &[u8], i: usize) -> u64
     ensures { (result ≡ key_of (take 8 (record_in table.now i))) × Name (take 8 (record_in table.now i)) }
 {
-    let at = place_in_block(i);
-    let end = at + Limits::NAME_SIZE;
-    if end <= table.len() {
-        return key_of(&table[at..end]);
-    }
-    let name = name_of(table, i);
-    key_of(&name)
+    key_of(&name_of(table, i))
 }
 
 // "all zero: record empty"
@@ -99,18 +83,21 @@ pub fn is_empty(table: &[u8], i: usize) -> bool
     key_at(table, i) == 0
 }
 
+// The first of some records whose name has this key.
+fn first_with(records: &[[u8; Limits::INODE_SIZE]], key: u64) -> Option<usize>
+    ensures { (result ≡ position (λ inode. key_of (take 8 inode) == key) records.now) × IfSome result (λ k. k < length records.now) }
+{
+    records
+        .iter()
+        .position(|inode| key_of(inode.first_chunk::<8>().unwrap()) == key)
+}
+
 // The lowest of the 16 records of a block of the table that has this name, counted from the block's first.
 fn find_whole(table: &[u8; Limits::BLOCK_SIZE], key: u64) -> Option<usize>
     ensures { ((name : List ℕ) → Name name → key ≡ key_of name → result ≡ lowest_to 16 (named table.now name) 0) × IfSome result (λ k. k < 16) }
 {
-    for k in 0..Limits::INODES_PER_BLOCK {
-        let at = Limits::INODE_SIZE * k;
-        let end = at + Limits::NAME_SIZE;
-        if key_of(&table[at..end]) == key {
-            return Some(k);
-        }
-    }
-    None
+    let (records, _) = table.as_chunks();
+    first_with(records, key)
 }
 
 // The same of a block that ends early, of a copy: in a function of its own, since a function clears its copy where it begins.
@@ -144,20 +131,14 @@ fn find_key(copy: &WorkingCopy, key: u64) -> Option<InodeNumber>
     None
 }
 
-// The same in the table as it lies on the device. One search for both takes 58 ns in place of 50 where no record has the name.
+// The same in the table as it lies on the device. One search for both takes 42 ns in place of 21.
 fn find_committed(device: &[u8], key: u64) -> Option<InodeNumber>
     requires { 21504 ≤ length device.now }
     ensures { (name : List ℕ) → Name name → key ≡ key_of name → number_told result ≡ found_of (find (blocks_of device.now) name) }
 {
-    for block in 0..TABLE_BLOCKS {
-        let first = Limits::INODES_PER_BLOCK * block;
-        let at = TABLE_START + Limits::BLOCK_SIZE * block;
-        let end = at + Limits::BLOCK_SIZE;
-        if let Some(k) = find_in_block(&device[at..end], key) {
-            return Some(InodeNumber { n: first + k });
-        }
-    }
-    None
+    let (records, _) = device[TABLE_START..TABLE_END].as_chunks();
+    let i = first_with(records, key)?;
+    Some(InodeNumber { n: i })
 }
 
 // Whether a block is one of the table.
@@ -181,10 +162,7 @@ fn is_table_committed(staged: &[u32]) -> bool
 pub fn find(copy: &WorkingCopy, name: &[u8]) -> Option<InodeNumber>
     ensures { number_told result ≡ found_of (find (working copy.now) name.now) }
 {
-    if name.len() != Limits::NAME_SIZE {
-        return None;
-    }
-    let key = key_of(name);
+    let key = key_of(name.as_array()?);
     if TABLE_END <= copy.device.len() && is_table_committed(copy.staged.list) {
         return find_committed(copy.device, key);
     }
@@ -246,13 +224,6 @@ impl Cursor {
     }
 }
 
-// What a step of the walk finds: an extent, or a node, whose extents follow.
-#[derive(Clone, Copy)]
-pub enum Step {
-    Leaf(Extent),
-    Node(DiskBlock),
-}
-
 // A slot's four bytes.
 fn slot_of(bytes: &[u8; Limits::SLOT_SIZE]) -> Extent
     ensures { (result ≡ slot_in 0 bytes.now) × (result.first < 65536) × (result.count < 65536) }
@@ -265,37 +236,14 @@ fn slot_of(bytes: &[u8; Limits::SLOT_SIZE]) -> Extent
 }
 
 // Whether slots are left and the first of them is used.
+#[tactic(auto, unfolding(crate::specs::Walk::live))]
 pub fn is_live(n: usize, e: Extent) -> bool
     ensures { result ≡ live n e }
 {
-    (0 < n) & !(e.count == 0)
+    0 < n && e.count != 0
 }
 
-// The next extent or node of a tree whose record stands in block tb, and the cursor behind it.
-pub fn next(copy: &WorkingCopy, tb: DiskBlock, cur: Cursor) -> Option<(Step, Cursor)>
-    ensures { Steps (working copy.now) tb.0 cur result }
-{
-    let block = SlotBlock {
-        bytes: copy.block(DiskBlock(cur.block)),
-    };
-    if let Some((e, then)) = cur.pass(&block) {
-        return Some((Step::Leaf(e), then));
-    }
-    let table = SlotBlock {
-        bytes: copy.block(tb),
-    };
-    let (b, then) = cur.enter(&table)?;
-    Some((Step::Node(b), then))
-}
-
-// The cursor before the first extent of record i.
-pub fn start(copy: &WorkingCopy, i: InodeNumber) -> Cursor
-    ensures { result ≡ start_of (working copy.now) i.n }
-{
-    start_at(inode_block(copy, i), i)
-}
-
-// The same, of the block of the table that holds record i.
+// The cursor before the first extent of record i, of the block of the table that holds it.
 pub fn start_at(table: &[u8], i: InodeNumber) -> Cursor
     ensures { (v : Disk) → exactly 512 table.now ≡ v (block_of_inode i.n) → result ≡ start_of v i.n }
 {
@@ -326,7 +274,7 @@ pub fn blocks_for(size: usize) -> usize
     requires { size < 4294967296 }
     ensures { (result ≡ blocks_for size) × (result ≤ 8388608) }
 {
-    (size + (Limits::BLOCK_SIZE - 1)) / Limits::BLOCK_SIZE
+    size.div_ceil(Limits::BLOCK_SIZE)
 }
 
 // "Extent blocks are one for each 128 extents begun, when there are more than 4."
@@ -336,5 +284,5 @@ pub fn nodes_for(extents: usize) -> usize
     if extents <= Limits::SLOTS_PER_INODE {
         return 0;
     }
-    (extents - 1) / Limits::SLOTS_PER_NODE + 1
+    extents.div_ceil(Limits::SLOTS_PER_NODE)
 }

@@ -1,12 +1,15 @@
-// Runs the functions of inode and extents on a small device written by hand: records found, trees walked, blocks and runs of files.
+// Runs the functions of inode and extents on a small device written by hand: records found, trees walked, the blocks and runs of files.
 #![tactic(auto)]
 
 use extents::Stretch;
-use inode::{Cursor, InodeNumber, Step};
+use inode::InodeNumber;
 use spec::{DiskBlock, Extent, FileBlock, Limits, Phase, Session};
 use std::io;
 use transaction::{Volume, WorkingCopy};
 use trial::{number, put};
+use walk::{Step, Walk};
+
+mod walk;
 
 // Where the table begins, and its second block.
 const TABLE: usize = Limits::BLOCK_SIZE * (Limits::INODE_START as usize);
@@ -66,18 +69,15 @@ fn show_empty(rt: &impl Print, copy: &WorkingCopy) -> io::Result<()> {
     show_found(rt, inode::find_empty(copy))
 }
 
-fn show_record(rt: &impl Print, copy: &WorkingCopy, i: usize) -> io::Result<()> {
-    if 127 < i {
-        return Ok(());
-    }
+fn show_record(rt: &impl Print, copy: &WorkingCopy, i: InodeNumber) -> io::Result<()> {
     rt.write_all(b"record")?;
-    number(rt, i)?;
-    let table = inode::inode_block(copy, InodeNumber { n: i });
+    number(rt, i.n)?;
+    let table = inode::inode_block(copy, i);
     rt.write_all(b": size")?;
-    number(rt, inode::size_of(table, i))?;
+    number(rt, inode::size_of(table, i.n))?;
     rt.write_all(b", depth")?;
-    number(rt, inode::depth_of(table, i))?;
-    if inode::is_empty(table, i) {
+    number(rt, inode::depth_of(table, i.n))?;
+    if inode::is_empty(table, i.n) {
         rt.write_all(b", empty")?;
     }
     rt.write_all(b"\n")
@@ -94,46 +94,49 @@ fn show_node(rt: &impl Print, b: DiskBlock) -> io::Result<()> {
     number(rt, b.0)
 }
 
-// The extents and nodes from a cursor on: a loop that holds the cursor, since an iterator over the tree would have to say of each step that its numbers are small, for this program and one search.
-fn walk_from(rt: &impl Print, copy: &WorkingCopy, tb: DiskBlock, cur: Cursor) -> io::Result<()> {
-    let mut at = cur;
-    while let Some((step, then)) = inode::next(copy, tb, at) {
+// The extents and nodes of a file's tree.
+fn show_walk(rt: &impl Print, copy: &WorkingCopy, i: InodeNumber) -> io::Result<()> {
+    rt.write_all(b"walk of")?;
+    number(rt, i.n)?;
+    rt.write_all(b":")?;
+    for step in Walk::of(copy, i) {
         match step {
             Step::Leaf(e) => show_extent(rt, e)?,
             Step::Node(b) => show_node(rt, b)?,
         }
-        at = then;
     }
-    Ok(())
-}
-
-fn walk(rt: &impl Print, copy: &WorkingCopy, i: usize) -> io::Result<()> {
-    if 127 < i {
-        return Ok(());
-    }
-    rt.write_all(b"walk of")?;
-    number(rt, i)?;
-    rt.write_all(b":")?;
-    let inode = InodeNumber { n: i };
-    let cur = inode::start(copy, inode);
-    walk_from(rt, copy, inode::table_block(inode), cur)?;
     rt.write_all(b" end\n")
 }
 
-fn show_block(rt: &impl Print, copy: &WorkingCopy, i: usize, place: usize) -> io::Result<()> {
-    if 127 < i {
-        return Ok(());
+// The extent that holds block `place` of a file, and how far into it.
+fn extent_at(copy: &WorkingCopy, i: InodeNumber, place: usize) -> Option<(Extent, usize)> {
+    if Limits::MAX_FILE_BLOCKS <= place {
+        return None;
     }
+    let mut left = place;
+    for step in Walk::of(copy, i) {
+        if let Step::Leaf(e) = step {
+            let count = e.count as usize;
+            if left < count {
+                return Some((e, left));
+            }
+            left -= count;
+        }
+    }
+    None
+}
+
+fn show_block(rt: &impl Print, copy: &WorkingCopy, i: InodeNumber, place: usize) -> io::Result<()> {
     rt.write_all(b"block")?;
     number(rt, place)?;
     rt.write_all(b" of")?;
-    number(rt, i)?;
+    number(rt, i.n)?;
     rt.write_all(b":")?;
-    match extents::extent_at(copy, InodeNumber { n: i }, FileBlock(place)) {
-        Some(found) => {
-            show_extent(rt, found.extent)?;
+    match extent_at(copy, i, place) {
+        Some((e, skip)) => {
+            show_extent(rt, e)?;
             rt.write_all(b" skip")?;
-            number(rt, found.skip)?;
+            number(rt, skip)?;
         }
         None => {
             rt.write_all(b" nothing")?;
@@ -156,24 +159,21 @@ fn each_run(rt: &impl Print, copy: &WorkingCopy, stretch: Stretch, many: usize) 
     show_run(rt, copy, stretch, many)
 }
 
-// The runs of n blocks from block `from` on of record i, and one more.
+// The runs of n blocks of a file from block `from` on, and one more.
 fn show_runs(
     rt: &impl Print,
     copy: &WorkingCopy,
-    i: usize,
+    i: InodeNumber,
     from: usize,
     n: usize,
 ) -> io::Result<()> {
-    if 127 < i {
-        return Ok(());
-    }
     rt.write_all(b"stretch")?;
     number(rt, from)?;
     number(rt, n)?;
     rt.write_all(b" of")?;
-    number(rt, i)?;
+    number(rt, i.n)?;
     let stretch = Stretch {
-        i: InodeNumber { n: i },
+        i,
         from: FileBlock(from),
         n,
     };
@@ -192,32 +192,35 @@ fn show_all(rt: &impl Print, copy: &WorkingCopy) -> io::Result<()> {
     show_find(rt, copy, b"gammaray")?;
     show_find(rt, copy, b"alphabe")?;
     show_empty(rt, copy)?;
-    show_record(rt, copy, 0)?;
-    show_record(rt, copy, 1)?;
-    show_record(rt, copy, 2)?;
-    show_record(rt, copy, 17)?;
-    walk(rt, copy, 0)?;
-    walk(rt, copy, 2)?;
-    walk(rt, copy, 17)
+    show_record(rt, copy, InodeNumber { n: 0 })?;
+    show_record(rt, copy, InodeNumber { n: 1 })?;
+    show_record(rt, copy, InodeNumber { n: 2 })?;
+    show_record(rt, copy, InodeNumber { n: 17 })?;
+    show_walk(rt, copy, InodeNumber { n: 0 })?;
+    show_walk(rt, copy, InodeNumber { n: 2 })?;
+    show_walk(rt, copy, InodeNumber { n: 17 })
 }
 
 fn show_places(rt: &impl Print, copy: &WorkingCopy) -> io::Result<()> {
-    show_block(rt, copy, 0, 0)?;
-    show_block(rt, copy, 0, 1)?;
-    show_block(rt, copy, 0, 2)?;
-    show_block(rt, copy, 0, 3)?;
-    show_block(rt, copy, 2, 2)?;
-    show_block(rt, copy, 2, 5)?;
-    show_block(rt, copy, 2, Limits::MAX_FILE_BLOCKS - 1)?;
-    show_block(rt, copy, 2, Limits::MAX_FILE_BLOCKS)?;
-    show_block(rt, copy, 17, 0)?;
-    show_runs(rt, copy, 0, 0, 10)?;
-    show_runs(rt, copy, 0, 1, 1)?;
-    show_runs(rt, copy, 2, 0, 8)?;
-    show_runs(rt, copy, 2, 1, 5)?;
-    show_runs(rt, copy, 2, 0, 18446744073709551615)?;
-    show_runs(rt, copy, 2, 5000, 3)?;
-    show_runs(rt, copy, 17, 0, 10)
+    let flat = InodeNumber { n: 0 };
+    let deep = InodeNumber { n: 2 };
+    let empty = InodeNumber { n: 17 };
+    show_block(rt, copy, flat, 0)?;
+    show_block(rt, copy, flat, 1)?;
+    show_block(rt, copy, flat, 2)?;
+    show_block(rt, copy, flat, 3)?;
+    show_block(rt, copy, deep, 2)?;
+    show_block(rt, copy, deep, 5)?;
+    show_block(rt, copy, deep, Limits::MAX_FILE_BLOCKS - 1)?;
+    show_block(rt, copy, deep, Limits::MAX_FILE_BLOCKS)?;
+    show_block(rt, copy, empty, 0)?;
+    show_runs(rt, copy, flat, 0, 10)?;
+    show_runs(rt, copy, flat, 1, 1)?;
+    show_runs(rt, copy, deep, 0, 8)?;
+    show_runs(rt, copy, deep, 1, 5)?;
+    show_runs(rt, copy, deep, 0, usize::MAX)?;
+    show_runs(rt, copy, deep, 5000, 3)?;
+    show_runs(rt, copy, empty, 0, 10)
 }
 
 fn main(rt: HostRuntime) -> io::Result<()> {

@@ -12,6 +12,7 @@ use Rattle.spec.specs.Disk.{Disk}
 use Rattle.spec.specs.Session.{staged_in}
 use Rattle.spec.specs.Transaction.{State, BlockStore, put}
 use Rattle.spec.specs.Journal.{header_of, targets_in, are_targets, images_from, redo_from, clearing, staged_stores, commit_stores, recovery_stores}
+use Rattle.logs.specs.Stores.{length-images, length-redo}
 use Rattle.journal.specs.Order.{rank, in_order, sorted}
 use Rattle.journal.proofs.Order.{blank, order-length, order-at, order-blocks, sorted-length, sorted-at}
 use Rattle.journal.proofs.Listed.{targets-listed}
@@ -32,14 +33,6 @@ module _ {A : Type 0} where
   at-end [] d h = refl
   at-end (x ∷ xs) zero h = absurd (omega arith)
   at-end (x ∷ xs) (suc d) h = at-end xs d (omega arith)
-
-length-images : (b : ℕ) (ws : List BlockStore) → length (images_from b ws) ≡ length ws
-length-images b [] = refl
-length-images b (w ∷ ws) = ap suc (length-images (suc b) ws)
-
-length-redo : (b : ℕ) (d : Disk) (ts : List ℕ) → length (redo_from b d ts) ≡ length ts
-length-redo b d [] = refl
-length-redo b d (t ∷ ts) = ap suc (length-redo (suc b) d ts)
 
 image-at : (b : ℕ) (ws : List BlockStore) (i : ℕ) → i < length ws → get_elem? (images_from b ws) i ≡ some (put (b + i) (get_or ws i blank).content)
 image-at b [] i h = absurd (omega arith)

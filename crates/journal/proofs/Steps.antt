@@ -29,7 +29,7 @@ use Rattle.block.specs.Stores.{stored_in}
 use Rattle.journal.specs.Order.{rank, sorted}
 use Rattle.journal.specs.Entries.{entry_content, Entered, begun_phase, behind, store_of, Leads, Possible}
 use Rattle.journal.specs.declared.Entry.{Entry}
-use Rattle.journal.specs.declared.NextStore.{NextStore}
+use Rattle.journal.specs.declared.next_store.NextStore.{NextStore}
 use Rattle.header.proofs.Loops.{head-targets}
 use Rattle.lists.specs.Members.{member-at}
 use Rattle.lists.specs.Places.{place-lt, place-value, no_place}
@@ -163,11 +163,6 @@ pub record Held (l : List ℕ) (k : ℕ) (bs : List ℕ) : Type 0 where
   pub count : k ≡ length l
   pub few : k ≤ 32
 
--- the targets that the code reads
-pub held_by : (device head : List ℕ) (t l : List ℕ) → head ≡ take 512 (drop (512 * 0) device) → t ≡ targets_in head → l ≡ t → length l ≤ 32
-    → Held l (length l) (targets_in (blocks_of device 0))
-held_by device head t l e f g few = record { list = g ∙ f ∙ head-targets device head e; count = refl; few = few }
-
 -- the code's test: are the targets such as a log may list, and is d one of n places?
 goes : (a : Bool) (n d : ℕ) → (not a || leb n d) ≡ false → (a ≡ true) × (d < n)
 goes false n d h = absurd (true≢false h)
@@ -287,11 +282,11 @@ module _ (N : ℕ) (l : List ℕ) (few : length l ≤ 32) (d : ℕ) (a : Bool) (
     abbrev b : ℕ
     b = x.block.0
 
-    may-go : (are_targets N l ≡ true) × (d < end)
+    pub may-go : (are_targets N l ≡ true) × (d < end)
     may-go = passes N end d l a t q
 
     abbrev due : Optional NextStore
-    due = Some (record { entry = x; place = d; end = end })
+    due = Some (record { entry = x; place = d; end = end; inside = may-go.1 })
 
     pub commit-goes : ((s : Session) (device work : List ℕ) → s.blocks ≡ N → staged_in s ≡ l → Leads s l device work (Committing d) due) × Possible l (512 * N) due
     commit-goes =
@@ -299,54 +294,63 @@ module _ (N : ℕ) (l : List ℕ) (few : length l ≤ 32) (d : ℕ) (a : Bool) (
         let z = g (session_with N l) (with-staged N l) (ap (λ (M : ℕ). are_targets M l) w ∙ may-go.0) in (
           λ s device work e f after h. commit-stored s d (length l) l a (listed_in s e) (holds s f) device work b (entry_content l device work x.source) after q
               ((g s f (ap (λ (M : ℕ). are_targets M l) e ∙ may-go.0)).2 device work) h,
-          (omega (arith, z.0, w), z.1, may-go.1),
+          (omega (arith, z.0, w), z.1),
         )
 
-module _ (N : ℕ) (device : List ℕ) (d k : ℕ) (l : List ℕ) (h : Held l k (targets_in (blocks_of device 0))) (a : Bool) (t : a ≡ are_targets N l) where
-  here : (s : Session) → s.blocks ≡ N → a ≡ are_targets s.blocks l
-  here s e = t ∙ ap (λ (M : ℕ). are_targets M l) (sym e)
+-- x and l: the targets that the code reads, in the first block
+module _ (N : ℕ) (device : List ℕ) (d : ℕ) (head x l : List ℕ) (read : head ≡ take 512 (drop (512 * 0) device)) (listed : x ≡ targets_in head) (used : (l ≡ x) × (length l ≤ 32))
+    (a : Bool) (t : a ≡ are_targets N l)
+  where
+    abbrev k : ℕ
+    k = length l
 
-  pub recovery-nothing : (not a || leb (k + 1) d) ≡ true
-      → ((s : Session) (bs work : List ℕ) → s.blocks ≡ N → left s device work idle ≡ advance_in (state_of s device work) (Recovering d)) × ((bs : List ℕ) → Unit {0})
-  recovery-nothing q =
-      (λ s bs work e. recovery-idle s d k l a (here s e) device h work q, λ bs. tt)
+    h : Held l k (targets_in (blocks_of device 0))
+    h = record { list = used.0 ∙ listed ∙ head-targets device head read; count = refl; few = used.1 }
 
-  module _ (q : (not a || leb (k + 1) d) ≡ false) where
-    goes_on : (are_targets N l ≡ true) × (d < k + 1)
-    goes_on = passes N (k + 1) d l a t q
+    here : (s : Session) → s.blocks ≡ N → a ≡ are_targets s.blocks l
+    here s e = t ∙ ap (λ (M : ℕ). are_targets M l) (sym e)
 
-    lists : (s : Session) → s.blocks ≡ N → are_targets s.blocks l ≡ true
-    lists s e = ap (λ (M : ℕ). are_targets M l) e ∙ goes_on.0
+    pub recovery-nothing : (not a || leb (k + 1) d) ≡ true
+        → ((s : Session) (bs work : List ℕ) → s.blocks ≡ N → left s device work idle ≡ advance_in (state_of s device work) (Recovering d)) × ((bs : List ℕ) → Unit {0})
+    recovery-nothing q =
+        (λ s bs work e. recovery-idle s d k l a (here s e) device h work q, λ bs. tt)
 
-    abbrev told : ℕ → Returned (Optional BlockStored) Refusal
-    told b = Ok (Some (store_of b d (k + 1)))
+    module _ (q : (not a || leb (k + 1) d) ≡ false) where
+      goes_on : (are_targets N l ≡ true) × (d < k + 1)
+      goes_on = passes N (k + 1) d l a t q
 
-    stores : (b : ℕ) (x : List ℕ) → ((M : ℕ) → are_targets M l ≡ true → get_elem? (recovery_stores M (blocks_of device)) d ≡ some (put b x))
-        → (s : Session) (work : List ℕ) → s.blocks ≡ N → (after : List ℕ) → slice_of after ≡ stored_in (slice_of device) b x
-        → left (behind (Recovering d) s (told b)) after work (stored_of (told b)) ≡ advance_in (state_of s device work) (Recovering d)
-    stores b x g s work e after f = recovery-stored s d k l a (here s e) device h work b x after q (g s.blocks (lists s e)) f
+      lists : (s : Session) → s.blocks ≡ N → are_targets s.blocks l ≡ true
+      lists s e = ap (λ (M : ℕ). are_targets M l) e ∙ goes_on.0
 
-    pub recovery-target : d < k
-        → let b = get_or l d 0 in
-        ((s : Session) (bs work : List ℕ) → s.blocks ≡ N → (after : List ℕ) → slice_of after ≡ stored_in (slice_of device) b (blocks_of device (d + 1))
-        → left (behind (Recovering d) s (told b)) after work (stored_of (told b)) ≡ advance_in (state_of s device work) (Recovering d))
-        × ((bs : List ℕ) → (512 * b + 512 ≤ 512 * N) × (d + 1 < b) × (d < k + 1))
-    recovery-target m =
-        let i : d < length l = omega (arith, h.count) in
-        let w = listed_at N l (targets-listed N l goes_on.0) d i in (
-          λ s bs work. stores (get_or l d 0) (blocks_of device (d + 1)) (λ M y. (entry-redo l d M y i).1 device work h.list) s work,
-          λ bs. (omega (arith, w.1), omega (arith, w.0, h.few), goes_on.1),
-        )
+      abbrev told : ℕ → Returned (Optional BlockStored) Refusal
+      told b = Ok (Some (store_of b d (k + 1)))
 
-    pub recovery-clearing : k ≤ d
-        → ((s : Session) (bs work : List ℕ) → s.blocks ≡ N → (after : List ℕ) → slice_of after ≡ stored_in (slice_of device) 0 (zeros 512)
-        → left (behind (Recovering d) s (told 0)) after work (stored_of (told 0)) ≡ advance_in (state_of s device work) (Recovering d))
-        × ((bs : List ℕ) → (512 * 0 + 512 ≤ 512 * N) × Unit {0} × (d < k + 1))
-    recovery-clearing m =
-        let i : d ≡ length l = omega (arith, h.count, goes_on.1) in (
-          λ s bs work. stores 0 (zeros 512) (λ M y. (entry-redone l d M y i).1 device work h.list) s work,
-          λ bs. (omega (arith, (entry-redone l d N goes_on.0 i).0), tt, goes_on.1),
-        )
+      stores : (b : ℕ) (x : List ℕ) → ((M : ℕ) → are_targets M l ≡ true → get_elem? (recovery_stores M (blocks_of device)) d ≡ some (put b x))
+          → (s : Session) (work : List ℕ) → s.blocks ≡ N → (after : List ℕ) → slice_of after ≡ stored_in (slice_of device) b x
+          → left (behind (Recovering d) s (told b)) after work (stored_of (told b)) ≡ advance_in (state_of s device work) (Recovering d)
+      stores b x g s work e after f = recovery-stored s d k l a (here s e) device h work b x after q (g s.blocks (lists s e)) f
+
+      pub recovery-target : d < k
+          → let b = get_or l d 0 in
+          ((s : Session) (bs work : List ℕ) → s.blocks ≡ N → (after : List ℕ) → slice_of after ≡ stored_in (slice_of device) b (blocks_of device (d + 1))
+          → left (behind (Recovering d) s (told b)) after work (stored_of (told b)) ≡ advance_in (state_of s device work) (Recovering d))
+          × ((bs : List ℕ) → (512 * b + 512 ≤ 512 * N) × (d + 1 < b))
+      recovery-target m =
+          let i : d < length l = omega (arith, h.count) in
+          let w = listed_at N l (targets-listed N l goes_on.0) d i in (
+            λ s bs work. stores (get_or l d 0) (blocks_of device (d + 1)) (λ M y. (entry-redo l d M y i).1 device work h.list) s work,
+            λ bs. (omega (arith, w.1), omega (arith, w.0, h.few)),
+          )
+
+      pub recovery-clearing : k ≤ d
+          → ((s : Session) (bs work : List ℕ) → s.blocks ≡ N → (after : List ℕ) → slice_of after ≡ stored_in (slice_of device) 0 (zeros 512)
+          → left (behind (Recovering d) s (told 0)) after work (stored_of (told 0)) ≡ advance_in (state_of s device work) (Recovering d))
+          × ((bs : List ℕ) → (512 * 0 + 512 ≤ 512 * N) × Unit {0})
+      recovery-clearing m =
+          let i : d ≡ length l = omega (arith, h.count, goes_on.1) in (
+            λ s bs work. stores 0 (zeros 512) (λ M y. (entry-redone l d M y i).1 device work h.list) s work,
+            λ bs. (omega (arith, (entry-redone l d N goes_on.0 i).0), tt),
+          )
 
 -- ---- the call
 

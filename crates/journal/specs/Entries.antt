@@ -19,7 +19,7 @@ use Rattle.spec.specs.Calls.{left, advance_in}
 use Rattle.block.specs.Stores.{stored_in}
 use Rattle.journal.specs.Order.{sorted}
 use Rattle.journal.specs.declared.Entry.{Entry}
-use Rattle.journal.specs.declared.NextStore.{NextStore}
+use Rattle.journal.specs.declared.next_store.NextStore.{NextStore}
 use Rattle.journal.specs.declared.Source.{Source}
 use Rattle.journal.specs.declared.Source.TheVariants as source
 
@@ -84,4 +84,4 @@ Leads s bs device work p (Some x) =
 -- it can be made on a device of so many bytes
 abbrev pub Possible : List ℕ → ℕ → Option NextStore → Type 0
 Possible bs size None = Unit {0}
-Possible bs size (Some x) = (512 * x.entry.block.0 + 512 ≤ size) × Storable bs x.entry.block.0 x.entry.source × (x.place < x.end)
+Possible bs size (Some x) = (512 * x.entry.block.0 + 512 ≤ size) × Storable bs x.entry.block.0 x.entry.source

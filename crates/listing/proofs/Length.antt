@@ -22,6 +22,7 @@ use Rattle.spec.specs.Session.{never_opened, opened}
 use Rattle.spec.specs.Answers.{done, refusal_of, refusal_number}
 use Rattle.spec.specs.Journal.{targets_in, header_fault}
 use Rattle.spec.specs.Calls.{left}
+use Rattle.text.proofs.Laws.{length-hex}
 use Rattle.spec.specs.Listing.{files_word, free_word, refused_word, recover_word, digits, hexadecimal, opened_text, outcome_text, listing}
 use Rattle.block.proofs.Laws.{lt-or-le, block-length, allowed-says}
 use Rattle.logs.specs.Targets.{truth}
@@ -46,10 +47,6 @@ digits-few (suc most) n = go (ltb n 10) (digits-few most (n / 10))
 number-few : (n : ℕ) → length (number n) ≤ 20
 unfolding number
 number-few n = digits-few 20 n
-
-hex-length : (xs : List ℕ) → length (hexadecimal xs) ≡ 2 * length xs
-hex-length [] = refl
-hex-length (x ∷ xs) = omega (arith, hex-length xs)
 
 span-few : (e : Extent) → length (span_text e) ≤ 41
 span-few e =
@@ -90,7 +87,7 @@ module _ (v : Disk) (i : ℕ) where
       let t = ap length (line-used v i e) in
       let r = runs-text-few v i in
       let k = number-few (inode_at v i).size in
-      omega (arith, hex-length name)
+      omega (arith, length-hex name)
 
   line-few : length (line_text v i) ≤ 40 + 42 * length (reached_from v i)
   line-few = go (is_empty v i) refl

@@ -94,7 +94,7 @@ fn count_files(copy: &WorkingCopy) -> usize
 {
     let mut n: usize = 0;
     for i in 0..Limits::INODE_COUNT {
-        n += is_used(copy, InodeNumber { n: i }) as usize;
+        n += usize::from(is_used(copy, InodeNumber { n: i }));
     }
     n
 }
@@ -151,8 +151,7 @@ fn put_opened(w: &mut Writer, image: &[u8], phase: Phase)
             put_files(w, &WorkingCopy::of_device(image));
         }
         Phase::Recovering(_) => put_recover(w, image),
-        Phase::Closed => {}
-        Phase::Committing(_) => {}
+        Phase::Closed | Phase::Committing(_) => {}
     }
 }
 

@@ -68,16 +68,11 @@ fn show_cut(rt: &impl Print, title: &[u8], image: &[u8]) -> io::Result<()> {
     rt.write_all(b"\n")
 }
 
-fn show_device(rt: &impl Print, title: &[u8], store: &[u8; 32768]) -> io::Result<()> {
-    let device: &[u8] = store;
-    show(rt, title, device)
-}
-
 // The files with one byte changed.
 fn broken(rt: &impl Print, title: &[u8], at: usize, byte: u8) -> io::Result<()> {
     let mut device = files();
     put(&mut device, at, &[byte]);
-    show_device(rt, title, &device)
+    show(rt, title, &device)
 }
 
 // The header lists two targets.
@@ -85,16 +80,15 @@ fn logged(rt: &impl Print, title: &[u8], first: u16, second: u16) -> io::Result<
     let mut device = files();
     put(&mut device, 0, &first.to_le_bytes());
     put(&mut device, 16, &second.to_le_bytes());
-    show_device(rt, title, &device)
+    show(rt, title, &device)
 }
 
 // Images that are no device of an allowed length, or too long a one.
 fn lengths(rt: &impl Print) -> io::Result<()> {
-    let device = empty();
     let odd = [0u8; 32767];
     let short = [0u8; 32256];
     let long = [0u8; 66048];
-    show(rt, b"no byte", &device[..0])?;
+    show(rt, b"no byte", b"")?;
     show(rt, b"32,767 bytes", &odd)?;
     show(rt, b"63 blocks", &short)?;
     show(rt, b"129 blocks", &long)

@@ -11,7 +11,7 @@ use Rattle.spec.specs.Transaction.{State, state_of}
 use Rattle.block.proofs.Laws.{slice-bytes}
 use Rattle.mirror.specs.declared.CAdvanced.{CAdvanced}
 use Rattle.mirror.specs.Mirror.{head_in, numbers_of, encode, decode, advanced_of, Lent, lent, state_in}
-use Rattle.mirror.proofs.Laws.{decode-encode}
+use Rattle.mirror.proofs.Laws.{decode-encode, same-lent}
 use Rattle.loader.specs.Load.{LoadAnswer, answered, LoadOutcome, load_step, left_load, leaves_all}
 use Rattle.loader.proofs.Kept.{refused-leaves}
 use Rattle.loadapi.specs.declared.CLoaded.{CLoaded}
@@ -34,9 +34,6 @@ module _ (a : LoadAnswer) (before after : List ℕ) where
   pub moves : leaves_all a ≡ false → after ≡ unless_left a before after
   unfolding unless_left
   moves t = sym (ap (λ (x : Bool). cond x before after) t)
-
-same-lent : (ns ms cells l d e w v : List ℕ) → ns ≡ ms → cells ≡ l → d ≡ e → w ≡ v → lent ns cells d w ≡ lent ms l e v
-same-lent ns ms cells l d e w v a b c x = ap₂ (λ (i j : List ℕ). lent i j d w) a b ∙ ap₂ (λ (i j : List ℕ). lent ms l i j) c x
 
 -- the code leaves session s, device d, work space w and place q, and answers a
 module _ (ns cells device work text : List ℕ) (at : ℕ) (s : Session) (d w : List ℕ) (q : ℕ) (a : LoadAnswer)

@@ -9,7 +9,7 @@ ghost use Rattle.loader.specs.Load.{begin, loaded_of, leaves_all};
 ghost use Rattle.loadapi.specs.Loads.{refused_numbers, load_numbers, unless_left, Loads};
 
 use loader::{LoadFault, Loaded, begin, step};
-use mirror::{CFinished, advanced, decode, encode, finished, head_in, keep};
+use mirror::{CFinished, advanced, finished, keep_session, session_in};
 use spec::{Limits, Session};
 
 // A step. kind: 0 refused, 1 a line was taken up, 2 an advance was made, 3 no line is left. line: the line refused, else 0; stores: of a line; block,
@@ -60,18 +60,11 @@ fn numbers_of(answer: Result<Loaded, LoadFault>, next: usize) -> CLoaded
             }
         }
         Ok(Loaded::NoneLeft) => CLoaded { kind: 3, ..at },
-        Err(fault) => {
-            let (refusal, line) = match fault {
-                LoadFault::Refused(why) => (why.number(), why.fault().unwrap_or(0)),
-                LoadFault::LineRefused(line, why) => (why.number(), line),
-                LoadFault::BadLine(line, fault) => (fault.number(), line),
-            };
-            CLoaded {
-                refusal,
-                line: line as u64,
-                ..at
-            }
-        }
+        Err(fault) => CLoaded {
+            refusal: fault.number(),
+            line: fault.named().unwrap_or(0) as u64,
+            ..at
+        },
     }
 }
 
@@ -95,9 +88,7 @@ fn keep_step(
     if leaves_all(answer) {
         return;
     }
-    let cells = s.staged;
-    *staged = cells;
-    keep(numbers, encode(s));
+    keep_session(numbers, staged, s);
 }
 
 // Whether a load may begin.
@@ -110,7 +101,7 @@ pub extern "C" fn purse_load_begin_v(
 ) -> CFinished
     ensures { result ≡ finished_of (begin (state_of (decode (head_in numbers.now) staged.now) device.now work.now)).answer }
 {
-    let before = decode(head_in(numbers), *staged);
+    let before = session_in(numbers, staged);
     let answer = begin(device, work, before);
     finished(answer)
 }
@@ -128,7 +119,7 @@ pub extern "C" fn purse_load_step_v(
     ensures { Loads result (lent numbers.old staged.old device.old work.old)
         (lent numbers.new staged.new device.new work.new) text.now at }
 {
-    let before = decode(head_in(numbers), *staged);
+    let before = session_in(numbers, staged);
     let r = step(device, work, before, text, at as usize);
     let answer = r.answer;
     let after = r.session;

@@ -1,6 +1,6 @@
 -- The cases of a load. Assumes nothing.
-use Prim.Native.Nat.{ℕ, zero, suc, ◌+◌, ◌*◌}
-use mathlib.Core.Path.{◌≡◌, refl, sym, ap, ap₂, ◌∙◌}
+use Prim.Native.Nat.{ℕ, zero, suc, ◌+◌, ◌*◌, ◌<◌}
+use mathlib.Core.Path.{◌≡◌, refl, sym, ap, ap₂, ◌∙◌, subst}
 use mathlib.Core.Bool.{Bool, true, false, cond, true≢false}
 use mathlib.Core.List.{List, [], ◌∷◌}
 use Rattle.std.specs.Prelude.{Option, Some, Ok, Err}
@@ -8,7 +8,9 @@ use Rattle.std.specs.Prelude.{Result as Returned}
 use Rattle.std.specs.Result.{MatchResult, IsOkAnd, IsErrAnd}
 use native.Mathlib.Omega.{arith}
 use borrow.Author.Tests.{ne_eqb}
-use lib.ListN.{length}
+use lib.ListN.{length, take}
+use Rattle.std.specs.Prelude.{slice_index_or}
+use Rattle.std.specs.Simd.{first_chunks}
 use lib.Dec.{eqb}
 use Rattle.spec.specs.declared.Phase.{Phase}
 use Rattle.spec.specs.declared.Phase.TheVariants.{Closed, Ready, Committing, Recovering}
@@ -21,6 +23,7 @@ use Rattle.spec.specs.Session.{staged_in}
 use Rattle.spec.specs.Answers.{Answer, refused, done, started, stored, idle, counted, file, no_file, run, no_run, refusal_of, done_of, started_of, stored_of, is_refused, Result, refuse, accept, require, ◌>>◌}
 use Rattle.spec.specs.Transaction.{State, state_of}
 use Rattle.spec.specs.Calls.{Outcome, outcome, left, settle, lent_ok, ready_ok, start_commit, create, write, commit, advance}
+pub use Rattle.std.proofs.lemmas.List.{nil_from_length as nil-of}
 use Rattle.promises.specs.Ready.{refusal_is, refused-is}
 use Rattle.promises.specs.Restored.{stored_in, restored, create-keeps, write_keeps, lent-work}
 use Rattle.cardfile.specs.Cards.{amount_bytes}
@@ -33,7 +36,6 @@ use Rattle.loader.specs.declared.Loaded.TheVariants as loaded-cases
 use Rattle.loader.specs.declared.LoadFault.{LoadFault}
 use Rattle.loader.specs.declared.LoadFault.TheVariants as fault-cases
 use Rattle.loader.specs.Load.{idle_ok, begin, or_back, store_line, answered, LoadOutcome, loaded, naming, taken_up, take_line, after_begin, advancing, load_in, load_step, loaded_of, left_load}
-use Rattle.loader.specs.Parts.{finish_line, take_named}
 
 -- what a call answers that is done, and one that starts stores
 abbrev Done : Type 0
@@ -99,10 +101,6 @@ idle-is s a e h = go (idle_ok s) e
     go (refuse r) q = absurd (true≢false (sym (refused-is r) ∙ ap (λ (o : Outcome). is_refused o.answer) (sym q) ∙ h))
     go (accept t) q = (t, refl)
 
-pub nil-of : (xs : List ℕ) → length xs ≡ 0 → xs ≡ []
-nil-of [] h = refl
-nil-of (x ∷ xs) h = absurd (omega arith)
-
 idle-says : (s : State) (t : Bool) → idle_ok s ≡ accept t → staged_in s.session ≡ []
 unfolding idle_ok
 idle-says s t h = go (ready_ok s) (length (staged_in s.session)) refl h
@@ -136,6 +134,19 @@ begin-lent s d w e =
     lent-work s d w l.0 (sym l.1)
 
 -- ---- a line
+
+-- the first of the parts of 512 bytes
+pub first-of : (w : List ℕ) (k : ℕ) → 0 < k → slice_index_or (first_chunks 512 k w) 0 [] ≡ take 512 w
+first-of w zero h = absurd (omega arith)
+first-of w (suc k) h = refl
+
+-- write and commit on the state that create has left; refused, the session given and the first image kept are put back
+unfoldable pub finish_line : State → Session → List ℕ → List ℕ → List ℕ → Outcome
+finish_line t s kept name amount =
+    let o = write t name 0 amount in
+    cond (is_refused o.answer)
+    (outcome (record { session = s; device = t.device; work = stored_in t.work 0 kept }) o.answer)
+    (commit o.after)
 
 -- a refused line's state is the one that it began with
 kept-work : (s : State) (name : List ℕ) → is_refused (create s name).answer ≡ true → (create s name).after ≡ s
@@ -206,18 +217,17 @@ module _ (s m t : Session) (d x y kept name amount : List ℕ) (a : Done) (eq : 
 module _ (s : State) (t : Session) (d x : List ℕ) (at number next : ℕ) (name amount : List ℕ) (a : Started)
     (eq : left t d x (started_of a) ≡ store_line s name amount)
   where
-    as-named : (o : LoadOutcome) → o ≡ taken_up s at next number (left t d x (started_of a)) → o ≡ take_named s at number next name amount
-    unfolding take_named
+    as-named : (o : LoadOutcome) → o ≡ taken_up s at next number (left t d x (started_of a)) → o ≡ taken_up s at next number (store_line s name amount)
     as-named o e = e ∙ ap (taken_up s at next number) eq
 
     pub take-refused : (r : Refusal) → a ≡ Err r
-        → left_load t d x at (loaded_of (Err (fault-cases.LineRefused number r))) ≡ take_named s at number next name amount
+        → left_load t d x at (loaded_of (Err (fault-cases.LineRefused number r))) ≡ taken_up s at next number (store_line s name amount)
     take-refused r h =
         as-named (left_load t d x at (answered (naming number (refusal_of r))))
         (ap (λ (b : Bool). loaded (state_of t d x) (cond b at next) (answered (naming number (refusal_of r)))) (sym (refused-is r))
         ∙ ap (λ (y : Started). taken_up s at next number (left t d x (started_of y))) (sym h))
 
-    pub take-started : (n : ℕ) → a ≡ Ok n → left_load t d x next (loaded_of (Ok (loaded-cases.Started n))) ≡ take_named s at number next name amount
+    pub take-started : (n : ℕ) → a ≡ Ok n → left_load t d x next (loaded_of (Ok (loaded-cases.Started n))) ≡ taken_up s at next number (store_line s name amount)
     take-started n h = as-named (left_load t d x next (answered (started n))) (ap (λ (y : Started). taken_up s at next number (left t d x (started_of y))) (sym h))
 
 -- what the code read at the place is what stands there
@@ -226,14 +236,27 @@ module _ (s : State) (text : List ℕ) (at number : ℕ) (r : Returned (Option L
   taken_as o z h e = e ∙ ap (take_line s at number) (sym h)
 
   pub take_found : (x : Line) (o : LoadOutcome) → r ≡ Ok (Some x)
-      → o ≡ take_named s at number x.next (name_told x.card.serial.bytes x.card.serial.number) (amount_bytes x.card.amount) → o ≡ take_line s at number (standing text at)
-  unfolding take_named
+      → o ≡ taken_up s at x.next number (store_line s (name_told x.card.serial.bytes x.card.serial.number) (amount_bytes x.card.amount))
+      → o ≡ take_line s at number (standing text at)
   take_found x o h e =
       let f = found_at text at x (sym read ∙ h) in
       taken_as o (card f.entry x.next) f.is
       (e ∙ ap₂ (λ (n : List ℕ) (m : ℕ). taken_up s at x.next number (store_line s n (amount_bytes m))) f.name f.amount)
 
 -- ---- the next line, and a step
+
+-- an error told as another, and none
+module _ {X E D : Type 0} where
+  pub told-as : (r : Returned X E) (m : Returned X D) (P : E → D → Type 0) → MatchResult r (λ x. m ≡ Ok x) (λ e. IsErrAnd m (P e)) → (d : D) → m ≡ Err d
+      → (e : E) × ((r ≡ Err e) × P e d)
+  told-as (Ok x) m P h d k = let z : Ok x ≡ Err d = sym h ∙ k in let y : ◌≡◌ {A = ℕ} 0 1 = cc in absurd (omega arith)
+  told-as (Err e) (Ok x) P h d k = absurd h
+  told-as (Err e) (Err c) P h d k = let g : c ≡ d = cc in (e, (refl, subst (P e) g h))
+
+  pub told-fine : (r : Returned X E) (m : Returned X D) (P : E → D → Type 0) → MatchResult r (λ x. m ≡ Ok x) (λ e. IsErrAnd m (P e)) → (x : X) → m ≡ Ok x → r ≡ Ok x
+  told-fine (Ok y) m P h x k = let g : y ≡ x = cc in ap Ok g
+  told-fine (Err e) (Ok y) P h x k = absurd h
+  told-fine (Err e) (Err d) P h x k = let y : ◌≡◌ {A = ℕ} 0 1 = cc in absurd (omega arith)
 
 -- an advance's answer as a step's
 pub told-advanced : (a : Returned (Option BlockStored) Refusal) (m : Returned Loaded Refusal) (r : Returned Loaded LoadFault)

@@ -1,12 +1,12 @@
 -- A load: the lines of a text, each one committed transaction, step by step.
-use Rattle.std.specs.Prelude.{ℕ, Bool, true, cond, List, [], ◌∷◌, length, eqb, Ok, Err}
+use Rattle.std.specs.Prelude.{ℕ, Bool, true, cond, List, [], ◌∷◌, length, eqb, Option, None, Ok, Err}
 use Rattle.std.specs.Prelude.{Result as Returned}
 use Rattle.spec.specs.declared.Phase.{Phase}
 use Rattle.spec.specs.declared.Phase.TheVariants.{Closed, Ready, Committing, Recovering}
 use Rattle.spec.specs.declared.Session.{Session}
 use Rattle.spec.specs.declared.Refusal.TheVariants.{NotReady}
 use Rattle.spec.specs.Session.{staged_in}
-use Rattle.spec.specs.Answers.{Answer, refused, done, started, stored, idle, counted, file, no_file, run, no_run, refusal_of, stored_of, is_refused, Result, refuse, accept, require, ◌>>◌}
+use Rattle.spec.specs.Answers.{Answer, refused, done, started, stored, idle, counted, file, no_file, run, no_run, refusal_of, refusal_number, value_told, stored_of, is_refused, Result, refuse, accept, require, ◌>>◌}
 use Rattle.spec.specs.Transaction.{State, state_of}
 use Rattle.spec.specs.Calls.{Outcome, outcome, settle, ready_ok, create, write, commit, advance}
 use Rattle.cardfile.specs.Cards.{name_of, amount_bytes}
@@ -113,6 +113,15 @@ loaded_of (Ok loaded-cases.NoneLeft) = none_left
 loaded_of (Err (fault-cases.Refused r)) = answered (refusal_of r)
 loaded_of (Err (fault-cases.LineRefused line r)) = answered (naming line (refusal_of r))
 loaded_of (Err (fault-cases.BadLine line fault)) = answered (refused (line_fault_number fault) (line ∷ []))
+
+-- the number of an answer that is a refusal, 0 of one that is none, and what it names: the line, or what a refusal before any line names
+abbrev pub number_in : LoadAnswer → ℕ
+number_in (answered a) = refusal_number a
+number_in none_left = 0
+
+abbrev pub named_in : LoadAnswer → Option ℕ
+named_in (answered a) = value_told a
+named_in none_left = None
 
 abbrev pub left_load : Session → List ℕ → List ℕ → ℕ → LoadAnswer → LoadOutcome
 left_load s device work next a = loaded (state_of s device work) next a

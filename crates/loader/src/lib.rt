@@ -2,23 +2,18 @@
 // calls alone: what a line does to it is create, write and commit. Device, work space and session are parameters as they are of these calls.
 #![tactic(auto)]
 
-ghost use Rattle.std.specs.Prelude.{◌≡◌, [], length};
+ghost use Rattle.std.specs.Prelude.{◌≡◌, [], length, Err};
 ghost use Rattle.spec.specs.Disk.{slice_of, blocks_of};
 ghost use Rattle.spec.specs.Session.{staged_in};
 ghost use Rattle.spec.specs.Answers.{done_of, started_of};
 ghost use Rattle.spec.specs.Transaction.{state_of};
 ghost use Rattle.spec.specs.Calls.{left};
 ghost use Rattle.promises.specs.Restored.{stored_in};
-ghost use Rattle.cardfile.specs.Lines.{line_number, standing, name_told};
-ghost use Rattle.cardfile.specs.Cards.{amount_bytes};
-ghost use Rattle.loader.specs.Parts.{finish_line, take_named};
-ghost use Rattle.loader.specs.Load.{begin, store_line, take_line, after_begin, idle_ok, load_step, left_load, loaded_of};
+ghost use Rattle.cardfile.specs.Lines.{line_number, standing};
+ghost use Rattle.loader.specs.Load.{begin, store_line, take_line, after_begin, idle_ok, load_step, left_load, loaded_of, number_in, named_in};
 
-mod idle;
-
-use cardfile::{Line, LineFault, amount_bytes, line_at, line_number, name_of};
-use idle::Unstaged;
-use spec::{Answered, BlockStored, ByteOffset, Limits, Phase, Refusal, Session};
+use cardfile::{LineFault, amount_bytes, line_at, line_number, name_of};
+use spec::{BlockStored, ByteOffset, Limits, Phase, Refusal, Session};
 use store::{advance, commit, create, write};
 
 // What a step has done: loaded_of in specs/Load.antt. Three cases, of which two have values of their own: no Option or Result says them plainer.
@@ -35,6 +30,29 @@ pub enum LoadFault {
     Refused(Refusal),
     LineRefused(usize, Refusal),
     BadLine(usize, LineFault),
+}
+
+impl LoadFault {
+    // The refusal's number.
+    pub fn number(self) -> u32
+        ensures { result ≡ number_in (loaded_of (Err self)) }
+    {
+        match self {
+            LoadFault::Refused(why) => why.number(),
+            LoadFault::LineRefused(_, why) => why.number(),
+            LoadFault::BadLine(_, fault) => fault.number(),
+        }
+    }
+
+    // What it names: the line, or what a refusal before any line names.
+    pub fn named(self) -> Option<usize>
+        ensures { result ≡ named_in (loaded_of (Err self)) }
+    {
+        match self {
+            LoadFault::Refused(why) => why.fault(),
+            LoadFault::LineRefused(line, _) | LoadFault::BadLine(line, _) => Some(line),
+        }
+    }
 }
 
 // A step's answer, the session, and the load's place in the text.
@@ -63,9 +81,7 @@ pub fn begin(device: &[u8], work: &[u8], session: Session) -> Result<(), Refusal
 fn first_image(work: &[u8; Limits::WORK_SIZE]) -> [u8; Limits::BLOCK_SIZE]
     ensures { result ≡ blocks_of work.now 0 }
 {
-    let mut image = [0; Limits::BLOCK_SIZE];
-    image.copy_from_slice(&work[..Limits::BLOCK_SIZE]);
-    image
+    work.as_chunks().0[0]
 }
 
 // It becomes this one.
@@ -75,125 +91,98 @@ fn put_back(work: &mut [u8; Limits::WORK_SIZE], image: &[u8; Limits::BLOCK_SIZE]
     work[..Limits::BLOCK_SIZE].copy_from_slice(image);
 }
 
-// The amount written into the file just made, and the transaction committed; refused, the first image is put back.
-fn finish_line(
-    device: &[u8],
-    work: &mut [u8; Limits::WORK_SIZE],
-    session: Session,
-    made: Session,
-    kept: &[u8; Limits::BLOCK_SIZE],
-    name: &[u8],
-    amount: &[u8],
-) -> Answered<usize>
-    ensures { left result.session device.now work.new (started_of result.answer)
-        ≡ finish_line (state_of made device.now work.old) session kept.now name.now amount.now }
-{
-    let wrote = write(device, work, made, name, ByteOffset(0), amount);
-    if let Err(why) = wrote.answer {
-        put_back(work, kept);
-        return Answered {
-            session,
-            answer: Err(why),
-        };
-    }
-    let next = wrote.session;
-    commit(device, work, next)
-}
-
-// One line: create, write, commit. A refusal leaves all as it was, the work space too.
+// One line: create, write of the amount, commit. A refusal leaves all as it was, the work space too.
 fn store_line(
     device: &[u8],
     work: &mut [u8; Limits::WORK_SIZE],
-    idle: Unstaged,
+    session: &mut Session,
     name: &[u8],
     amount: &[u8],
-) -> Answered<usize>
-    ensures { left result.session device.now work.new (started_of result.answer)
-        ≡ store_line (state_of idle.session device.now work.old) name.now amount.now }
+) -> Result<usize, Refusal>
+    requires { staged_in session.old ≡ [] }
+    ensures { left session.new device.now work.new (started_of result)
+        ≡ store_line (state_of session.old device.now work.old) name.now amount.now }
 {
-    let session = idle.session;
     let kept = first_image(work);
-    let made = create(device, work, session, name);
-    if let Err(why) = made.answer {
-        return Answered {
-            session,
-            answer: Err(why),
-        };
+    let made = create(device, work, *session, name);
+    made.answer?;
+    let wrote = write(device, work, made.session, name, ByteOffset(0), amount);
+    if let Err(why) = wrote.answer {
+        put_back(work, &kept);
+        return Err(why);
     }
-    let next = made.session;
-    finish_line(device, work, session, next, &kept, name, amount)
+    let c = commit(device, work, wrote.session);
+    *session = c.session;
+    c.answer
 }
 
-// The line of a card. Its number is counted where it is refused.
-fn take_card(
-    device: &[u8],
-    work: &mut [u8; Limits::WORK_SIZE],
-    idle: Unstaged,
-    text: &[u8],
+// A load between two calls: the session, the text, and the place up to which its lines are taken up.
+#[derive(Drop)]
+struct Load<'a> {
+    session: Session,
+    text: &'a [u8],
     at: usize,
-    line: Line,
-) -> LoadStep
-    ensures { left_load result.session device.now work.new result.next (loaded_of result.answer)
-        ≡ take_named (state_of idle.session device.now work.old) at (line_number text.now at) line.next
-        (name_told line.card.serial.bytes line.card.serial.number) (amount_bytes line.card.amount) }
-{
-    let card = line.card;
-    let name = name_of(card);
-    let amount = amount_bytes(card.amount);
-    let c = store_line(device, work, idle, &name, &amount);
-    let after = c.session;
-    let (answer, next) = match c.answer {
-        Ok(n) => (Ok(Loaded::Started(n)), line.next),
-        Err(why) => (Err(LoadFault::LineRefused(line_number(text, at), why)), at),
-    };
-    LoadStep {
-        session: after,
-        answer,
-        next,
-    }
 }
 
-// What stands at the place, taken up.
-fn take_line(
-    device: &[u8],
-    work: &mut [u8; Limits::WORK_SIZE],
-    idle: Unstaged,
-    text: &[u8],
-    at: usize,
-) -> LoadStep
-    ensures { left_load result.session device.now work.new result.next (loaded_of result.answer)
-        ≡ take_line (state_of idle.session device.now work.old) at (line_number text.now at) (standing text.now at) }
-{
-    let answer = match line_at(text, at) {
-        Ok(Some(line)) => return take_card(device, work, idle, text, at, line),
-        Ok(None) => Ok(Loaded::NoneLeft),
-        Err(fault) => Err(LoadFault::BadLine(line_number(text, at), fault)),
-    };
-    LoadStep {
-        session: idle.session,
-        answer,
-        next: at,
+impl<'a> Load<'a> {
+    // The number of the line at its place. It is counted where the line is refused.
+    fn number(&self) -> usize
+        ensures { result ≡ line_number self.now.text.now self.now.at }
+    {
+        line_number(self.text, self.at)
     }
-}
 
-// The next line, where a load may go on.
-fn next_line(device: &[u8], work: &mut [u8], session: Session, text: &[u8], at: usize) -> LoadStep
-    ensures { left_load result.session device.now work.new result.next (loaded_of result.answer)
-        ≡ after_begin (state_of session device.now work.old) text.now at (idle_ok (state_of session device.now work.old)) }
-{
-    if let Err(why) = begin(device, work, session) {
-        return LoadStep {
-            session,
-            answer: Err(LoadFault::Refused(why)),
-            next: at,
+    // What stands at its place, taken up; the place then lies behind it.
+    fn take_line(
+        &mut self,
+        device: &[u8],
+        work: &mut [u8; Limits::WORK_SIZE],
+    ) -> Result<Loaded, LoadFault>
+        requires { staged_in self.old.session ≡ [] }
+        ensures { left_load self.new.session device.now work.new self.new.at (loaded_of result)
+            ≡ take_line (state_of self.old.session device.now work.old) self.old.at (line_number self.old.text.now self.old.at) (standing self.old.text.now self.old.at) }
+    {
+        let line = match line_at(self.text, self.at) {
+            Ok(Some(line)) => line,
+            Ok(None) => return Ok(Loaded::NoneLeft),
+            Err(fault) => return Err(LoadFault::BadLine(self.number(), fault)),
         };
+        let name = name_of(line.card);
+        let amount = amount_bytes(line.card.amount);
+        match store_line(device, work, &mut self.session, &name, &amount) {
+            Ok(stores) => {
+                self.at = line.next;
+                Ok(Loaded::Started(stores))
+            }
+            Err(why) => Err(LoadFault::LineRefused(self.number(), why)),
+        }
     }
-    // Begin has told its size.
-    let Some(work) = work.as_mut_array() else {
-        unreachable!()
-    };
-    let idle = Unstaged { session };
-    take_line(device, work, idle, text, at)
+
+    // The next line, where a load may go on.
+    fn next_line(&mut self, device: &[u8], work: &mut [u8]) -> Result<Loaded, LoadFault>
+        ensures { left_load self.new.session device.now work.new self.new.at (loaded_of result)
+            ≡ after_begin (state_of self.old.session device.now work.old) self.old.text.now self.old.at (idle_ok (state_of self.old.session device.now work.old)) }
+    {
+        begin(device, work, self.session).map_err(LoadFault::Refused)?;
+        // Begin has told its size.
+        let Some(work) = work.as_mut_array() else {
+            unreachable!()
+        };
+        self.take_line(device, work)
+    }
+
+    // An advance while a commit is under way, else the next line.
+    fn step(&mut self, device: &mut [u8], work: &mut [u8]) -> Result<Loaded, LoadFault>
+        ensures { left_load self.new.session device.new work.new self.new.at (loaded_of result)
+            ≡ load_step (state_of self.old.session device.old work.old) self.old.text.now self.old.at }
+    {
+        if let Phase::Committing(_) = self.session.phase {
+            let a = advance(device, work, self.session);
+            self.session = a.session;
+            return a.answer.map(Loaded::Advanced).map_err(LoadFault::Refused);
+        }
+        self.next_line(device, work)
+    }
 }
 
 // One step of a load: an advance while a commit is under way, else the next line.
@@ -207,13 +196,11 @@ pub fn step(
     ensures { left_load result.session device.new work.new result.next (loaded_of result.answer)
         ≡ load_step (state_of session device.old work.old) text.now at }
 {
-    if let Phase::Committing(_) = session.phase {
-        let a = advance(device, work, session);
-        return LoadStep {
-            session: a.session,
-            answer: a.answer.map(Loaded::Advanced).map_err(LoadFault::Refused),
-            next: at,
-        };
+    let mut load = Load { session, text, at };
+    let answer = load.step(device, work);
+    LoadStep {
+        session: load.session,
+        answer,
+        next: load.at,
     }
-    next_line(device, work, session, text, at)
 }

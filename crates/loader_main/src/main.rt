@@ -2,32 +2,28 @@
 #![tactic(auto)]
 
 use loader::{LoadFault, Loaded, begin, step};
-use mounted::{Mounted, SMALLEST};
+use mounted::Mounted;
 use spec::{Limits, Phase, Session};
 use std::io;
-use trial::{done, number, refused, stored};
+use trial::{SMALLEST, done, refused, stored};
 
 // ---- text
 
-fn line_refused(rt: &impl Print, n: u32, line: usize) -> io::Result<()> {
-    rt.write_all(b" refused")?;
-    number(rt, n)?;
-    rt.write_all(b", line")?;
-    number(rt, line)
+fn line_refused(rt: &impl Print, fault: LoadFault) -> io::Result<()> {
+    print!(rt;
+        " refused {}, line {}",
+        fault.number(),
+        fault.named().unwrap_or(0)
+    )
 }
 
 fn told(rt: &impl Print, answer: Result<Loaded, LoadFault>) -> io::Result<()> {
     match answer {
-        Ok(Loaded::Started(n)) => {
-            rt.write_all(b" started")?;
-            number(rt, n)?;
-            rt.write_all(b":")
-        }
+        Ok(Loaded::Started(n)) => print!(rt; " started {n}:"),
         Ok(Loaded::Advanced(block)) => stored(rt, block),
         Ok(Loaded::NoneLeft) => rt.write_all(b" none left"),
         Err(LoadFault::Refused(why)) => refused(rt, why),
-        Err(LoadFault::LineRefused(line, why)) => line_refused(rt, why.number(), line),
-        Err(LoadFault::BadLine(line, fault)) => line_refused(rt, fault.number(), line),
+        Err(fault) => line_refused(rt, fault),
     }
 }
 
@@ -54,7 +50,7 @@ impl<'a, 't, P: Print> Load<'a, 't, P> {
     }
 
     fn begin(&self) -> io::Result<()> {
-        let t = &self.store;
+        let t = &self.store.lent;
         self.rt.write_all(b" begin")?;
         done(self.rt, begin(&t.device, &t.work, t.session))?;
         self.rt.write_all(b",")
@@ -62,7 +58,7 @@ impl<'a, 't, P: Print> Load<'a, 't, P> {
 
     // One step.
     fn step(&mut self) -> io::Result<()> {
-        let t = &mut self.store;
+        let t = &mut self.store.lent;
         let r = step(&mut t.device, &mut t.work, t.session, self.text, self.at);
         t.session = r.session;
         self.at = r.next;
@@ -79,8 +75,8 @@ impl<'a, 't, P: Print> Load<'a, 't, P> {
 
     // The place behind them.
     fn next(&self) -> io::Result<()> {
-        self.rt.write_all(b", next")?;
-        number(self.rt, self.at)
+        let at = self.at;
+        print!(self.rt; ", next {at}")
     }
 
     // One step, and the place behind it.
@@ -92,10 +88,10 @@ impl<'a, 't, P: Print> Load<'a, 't, P> {
 
     // With the work space before and behind it compared.
     fn line_kept(&mut self) -> io::Result<()> {
-        let work = self.store.work;
+        let work = self.store.lent.work;
         self.line()?;
         self.rt.write_all(b"its work space:")?;
-        if work == self.store.work {
+        if work == self.store.lent.work {
             return self.rt.write_all(b" kept\n");
         }
         self.rt.write_all(b" changed\n")
@@ -103,7 +99,7 @@ impl<'a, 't, P: Print> Load<'a, 't, P> {
 
     // One step of another session.
     fn in_session(&mut self, s: Session, words: &[u8]) -> io::Result<()> {
-        self.store.session = s;
+        self.store.lent.session = s;
         self.rt.write_all(words)?;
         self.begin()?;
         self.line()

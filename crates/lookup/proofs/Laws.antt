@@ -25,7 +25,7 @@ use Rattle.std.specs.Prelude.{is_some as given}
 use Rattle.spec.specs.Bytes.{found, is_some}
 use Rattle.lookup.specs.Looks.{looked_of, new_ok, unless_taken, rename_ok}
 
-then-assoc : {A B C : Type 0} (a : Result A) (b : Result B) (x : Result C) → (a >> b) >> x ≡ a >> (b >> x)
+pub then-assoc : {A B C : Type 0} (a : Result A) (b : Result B) (x : Result C) → (a >> b) >> x ≡ a >> (b >> x)
 then-assoc (refuse r) b x = refl
 then-assoc (accept a) b x = refl
 
@@ -58,8 +58,13 @@ module _ (v : Volume) (name : List ℕ) (r : Returned InodeNumber) (f : number_t
       looked-told r Unknown
       ∙ rw f (told-found (find (working v.copy) name) Unknown ∙ ap (λ (d : Disk). found (find d name) (refuse Unknown) accept) (shows-view v s e))
 
-  pub taken_is : (s : State) (t : Bool) → Shows v s → t ≡ given r → is_taken s name ≡ t
-  taken_is s t e q = sym (q ∙ some-told r ∙ rw f (some-found (find (working v.copy) name) ∙ ap (λ (d : Disk). is_some (find d name)) (shows-view v s e)))
+  -- the search found nothing, as t tells
+  pub free_is : (s : State) (t : Bool) → Shows v s → given r ≡ not t → t ≡ not (is_taken s name)
+  free_is s t e q = back t ∙ ap not (sym q ∙ some-told r ∙ rw f (some-found (find (working v.copy) name) ∙ ap (λ (d : Disk). is_some (find d name)) (shows-view v s e)))
+    where
+      back : (t : Bool) → t ≡ not (not t)
+      back true = refl
+      back false = refl
 
 module _ (v : Volume) (r : Returned InodeNumber) (f : number_told r ≡ found_of (find_empty (working v.copy))) where
   pub empty_is : (s : State) → Shows v s → looked_of (ok_or r NoInode) ≡ empty_inode s

@@ -3,7 +3,7 @@ use Prim.Native.Nat.{ℕ, zero, suc, ◌+◌, ◌*◌, ◌-◌, ◌/◌, ◌%◌
 use mathlib.Core.Path.{◌≡◌, refl, sym, ap, ap₂, ◌∙◌}
 use mathlib.Core.Bool.{Bool, true, false, cond, not, ◌&&◌, ◌||◌, beq, true≢false}
 use mathlib.Core.Logic.{⊎_elim}
-use mathlib.Core.List.{List, [], ◌∷◌, ◌++◌, map, append_assoc}
+use mathlib.Core.List.{List, [], ◌∷◌, ◌++◌, map}
 use mathlib.Core.Option.{none}
 use native.Mathlib.Nat.{zero-div, eq-or-lt_of_le}
 use native.Mathlib.Numerals.{add-one}
@@ -21,8 +21,10 @@ use Rattle.spec.specs.Inode.{reached_from, reached}
 use Rattle.spec.specs.Sound.{block_sound, bit_fault, block_fault}
 use Rattle.lists.specs.Counts.{up_from-occurs}
 use Rattle.lists.specs.All.{all-at}
+use Rattle.lists.specs.Tests.{both_true}
 use Rattle.bitmap.proofs.Laws.{length-bits, bit_at, bits-binary, occurs-append}
 use Rattle.block.proofs.Laws.{lt-or-le, length-exactly}
+use Rattle.block.proofs.Lists.{up_from-append, concat-map-append}
 use Rattle.std.specs.Prelude.{Option, None}
 use Rattle.inode.specs.Records.{found_of, lowest_to}
 use Rattle.inode.proofs.Laws.{lowest-agree}
@@ -32,10 +34,6 @@ use Rattle.marks.specs.declared.Marks.{Marks}
 use Rattle.marks.specs.Marks.{bit, counted, Kept, reach_to, wrong}
 
 -- ---- within 42 to N-1
-
-and-true : (a b : Bool) → a && b ≡ true → (a ≡ true) × (b ≡ true)
-and-true true b h = (refl, h)
-and-true false b h = absurd (true≢false (sym h))
 
 data-area : (a b c d : Bool) → is_data_area (cond a Header (cond b Log (cond c Bitmap (cond d Inodes Data)))) ≡ true → d ≡ false
 data-area true b c d h = absurd (true≢false (sym h))
@@ -47,7 +45,7 @@ data-area false false false false h = refl
 pub data-low : (N x : ℕ) → in_data N x ≡ true → (42 ≤ x) × (x < N)
 unfolding in_data area_of
 data-low N x h =
-    let p = and-true (is_data_area (area_of x)) (ltb x N) h in
+    let p = both_true (is_data_area (area_of x)) (ltb x N) h in
     (ltb-false x 42 (data-area (ltb x 1) (ltb x 33) (ltb x 34) (ltb x 42) p.0), ltb-true x N p.1)
 
 data-in : (N x : ℕ) → 42 ≤ x → x < N → in_data N x ≡ true
@@ -300,16 +298,10 @@ run-start N a m b e s eb ee = record { once = λ x. rw (same x); twice = λ x. r
         go true q = counted-in N x _ q ∙ inner x q ∙ sym (counted-in N x _ q)
         go false q = counted-out N x _ q ∙ sym (counted-out N x _ q)
 
-run-append : (a n k : ℕ) → up_from a (n + k) ≡ up_from a n ++ up_from (a + n) k
-run-append a zero k = let y : 0 + k ≡ k = omega arith in let z : a + 0 ≡ a = omega arith in rw (y, z)
-run-append a (suc n) k =
-    let y : suc n + k ≡ suc (n + k) = omega arith in let z : a + suc n ≡ suc a + n = omega arith in
-    rw (y, z) (ap (λ (l : List ℕ). a ∷ l) (run-append (suc a) n k))
-
 pub run_more : (b e n p : ℕ) → b + n ≡ p → p ≤ e → Split (up_from b (e - b)) (up_from b n) (up_from p (e - p))
 run_more b e n p q h x =
     let z : e - b ≡ n + (e - p) = omega arith in
-    ap (λ (k : ℕ). occurs x (up_from b k)) z ∙ ap (occurs x) (run-append b n (e - p)) ∙ occurs-append x (up_from b n) (up_from (b + n) (e - p))
+    ap (λ (k : ℕ). occurs x (up_from b k)) z ∙ ap (occurs x) (up_from-append b n (e - p)) ∙ occurs-append x (up_from b n) (up_from (b + n) (e - p))
     ∙ ap (λ (k : ℕ). occurs x (up_from b n) + occurs x (up_from k (e - p))) q
 
 pub run_end : (b e : ℕ) → e ≤ b → up_from b (e - b) ≡ []
@@ -327,18 +319,14 @@ reach-more v e i h x =
     let z : e - i ≡ suc (e - (i + 1)) = omega arith in
     rw (z, add-one i) (occurs-append x (reached_from v i) (concat (map (reached_from v) (up_from (suc i) (e - suc i)))))
 
-concat-map : (f : ℕ → List ℕ) (xs ys : List ℕ) → concat (map f (xs ++ ys)) ≡ concat (map f xs) ++ concat (map f ys)
-concat-map f [] ys = refl
-concat-map f (x ∷ xs) ys = ap (λ (l : List ℕ). f x ++ l) (concat-map f xs ys) ∙ sym (append_assoc (f x) (concat (map f xs)) (concat (map f ys)))
-
 pub reach-on : (v : Disk) (e m i : ℕ) → i ≤ m → m ≤ e → Split (reach_to v e i) (reach_to v m i) (reach_to v e m)
 unfolding reach_to
 reach-on v e m i h k x =
     let z : e - i ≡ (m - i) + (e - m) = omega arith in
     let y : i + (m - i) ≡ m = omega arith in
     ap (λ (n : ℕ). occurs x (concat (map (reached_from v) (up_from i n)))) z
-    ∙ ap (λ (l : List ℕ). occurs x (concat (map (reached_from v) l))) (run-append i (m - i) (e - m) ∙ ap (λ (n : ℕ). up_from i (m - i) ++ up_from n (e - m)) y)
-    ∙ ap (occurs x) (concat-map (reached_from v) (up_from i (m - i)) (up_from m (e - m)))
+    ∙ ap (λ (l : List ℕ). occurs x (concat (map (reached_from v) l))) (up_from-append i (m - i) (e - m) ∙ ap (λ (n : ℕ). up_from i (m - i) ++ up_from n (e - m)) y)
+    ∙ ap (occurs x) (concat-map-append (reached_from v) (up_from i (m - i)) (up_from m (e - m)))
     ∙ occurs-append x (concat (map (reached_from v) (up_from i (m - i)))) (concat (map (reached_from v) (up_from m (e - m))))
 
 pub reach-end : (v : Disk) (e i : ℕ) → e ≤ i → reach_to v e i ≡ []
@@ -378,15 +366,15 @@ same-says : (xs ys : List ℕ) (k : ℕ) → same xs ys ≡ true → get_or xs k
 same-says [] [] k h = refl
 same-says [] (y ∷ ys) k h = absurd (true≢false (sym h))
 same-says (x ∷ xs) [] k h = absurd (true≢false (sym h))
-same-says (x ∷ xs) (y ∷ ys) zero h = eqb-true x y (and-true (eqb x y) (same xs ys) h).0
-same-says (x ∷ xs) (y ∷ ys) (suc k) h = same-says xs ys k (and-true (eqb x y) (same xs ys) h).1
+same-says (x ∷ xs) (y ∷ ys) zero h = eqb-true x y (both_true (eqb x y) (same xs ys) h).0
+same-says (x ∷ xs) (y ∷ ys) (suc k) h = same-says xs ys k (both_true (eqb x y) (same xs ys) h).1
 
 module _ (m : Marks) (bits : List ℕ) where
   module _ (lo : length m.once ≡ 512) (lt : length m.twice ≡ 512) (lb : length bits ≡ 512) where
     right-bit : same m.once bits && all_zero m.twice ≡ true → (b : ℕ) → b < 4096 → wrong m bits b ≡ false
     unfolding wrong
     right-bit h b l =
-        let p = and-true (same m.once bits) (all_zero m.twice) h in
+        let p = both_true (same m.once bits) (all_zero m.twice) h in
         rw (bit-same m.once bits b lo lb l (same-says m.once bits (b / 8) p.0), bit-zero m.twice b lt l (zero-at m.twice (b / 8) p.1), beq_same (eqb (bit bits b) 1))
 
     pub all_right : same m.once bits && all_zero m.twice ≡ true → lowest_to 4096 (wrong m bits) 0 ≡ None
@@ -425,16 +413,10 @@ marks-say (suc (suc a)) c r n p q s e f = absurd (omega arith)
 marks-say zero zero (suc (suc r)) zero p q s e f = absurd (omega arith)
 marks-say (suc zero) zero (suc (suc r)) (suc zero) p q s e f = absurd (omega arith)
 
--- no bit of a table of zeros is set
-pub zero-byte : (n i : ℕ) → ◌≡◌ {A = ℕ} (get_or (replicate n 0) i 0) 0
-zero-byte zero i = refl
-zero-byte (suc n) zero = refl
-zero-byte (suc n) (suc i) = zero-byte n i
-
 -- `once` begins with zeros from 42 to N-1 and ones elsewhere, `twice` with zeros
 module _ (N : ℕ) (s m : Marks) (reach bm : List ℕ) (start : Cleared s.once (max 42 N)) (blank : s.twice ≡ replicate 512 0) (full : length bm ≡ 512) (k : Kept N m [] s reach) where
   blank-bit : (b : ℕ) → b < 4096 → bit s.twice b ≡ 0
-  blank-bit b h = bit-zero s.twice b (ap length blank ∙ length-replicate {A = ℕ} 512 0) h (ap (λ (l : List ℕ). get_or l (b / 8) 0) blank ∙ zero-byte 512 (b / 8))
+  blank-bit b h = bit-zero s.twice b (ap length blank ∙ length-replicate {A = ℕ} 512 0) h (ap (λ (l : List ℕ). get_or l (b / 8) 0) blank ∙ zero-at (replicate 512 0) (b / 8) refl)
 
   start-in : (b : ℕ) → in_data N b ≡ true → bit s.once b ≡ 0
   unfolding bit

@@ -9,7 +9,6 @@ ghost use Rattle.marks.specs.Marks.{bit, Kept, wrong, block_found};
 
 mod tested;
 
-use bitmap::known;
 use block::{in_data, load};
 use mkfs::empty_table;
 use spec::{DiskBlock, Limits};
@@ -28,7 +27,6 @@ pub struct Marks {
 fn bit_is(t: &[u8; Limits::BLOCK_SIZE], b: DiskBlock) -> bool
     ensures { result ≡ eqb (bit t.now b.0) 1 }
 {
-    known(*t);
     (load(t, (b.0 / 8) as usize) >> (b.0 % 8)) % 2 == 1
 }
 
@@ -38,8 +36,10 @@ impl Marks {
         ensures { Cleared result.once (max 42 device.now.blocks) × (result.twice ≡ replicate 512 0) }
     {
         let first = (device.blocks as u32).max(Limits::DATA_START);
+        let unmarked = empty_table(first);
+        let once = unmarked.bytes;
         Marks {
-            once: empty_table(first),
+            once,
             twice: [0u8; Limits::BLOCK_SIZE],
         }
     }
@@ -49,8 +49,6 @@ impl Marks {
         requires { (42 ≤ b.0) × (0 < n) × (b.0 % 8 + n ≤ 8) × (b.0 < 4096) }
         ensures { (N : ℕ) → b.0 + n ≤ N → Kept N self.new [] self.old (up_from b.0 n) }
     {
-        known(self.once);
-        known(self.twice);
         let i = (b.0 / 8) as usize;
         let m = (255u8 >> (8 - n)) << (b.0 % 8);
         let o = self.once[i];
@@ -78,7 +76,7 @@ impl Marks {
             return;
         }
         let mut b = from;
-        for i in from / 8..(end + 7) / 8 {
+        for i in from / 8..end.div_ceil(8) {
             let next = end.min(8 * i + 8);
             self.mark_byte(DiskBlock(b), next - b);
             b = next;
@@ -103,9 +101,6 @@ impl Marks {
     pub fn lowest_wrong(&self, bitmap: &[u8; Limits::BLOCK_SIZE]) -> Option<DiskBlock>
         ensures { result ≡ block_found (lowest_to 4096 (wrong self.now bitmap.now) 0) }
     {
-        known(self.once);
-        known(self.twice);
-        known(*bitmap);
         if self.are_right(bitmap) {
             return None;
         }

@@ -1,8 +1,8 @@
 -- The numbers of sessions and answers: a session is what its numbers stand for, and the cases of the results. Assumes nothing.
 use Prim.Native.Nat.{ℕ}
-use mathlib.Core.Path.{◌≡◌, refl, sym, ap, ◌∙◌, subst}
+use mathlib.Core.Path.{◌≡◌, refl, sym, ap, ap₂, ◌∙◌, subst}
 use mathlib.Core.Bool.{Bool, true, false, cond}
-use mathlib.Core.List.{List, []}
+use mathlib.Core.List.{List, [], ◌∷◌}
 use lib.ListN.{replicate}
 use borrow.Author.Tests.{ne_eqb}
 use Rattle.std.specs.Prelude.{unwrap_or}
@@ -14,13 +14,13 @@ use Rattle.spec.specs.declared.Session.{Session}
 use Rattle.spec.specs.declared.Extent.{Extent}
 use Rattle.spec.specs.declared.Refusal.{Refusal}
 use Rattle.spec.specs.declared.Refusal.TheVariants.{DeviceSize, WorkSize, BadName, TooLarge, BadHeader, Unsound, NotReady, Unknown, Taken, NoInode, NoSpace, TooManyExtents, TooManyStaged, ListShort}
-use Rattle.spec.specs.Answers.{Answer, done, started, stored, idle, counted, file, no_file, run, no_run, refusal_of, refusal_number, fault_told}
+use Rattle.spec.specs.Answers.{Answer, refused, done, started, stored, idle, counted, file, no_file, run, no_run, is_refused, refusal_of, refusal_number, value_told, fault_told}
 use Rattle.spec.specs.Calls.{Outcome, left, left_buffer}
 use Rattle.mirror.specs.declared.CAdvanced.{CAdvanced}
 use Rattle.mirror.specs.declared.CCounted.{CCounted}
 use Rattle.mirror.specs.declared.CRun.{CRun}
 use Rattle.mirror.specs.declared.CRecord.{CRecord}
-use Rattle.mirror.specs.Mirror.{phase_of, phase_number, place_in, decode, encode, fault_in, values_of, name_in, finished_of, committed_of, advanced_of, counted_of, recorded_of, run_of, Stays, Reads, Names}
+use Rattle.mirror.specs.Mirror.{phase_of, phase_number, place_in, decode, encode, fault_in, values_of, name_in, finished_of, committed_of, advanced_of, counted_of, recorded_of, run_of, lent, Stays, Reads, Names}
 
 -- ---- sessions
 
@@ -56,55 +56,40 @@ module _ (n d : ℕ) where
 -- what the answers of phase_in need
 pub ruleset phase_rules = (phase-1, phase-2, phase-3, phase-other)
 
--- ---- a refusal has no values, and 10 alone names a record
+-- ---- a refusal: what holds of each number and each list of values holds of each of them
 
-pub fault-is : (r : Refusal) → unwrap_or (fault_told r) 0 ≡ fault_in (refusal_of r)
-fault-is DeviceSize = refl
-fault-is WorkSize = refl
-fault-is BadName = refl
-fault-is TooLarge = refl
-fault-is (BadHeader i) = refl
-fault-is Unsound = refl
-fault-is NotReady = refl
-fault-is Unknown = refl
-fault-is Taken = refl
-fault-is NoInode = refl
-fault-is NoSpace = refl
-fault-is TooManyExtents = refl
-fault-is TooManyStaged = refl
-fault-is ListShort = refl
+of-refusal : (P : Answer → Type 0) → ((n : ℕ) (vs : List ℕ) → P (refused n vs)) → (r : Refusal) → P (refusal_of r)
+of-refusal P f DeviceSize = f _ _
+of-refusal P f WorkSize = f _ _
+of-refusal P f BadName = f _ _
+of-refusal P f TooLarge = f _ _
+of-refusal P f (BadHeader i) = f _ _
+of-refusal P f Unsound = f _ _
+of-refusal P f NotReady = f _ _
+of-refusal P f Unknown = f _ _
+of-refusal P f Taken = f _ _
+of-refusal P f NoInode = f _ _
+of-refusal P f NoSpace = f _ _
+of-refusal P f TooManyExtents = f _ _
+of-refusal P f TooManyStaged = f _ _
+of-refusal P f ListShort = f _ _
 
-pub no-values : (r : Refusal) → values_of (refusal_of r) ≡ []
-no-values DeviceSize = refl
-no-values WorkSize = refl
-no-values BadName = refl
-no-values TooLarge = refl
-no-values (BadHeader i) = refl
-no-values Unsound = refl
-no-values NotReady = refl
-no-values Unknown = refl
-no-values Taken = refl
-no-values NoInode = refl
-no-values NoSpace = refl
-no-values TooManyExtents = refl
-no-values TooManyStaged = refl
-no-values ListShort = refl
+pub refused-told : (r : Refusal) → is_refused (refusal_of r) ≡ true
+refused-told = of-refusal (λ a. is_refused a ≡ true) (λ n vs. refl)
+
+-- the value that it tells, and that it tells no number of an accepted call
+pub refused-numbers : (r : Refusal) → (unwrap_or (fault_told r) 0 ≡ fault_in (refusal_of r)) × (values_of (refusal_of r) ≡ [])
+refused-numbers = of-refusal (λ a. (unwrap_or (value_told a) 0 ≡ fault_in a) × (values_of a ≡ [])) named
+  where
+    named : (n : ℕ) (vs : List ℕ) → (unwrap_or (value_told (refused n vs)) 0 ≡ fault_in (refused n vs)) × (values_of (refused n vs) ≡ [])
+    named n [] = (refl, refl)
+    named n (v ∷ vs) = (refl, refl)
+
+no-values : (r : Refusal) → values_of (refusal_of r) ≡ []
+no-values r = (refused-numbers r).1
 
 name-stays : (r : Refusal) (before : List ℕ) → name_in before (refusal_of r) ≡ before
-name-stays DeviceSize before = refl
-name-stays WorkSize before = refl
-name-stays BadName before = refl
-name-stays TooLarge before = refl
-name-stays (BadHeader i) before = refl
-name-stays Unsound before = refl
-name-stays NotReady before = refl
-name-stays Unknown before = refl
-name-stays Taken before = refl
-name-stays NoInode before = refl
-name-stays NoSpace before = refl
-name-stays TooManyExtents before = refl
-name-stays TooManyStaged before = refl
-name-stays ListShort before = refl
+name-stays r before = of-refusal (λ a. name_in before a ≡ before) (λ n vs. refl) r
 
 -- ---- the cases of the results
 
@@ -175,6 +160,11 @@ run-extent e = refl
 pub run_none : record { refusal = 0; first = 0; count = 0 } ≡ run_of no_run
 unfolding run_of
 run_none = refl
+
+-- ---- what is lent
+
+pub same-lent : (ns ms cells l d e w v : List ℕ) → ns ≡ ms → cells ≡ l → d ≡ e → w ≡ v → lent ns cells d w ≡ lent ms l e v
+same-lent ns ms cells l d e w v a b c x = ap₂ (λ (i j : List ℕ). lent i j d w) a b ∙ ap₂ (λ (i j : List ℕ). lent ms l i j) c x
 
 -- ---- promises of the calls that only read: f is the call's outcome at a session, b the session that the numbers given were read as
 

@@ -110,6 +110,13 @@ pub fn decode(h: Head, staged: [u32; Limits::LOG_LENGTH]) -> Session
     Session::with_cells(h.blocks as usize, phase_in(h), staged, h.count as usize)
 }
 
+// The session that lent numbers and cells stand for.
+pub fn session_in(numbers: &[u64; 4], staged: &[u32; Limits::LOG_LENGTH]) -> Session
+    ensures { result ≡ decode (head_in numbers.now) staged.now }
+{
+    decode(head_in(numbers), *staged)
+}
+
 // The numbers of a session on so many blocks, in this phase, with so many cells in use.
 pub fn head_of(blocks: u64, phase: Phase, count: u64) -> Head
     ensures { result ≡ head_of blocks phase count }
@@ -136,7 +143,17 @@ pub fn encode(s: Session) -> Head
     head_of(s.blocks as u64, phase, s.count as u64)
 }
 
-// Answers become structs by functions that are named for the answer, not by From: so the clause that says which numbers stands at the function.
+// Lent numbers and cells become those of a session.
+pub fn keep_session(numbers: &mut [u64; 4], staged: &mut [u32; Limits::LOG_LENGTH], s: Session)
+    ensures { (numbers.new ≡ numbers_of (encode s)) × (staged.new ≡ s.staged) }
+{
+    let cells = s.staged;
+    *staged = cells;
+    keep(numbers, encode(s));
+}
+
+// Functions named for the answer and no From: `finished(answer)` reads plainer than `CFinished::from(answer)`, and by From only the type that is wanted would
+// tell `committed` from `counted`.
 pub fn finished(answer: Result<(), Refusal>) -> CFinished
     ensures { result ≡ finished_of (done_of answer) }
 {

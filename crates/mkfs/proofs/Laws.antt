@@ -1,20 +1,18 @@
 -- Laws of an empty store. Assumes nothing.
-use Prim.Native.Nat.{ℕ, zero, suc, ◌+◌, ◌*◌, ◌-◌, ◌/◌, ◌%◌, ◌^◌, ◌<◌, ◌≤◌}
+use Prim.Native.Nat.{ℕ, zero, suc, ◌+◌, ◌*◌, ◌-◌, ◌<◌, ◌≤◌}
 use mathlib.Core.Path.{◌≡◌, refl, sym, ap, ap₂, ◌∙◌, fun_ext}
-use mathlib.Core.List.{List, ◌∷◌, ◌++◌}
+use mathlib.Core.List.{List, [], ◌∷◌, ◌++◌}
 use native.Mathlib.Omega.{arith}
-use mathlib.Core.Logic.{⊎_elim}
-use native.Mathlib.Nat.{sub-zero, zero-sub, suc-sub-suc, zero-div}
-use lib.ListN.{length, take, drop, get_or, replicate, length-append, length-take, length-drop, length-replicate, replicate-append-replicate, get_or-replicate, get_or-append}
-use lib.Seq.{ext_get_or, get_or-append-add, get_or-take, get_or-drop}
-use Rattle.std.proofs.lemmas.List.{get_or-append_right}
-use Rattle.spec.specs.Bytes.{zeros, exactly}
+use native.Mathlib.Nat.{sub-zero, zero-sub, suc-sub-suc}
+use lib.ListN.{length, drop, get_or, replicate, length-replicate, replicate-append-replicate, get_or-replicate, get_or-append}
+use lib.Seq.{get_or-append-add}
+use Rattle.spec.specs.Bytes.{zeros, exactly, up_from}
 use Rattle.spec.specs.Disk.{Disk, blocks_of, slice_of, with_block}
-use Rattle.spec.specs.Bitmap.{bits_of, bytes_of}
+use Rattle.spec.specs.Bitmap.{bits_of, bytes_of, mark}
 use Rattle.spec.specs.Calls.{empty_bits, empty_disk}
 use Rattle.bitmap.specs.Words.{Table}
-use Rattle.bitmap.proofs.Laws.{length-bits, bit_at, bytes_bits}
-use Rattle.block.proofs.Laws.{lt-or-le}
+use Rattle.bitmap.proofs.Laws.{bytes_bits}
+use Rattle.bitmap.proofs.Runs.{mark-behind}
 use Rattle.block.specs.Stores.{stored_in}
 use Rattle.mkfs.specs.Table.{Cleared}
 
@@ -49,53 +47,25 @@ ones (suc n) =
     some : ℕ → List ℕ
     some k = replicate k 1
 
-pub cleared-start : Cleared (replicate 512 255) 42
-cleared-start = record { full = length-replicate {A = ℕ} 512 255; low = λ x h. one x (omega arith); zero_bit = λ x h k. absurd (omega arith); high = λ x l h k. one x k }
+pub ones-table : Table (replicate 512 255)
+ones-table = record { full = length-replicate {A = ℕ} 512 255; bytes = below 512 }
   where
-    one : (x : ℕ) → x < 4096 → get_or (bits_of (replicate 512 255)) x 0 ≡ 1
-    one x h = ap (λ (l : List ℕ). get_or l x 0) (ones 512) ∙ get_or-replicate 4096 x 1 0 h
+    below : (k i : ℕ) → get_or (replicate k 255) i 0 < 256
+    below zero i = omega arith
+    below (suc k) zero = omega arith
+    below (suc k) (suc i) = below k i
 
--- whole bytes from a up to e, which are zero now
-module _ (t zs : List ℕ) (a e : ℕ) (c : Cleared t (8 * a)) (l : 6 ≤ a) (h : a ≤ e) (m : e ≤ 512) (z : zs ≡ replicate (length (take (e - a) (drop a t))) 0) where
-  abbrev u : List ℕ
-  u = take a t ++ (zs ++ drop (e - a) (drop a t))
+-- bits from a on cleared, m of them
+mark-first : (m : ℕ) (ys : List ℕ) → mark 0 (up_from 0 m) (replicate m 1 ++ ys) ≡ replicate m 0 ++ ys
+unfolding mark
+mark-first zero ys = refl
+mark-first (suc m) ys = mark-behind 0 (0 ∷ []) (replicate m 1 ++ ys) 1 0 m refl ∙ ap (λ (l : List ℕ). 0 ∷ l) (mark-first m ys)
 
-  front : length (take a t) ≡ a
-  front = omega (arith, length-take a t, c.full)
-
-  few : length zs ≡ e - a
-  few = ap length z ∙ length-replicate {A = ℕ} _ 0 ∙ omega (arith, length-take (e - a) (drop a t), length-drop a t, c.full)
-
-  full : length u ≡ 512
-  full = simp (length-append, length-drop) (omega (arith, front, few, c.full))
-
-  below : (i : ℕ) → i < a → get_or u i 0 ≡ get_or t i 0
-  below i k = get_or-append (take a t) _ 0 i (omega (arith, front)) ∙ get_or-take a t i 0 k
-
-  within : (i : ℕ) → a ≤ i → i < e → get_or u i 0 ≡ 0
-  within i k n =
-      get_or-append_right (take a t) _ a i 0 front k ∙ get_or-append zs _ 0 (i - a) (omega (arith, few)) ∙ ap (λ (l : List ℕ). get_or l (i - a) 0) z
-      ∙ get_or-replicate (length (take (e - a) (drop a t))) (i - a) 0 0 (omega (arith, length-take (e - a) (drop a t), length-drop a t, c.full))
-
-  above : (i : ℕ) → e ≤ i → get_or u i 0 ≡ get_or t i 0
-  above i k =
-      let q : a + ((e - a) + (i - a - (e - a))) ≡ i = omega arith in
-      get_or-append_right (take a t) _ a i 0 front (omega arith) ∙ get_or-append_right zs _ (e - a) (i - a) 0 few (omega arith) ∙ get_or-drop (e - a) (drop a t) (i - a - (e - a)) 0
-      ∙ get_or-drop a t _ 0 ∙ ap (λ (j : ℕ). get_or t j 0) q
-
-  same : (x : ℕ) → x < 4096 → get_or u (x / 8) 0 ≡ get_or t (x / 8) 0 → get_or (bits_of u) x 0 ≡ get_or (bits_of t) x 0
-  same x k q = bit_at u x 0 (omega (arith, full)) ∙ ap (λ (y : ℕ). y / 2 ^ (x % 8) % 2) q ∙ sym (bit_at t x 0 (omega (arith, c.full)))
-
-  zeroed : (x : ℕ) → x < 4096 → get_or u (x / 8) 0 ≡ 0 → get_or (bits_of u) x 0 ≡ 0
-  zeroed x k q = bit_at u x 0 (omega (arith, full)) ∙ ap (λ (y : ℕ). y / 2 ^ (x % 8) % 2) q ∙ ap (λ (y : ℕ). y % 2) (zero-div (2 ^ (x % 8)))
-
-  pub cleared-bytes : Cleared u (8 * e)
-  cleared-bytes = record {
-    full = full;
-    low = λ x k. same x (omega arith) (below (x / 8) (omega arith)) ∙ c.low x k;
-    zero_bit = λ x k n. ⊎_elim (λ q. same x (omega arith) (below (x / 8) (omega arith)) ∙ c.zero_bit x k q) (λ q. zeroed x (omega arith) (within (x / 8) (omega arith) (omega arith))) (lt-or-le x (8 * a));
-    high = λ x k n o. same x o (above (x / 8) (omega arith)) ∙ c.high x k (omega arith) o;
-  }
+cleared-run : (a m k : ℕ) → mark 0 (up_from a m) (replicate (a + (m + k)) 1) ≡ replicate a 1 ++ (replicate m 0 ++ replicate k 1)
+cleared-run a m k =
+    ap (mark 0 (up_from a m)) (sym (ap (λ (l : List ℕ). replicate a 1 ++ l) (replicate-append-replicate m k 1) ∙ replicate-append-replicate a (m + k) 1))
+    ∙ mark-behind 0 (replicate a 1) (replicate m 1 ++ replicate k 1) a 0 m (omega (arith, length-replicate {A = ℕ} a 1))
+    ∙ ap (λ (l : List ℕ). replicate a 1 ++ l) (mark-first m (replicate k 1))
 
 -- the bits of an empty store, one by one
 module _ (n : ℕ) (l : 42 ≤ n) (h : n ≤ 4096) where
@@ -124,19 +94,27 @@ module _ (n : ℕ) (l : 42 ≤ n) (h : n ≤ 4096) where
       rest_at x (omega arith) ∙ ap (λ (y : ℕ). get_or rest y 0) e ∙ get_or-append-add (replicate (n - 42) 0) (replicate (4096 - n) 1) (x - n) 0
       ∙ get_or-replicate (4096 - n) (x - n) 1 0 (omega arith)
 
-  empty-length : length (empty_bits n) ≡ 4096
-  unfolding empty_bits
-  empty-length = length-append ones-first rest ∙ rw (length-append {A = ℕ} (replicate (n - 42) 0) (replicate (4096 - n) 1), length-replicate {A = ℕ} (n - 42) 0, length-replicate {A = ℕ} (4096 - n) 1) (omega arith)
+  -- a table of ones, cleared
+  module _ (t : List ℕ) (g : Table t) (e : bits_of t ≡ mark 0 (up_from 42 (n - 42)) (bits_of (replicate 512 255))) where
+    are-empty : bits_of t ≡ empty_bits n
+    unfolding empty_bits
+    are-empty =
+        let q : 8 * 512 ≡ 42 + ((n - 42) + (4096 - n)) = omega arith in
+        e ∙ ap (mark 0 (up_from 42 (n - 42))) (ones 512 ∙ ap (λ (k : ℕ). replicate k 1) q) ∙ cleared-run 42 (n - 42) (4096 - n)
 
-  pub cleared-table : (t : List ℕ) → Table t → Cleared t n → t ≡ bytes_of (empty_bits n)
-  cleared-table t g c =
-      sym (bytes_bits t g)
-      ∙ ap bytes_of (ext_get_or 0 (bits_of t) (empty_bits n) (omega (arith, length-bits t, c.full, empty-length)) (λ x k. at x (omega (arith, length-bits t, c.full))))
-    where
-      at : (x : ℕ) → x < 4096 → get_or (bits_of t) x 0 ≡ get_or (empty_bits n) x 0
-      at x k =
-          ⊎_elim (λ a. c.low x a ∙ sym (empty-low x a))
-          (λ a. ⊎_elim (λ b. c.zero_bit x a b ∙ sym (empty-zero x a b)) (λ b. c.high x a b k ∙ sym (empty-high x b k)) (lt-or-le x n)) (lt-or-le x 42)
+    pub is-empty : t ≡ bytes_of (empty_bits n)
+    is-empty = sym (bytes_bits t g) ∙ ap bytes_of are-empty
+
+    read : (x : ℕ) → get_or (bits_of t) x 0 ≡ get_or (empty_bits n) x 0
+    read x = ap (λ (l : List ℕ). get_or l x 0) are-empty
+
+    pub is-cleared : Cleared t n
+    is-cleared = record {
+      full = g.full;
+      low = λ x k. read x ∙ empty-low x k;
+      zero_bit = λ x k m. read x ∙ empty-zero x k m;
+      high = λ x k m o. read x ∙ empty-high x m o;
+    }
 
 -- ---- the device
 

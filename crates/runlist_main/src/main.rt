@@ -2,10 +2,10 @@
 // File k has the name k 02 03 04 05 06 07 08. The list lent has eight places, each of them 7+9 before the call.
 #![tactic(auto)]
 
-use mounted::{Mounted, SMALLEST};
+use mounted::Mounted;
 use spec::{Extent, FileBlock, Session};
 use std::io;
-use trial::{counted, extent, number};
+use trial::{SMALLEST, counted, extent, number};
 
 // ---- text
 
@@ -85,6 +85,6 @@ fn main(rt: HostRuntime) -> io::Result<()> {
     t.grow(1, 9);
     show_short(&rt, &t)?;
     // a session that is closed: 12
-    t.session = Session::closed_on(64);
+    t.lent.session = Session::closed_on(64);
     show(&rt, &t, 1, 0, 8)
 }

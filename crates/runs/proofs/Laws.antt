@@ -10,6 +10,7 @@ use lib.Dec.{eqb, ltb, leb}
 use Rattle.std.specs.Prelude.{Option, Some, None, MatchOption, slice_range}
 use Rattle.std.specs.Option.{option_copied}
 use Rattle.std.specs.Borrow.{Bor}
+use Rattle.std.proofs.lemmas.Bool.{and_parts}
 use mathlib.Core.Logic.{◌⊎◌, inl, inr}
 use lib.ListN.{length, take, get_or, set, replicate, length-set, length-append, length-replicate}
 use lib.Seq.{take_all, take-suc-set, take-append-le, take-set-lt, take-set-le, get_or-take, take-nil}
@@ -50,13 +51,8 @@ grown-another (x ∷ y ∷ zs) a b c h =
     record { is = ap (λ (l : List Extent). x ∷ l) r.is; next = r.next }
 
 -- what the code's test tells
-both : (a b : Bool) → a && b ≡ true → (a ≡ true) × (b ≡ true)
-both true true h = (refl, refl)
-both true false h = cc
-both false b h = cc
-
 pub joins-true : (n x b : ℕ) → ltb 0 n && eqb x b ≡ true → (0 < n) × (x ≡ b)
-joins-true n x b h = let t = both (ltb 0 n) (eqb x b) h in (ltb-true 0 n t.0, eqb-true x b t.1)
+joins-true n x b h = let t = and_parts (ltb 0 n) (eqb x b) h in (ltb-true 0 n t.0, eqb-true x b t.1)
 
 pub joins-false : (n x b : ℕ) → ltb 0 n && eqb x b ≡ false → 0 < n → x ≡ b → ⊥
 joins-false n x b h l e = let z : true ≡ false = rw (lt-ltb 0 n l, eq-eqb x b e) at h in absurd (true≢false z)

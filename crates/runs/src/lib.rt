@@ -12,7 +12,7 @@ mod nodes;
 
 pub use nodes::Nodes;
 
-// Which data block of a file: one of fewer than 2^32, so that its bytes can be counted.
+// Which data block of a file: one of fewer than 2^32, so that no function over it has to ask that its bytes can be counted, as one over `FileBlock` would.
 #[derive(Clone, Copy)]
 pub struct DataBlock(pub u32);
 
@@ -68,7 +68,7 @@ impl ExtentList {
         ensures { result ≡ no_extents }
     {
         ExtentList {
-            cells: [Extent { first: 0, count: 0 }; Limits::MAX_EXTENTS],
+            cells: [Extent::default(); Limits::MAX_EXTENTS],
             end: ListEnd { len: 0, next: 0 },
         }
     }

@@ -63,7 +63,7 @@ pub struct ByteOffset(pub usize);
 #[derive(Clone, Copy)]
 pub struct FileBlock(pub usize);
 
-#[derive(Clone, Copy)]
+#[derive(Clone, Copy, PartialEq, Eq)]
 pub struct DiskBlock(pub u32);
 
 // "A block number's area decides its use: 0, 1 to 32, 33, 34 to 41, or 42 and up."
@@ -77,14 +77,14 @@ pub enum Area {
 }
 
 // "A slot is a block number and a count"; at depth 0 it is an extent: a first block and how many blocks from there.
-#[derive(Clone, Copy)]
+#[derive(Clone, Copy, Default)]
 pub struct Extent {
     pub first: u32,
     pub count: u32,
 }
 
 // "A session is closed, ready, committing with the place it has reached, or recovering with the place it has reached."
-#[derive(Clone, Copy)]
+#[derive(Clone, Copy, PartialEq, Eq)]
 pub enum Phase {
     Closed,
     Ready,
@@ -150,8 +150,7 @@ impl Session {
     pub fn in_phase(self, phase: Phase) -> Session
         ensures { result ≡ in_phase self phase }
     {
-        let staged = self.staged;
-        Session::with_cells(self.blocks, phase, staged, self.count)
+        Session { phase, ..self }
     }
 }
 

@@ -1,7 +1,7 @@
 -- The cases of the public calls. Assumes nothing.
 use Prim.Native.Nat.{ℕ, ◌*◌, ◌/◌}
 use mathlib.Core.Path.{◌≡◌, refl, sym, ap, ap₂, ◌∙◌}
-use mathlib.Core.Bool.{true, false}
+use mathlib.Core.Bool.{Bool, true, false}
 use mathlib.Core.List.{List}
 use native.Mathlib.Omega.{arith}
 use mathlib.Core.Option as math
@@ -19,7 +19,7 @@ use Rattle.spec.specs.declared.Phase.TheVariants.{Ready, Recovering}
 use Rattle.spec.specs.declared.Refusal.{Refusal}
 use Rattle.spec.specs.declared.Refusal.TheVariants.{DeviceSize, BadHeader, Unsound}
 use Rattle.spec.specs.Session.{opened, closed_on}
-use Rattle.spec.specs.Answers.{done, refusal_of, refuse, accept}
+use Rattle.spec.specs.Answers.{done, refusal_of, refuse, accept, require}
 use Rattle.spec.specs.Transaction.{state_of}
 use Rattle.spec.specs.Calls.{outcome, left, ready_ok, empty_disk, format, open_phase, open_store, abort}
 
@@ -37,6 +37,10 @@ module _ (s : Session) (d w : List ℕ) where
       rw e (ap₂ (λ (n : Session) (x : Slice). outcome (record { session = n; device = x; work = slice_of w }) done) f g)
 
 -- ---- open
+
+pub require-refused : (t : Bool) (r why : Refusal) → refuse r ≡ require t why → (t ≡ false) × (r ≡ why)
+require-refused true r why e = cc
+require-refused false r why e = (refl, cc)
 
 -- the first 512 bytes of a device are its header
 pub head-is : (d : List ℕ) → is_allowed (length d) ≡ true → take 512 (drop (512 * 0) d) ≡ blocks_of d 0

@@ -2,13 +2,15 @@
 // Device, work space and session are not gathered in a struct here, since the specification has each call take them by themselves.
 #![tactic(auto)]
 
-ghost use Rattle.std.specs.Prelude.{◌≡◌, List, ℕ};
-ghost use Rattle.spec.specs.Answers.{done_of, started_of, stored_of};
+ghost use Rattle.std.specs.Prelude.{◌≡◌, List, ℕ, ◌/◌, length, IfOk, IfErr};
+ghost use Rattle.spec.specs.declared.Session.{Session};
+ghost use Rattle.spec.specs.Session.{opened};
+ghost use Rattle.spec.specs.Answers.{done, refusal_of, done_of, started_of, stored_of};
 ghost use Rattle.spec.specs.Transaction.{state_of};
 ghost use Rattle.spec.specs.Calls.{left, format, open_store, advance, commit, abort};
 
 use block::block_in;
-use checks::{done, is_allowed, ready, refused};
+use checks::{done, is_allowed, ready, refused, require};
 use fsck::is_sound;
 use header::{header_fault, targets_in};
 use journal::{advance_in, after, begun_phase, commit_in};
@@ -32,26 +34,33 @@ pub fn format(device: &mut [u8], session: Session) -> Answered<()>
     done(Session::closed_on(size / Limits::BLOCK_SIZE))
 }
 
-// Opens a device: recovering where the header lists targets, else ready if the volume is sound.
+// The phase in which a device opens: recovering where its header lists targets, else ready if the volume is sound.
+fn phase_of(device: &[u8]) -> Result<Phase, Refusal>
+    ensures { IfOk result (λ phase. (s : Session) (work : List ℕ) → left (opened (length device.now / 512) phase) device.now work done ≡ open_store (state_of s device.now work))
+        × IfErr result (λ why. (s : Session) (work : List ℕ) → left s device.now work (refusal_of why) ≡ open_store (state_of s device.now work)) }
+{
+    require(is_allowed(device.len()), Refusal::DeviceSize)?;
+    let n = device.len() / Limits::BLOCK_SIZE;
+    let head = block_in(device, DiskBlock(0));
+    if let Some(i) = header_fault(n, head) {
+        return Err(Refusal::BadHeader(i));
+    }
+    if targets_in(head).len() != 0 {
+        return Ok(Phase::Recovering(0));
+    }
+    require(is_sound(device, n), Refusal::Unsound)?;
+    Ok(Phase::Ready)
+}
+
+// Opens a device.
 pub fn open_store(device: &[u8], session: Session) -> Answered<()>
     ensures { (work : List ℕ) → left result.session device.now work (done_of result.answer)
         ≡ open_store (state_of session device.now work) }
 {
-    if !is_allowed(device.len()) {
-        return refused(session, Refusal::DeviceSize);
+    match phase_of(device) {
+        Err(why) => refused(session, why),
+        Ok(phase) => done(Session::opened(device.len() / Limits::BLOCK_SIZE, phase)),
     }
-    let n = device.len() / Limits::BLOCK_SIZE;
-    let head = block_in(device, DiskBlock(0));
-    if let Some(i) = header_fault(n, head) {
-        return refused(session, Refusal::BadHeader(i));
-    }
-    if targets_in(head).len() != 0 {
-        return done(Session::opened(n, Phase::Recovering(0)));
-    }
-    if !is_sound(device, n) {
-        return refused(session, Refusal::Unsound);
-    }
-    done(Session::opened(n, Phase::Ready))
 }
 
 // Stores the next block of a commit or a recovery under way.
@@ -63,7 +72,7 @@ pub fn advance(device: &mut [u8], work: &[u8], session: Session) -> Answered<Opt
     let phase = session.phase;
     let staged = Staged::of(&session.staged, session.count);
     let answer = advance_in(device, work, blocks, phase, staged);
-    let next = after(phase, session, answer);
+    let next = after(session.phase, session, answer);
     Answered {
         session: next,
         answer,

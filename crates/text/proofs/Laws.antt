@@ -1,13 +1,16 @@
 -- Laws of text laid over bytes. Assumes nothing.
-use Prim.Native.Nat.{ℕ, zero, suc, ◌+◌, ◌-◌, ◌<◌, ◌≤◌, ◌/◌, ◌%◌, min}
+use Prim.Native.Nat.{ℕ, zero, suc, ◌+◌, ◌-◌, ◌*◌, ◌^◌, ◌<◌, ◌≤◌, ◌/◌, ◌%◌, min}
 use mathlib.Core.Path.{◌≡◌, refl, sym, ap, ◌∙◌}
 use mathlib.Core.List.{List, [], ◌∷◌, ◌++◌}
 use native.Mathlib.Omega.{arith}
 use lib.ListN.{length, set, take, drop, get_or, length-append}
-use borrow.Author.Tests.{le-ltb}
-use Rattle.spec.specs.Listing.{digits}
+use borrow.Author.Tests.{ltb-true, ltb-false, lt-ltb}
+use Rattle.std.specs.Prelude.{Bool, true, false, ltb}
+use Rattle.std.specs.Fmt.{decimal}
+use Rattle.std.proofs.lemmas.Fmt.{decimal_digit, decimal_step}
+use Rattle.spec.specs.Listing.{digits, hexadecimal}
 use Rattle.text.specs.declared.Writer.{Writer}
-use Rattle.text.specs.Written.{laid, Written, Put}
+use Rattle.text.specs.Written.{laid, Written, Put, number}
 
 pub length-laid : (out : List ℕ) (at : ℕ) (text : List ℕ) → length (laid out at text) ≡ length out
 unfolding laid
@@ -133,16 +136,18 @@ module _ (w₀ : Writer) (whole : List ℕ) (w : Writer) (rest : List ℕ) (h : 
 
 -- ---- digits
 
-module _ (most n : ℕ) where
-  pub digits-none : most ≡ 0 → [] ≡ digits most n
-  digits-none e = rw e
+-- what std writes of a number below 10 ^ most, most above 0, are its digits
+digits-are : (most n : ℕ) → n < 10 ^ suc most → n < 2 ^ 64 → decimal n ≡ digits (suc most) n
+digits-are zero n h w = let l : n < 10 = omega arith in rw (lt-ltb n 10 l) (decimal_digit n l)
+digits-are (suc k) n h w = go (ltb n 10) refl (λ l. digits-are k (n / 10) (omega arith) (omega arith))
+  where
+    go : (t : Bool) → ltb n 10 ≡ t → (10 ≤ n → decimal (n / 10) ≡ digits (suc k) (n / 10)) → decimal n ≡ digits (suc (suc k)) n
+    go true e f = rw e (decimal_digit n (ltb-true n 10 e))
+    go false e f = let l = ltb-false n 10 e in rw e (decimal_step n l w ∙ ap (λ (d : List ℕ). d ++ ((48 + n % 10) ∷ [])) (f l))
 
-  pub digits_more : (most ≡ 0 → ⊥) → 10 ≤ n → digits (most - 1) (n / 10) ++ ((48 + n % 10) ∷ []) ≡ digits most n
-  digits_more e h = go most e
-    where
-      go : (k : ℕ) → (k ≡ 0 → ⊥) → digits (k - 1) (n / 10) ++ ((48 + n % 10) ∷ []) ≡ digits k n
-      go zero e = absurd (e refl)
-      go (suc k) e = let z : suc k - 1 ≡ k = omega arith in rw (le-ltb n 10 h, z)
+pub number-are : (n : ℕ) → n < 2 ^ 64 → decimal n ≡ number n
+unfolding number
+number-are n w = digits-are 19 n (omega arith) w
 
 -- the next of some bytes
 pub next-byte : (xs : List ℕ) (k : ℕ) → k < length xs → drop k xs ≡ get_or xs k 0 ∷ drop (k + 1) xs
@@ -150,8 +155,7 @@ next-byte [] k h = absurd (omega arith)
 next-byte (x ∷ xs) zero h = refl
 next-byte (x ∷ xs) (suc k) h = let z : suc k + 1 ≡ suc (k + 1) = omega arith in rw z (next-byte xs k (omega arith))
 
-pub no_byte : (xs : List ℕ) (k : ℕ) → length xs ≤ k → drop k xs ≡ []
-no_byte [] zero h = refl
-no_byte [] (suc k) h = refl
-no_byte (x ∷ xs) zero h = absurd (omega arith)
-no_byte (x ∷ xs) (suc k) h = no_byte xs k (omega arith)
+-- two digits for each byte
+pub length-hex : (xs : List ℕ) → length (hexadecimal xs) ≡ 2 * length xs
+length-hex [] = refl
+length-hex (x ∷ xs) = omega (arith, length-hex xs)

@@ -2,8 +2,10 @@
 #![tactic(auto)]
 
 ghost use Rattle.std.specs.Prelude.{◌∷◌, [], ◌/◌, ◌%◌, ◌<◌, ◌≡◌};
-ghost use Rattle.spec.specs.Listing.{digits, hex_digit, hexadecimal};
+ghost use Rattle.spec.specs.Listing.{hex_digit, hexadecimal};
 ghost use Rattle.text.specs.Written.{Put, number};
+
+use itoa::Buffer;
 
 // Lent bytes, and the place up to which they are written.
 #[derive(Drop)]
@@ -39,7 +41,7 @@ impl<'a> Writer<'a> {
         }
     }
 
-    // Some bytes in their order.
+    // Some bytes in their order. A copy of slices would need the part that fits taken of both, and memcpy, which the library of conversions does without.
     pub fn put_bytes(&mut self, bytes: &[u8])
         ensures { Put self.old self.new bytes.now }
     {
@@ -48,28 +50,15 @@ impl<'a> Writer<'a> {
         }
     }
 
-    // The last digits of a number in decimal, at most so many.
-    fn put_digits(&mut self, most: usize, n: usize)
-        ensures { Put self.old self.new (digits most n) }
-    {
-        if most == 0 {
-            return;
-        }
-        if n < 10 {
-            self.put(b'0' + n as u8);
-            return;
-        }
-        self.put_digits(most - 1, n / 10);
-        self.put(b'0' + (n % 10) as u8);
-    }
-
-    // A number in decimal; twenty digits are enough for any.
+    // A number in decimal. Core's `write!` tells its digits only where it answers Ok, and no contract tells that it does on a writer that never fails.
     pub fn put_number(&mut self, n: usize)
         ensures { Put self.old self.new (number n) }
     {
-        self.put_digits(20, n);
+        let mut digits = Buffer::new();
+        self.put_bytes(digits.format(n).as_bytes());
     }
 
+    // A byte in capitals: crate hex writes small letters into lent bytes, and capitals into memory of its own.
     fn put_hex_byte(&mut self, x: u8)
         ensures { Put self.old self.new (hex_digit (x / 16) ∷ hex_digit (x % 16) ∷ []) }
     {

@@ -21,7 +21,7 @@ use Rattle.block.specs.Stores.{stored_in}
 use Rattle.block.proofs.Laws.{block-length, block_read}
 use Rattle.lists.specs.Places.{place-lt, place-value, place-new, place_other, no_place, distinct_snoc, all_append}
 use Rattle.transaction.specs.Places.{found_at, spot, blocks_with, session_of, view_in}
-use Rattle.transaction.specs.Volumes.{working, Shows}
+use Rattle.transaction.specs.Volumes.{working, Heads, Shows}
 use Rattle.transaction.specs.LentSessions.{session_lent, Kept, Held}
 use Rattle.transaction.specs.declared.lent_session.LentSession.{LentSession}
 use Rattle.transaction.specs.declared.staging.Staging.{Staging}
@@ -246,6 +246,20 @@ module _ (l : List ℕ) (b : ℕ) where
       go none e = rw e
       go (some i) e = let z : length l ≤ i = rw e at h in absurd (omega (arith, place-lt b i l e))
 
+  -- a block keeps its place where it is added
+  spot-with : spot (blocks_with l b) b ≡ spot l b
+  unfolding spot blocks_with
+  spot-with = go (place b l) refl
+    where
+      go : (o : Option ℕ) → place b l ≡ o
+          → found (place b (found (place b l) (l ++ (b ∷ [])) (λ i. l))) (length (found (place b l) (l ++ (b ∷ [])) (λ i. l))) (λ i. i) ≡ found (place b l) (length l) (λ i. i)
+      go none e = rw (e, place-new b 0 l e) (omega arith)
+      go (some i) e = rw (e, e) refl
+
+pub spot-after : (s q : Session) (b i : ℕ) → i ≡ spot (staged_in s) b → q ≡ with_staged s (blocks_with (staged_in s) b) → i ≡ spot (staged_in q) b
+spot-after s q b i e h =
+    e ∙ sym (spot-with (staged_in s) b) ∙ ap (λ (l : List ℕ). spot l b) (sym (ap staged_in h ∙ staged-with s (blocks_with (staged_in s) b)))
+
 -- the place among the cells in use of a session
 pub spot-staged : (s : Session) (l : List ℕ) (b i : ℕ) → i ≡ spot l b → l ≡ take s.count s.staged → i ≡ spot (staged_in s) b
 unfolding staged_in
@@ -316,35 +330,25 @@ stage-leaves s q device work left b i x e f g =
 pub working-length : (c : WorkingCopy) (b : ℕ) → length (working c b) ≡ 512
 working-length c = view-in-length c.staged.list.now c.device.now c.work.now
 
--- its blocks, and all of it
+-- its blocks
 module _ (v : Volume) (s : State) (e : Shows v s) where
   pub shows-view : working v.copy ≡ view s
   unfolding view view_in
   shows-view =
-      ap₂ (λ (l : List ℕ) (d : Slice). λ b. found (place b l) (d.block b) (blocks_of v.copy.work.now)) (sym e.numbers) (sym e.device)
-      ∙ ap (λ (w : Slice). λ b. found (place b (staged_in s.session)) (s.device.block b) w.block) (sym e.work)
+      ap₂ (λ (l : List ℕ) (d : Slice). λ b. found (place b l) (d.block b) (blocks_of v.copy.work.now)) (sym e.numbers) (sym e.head.device)
+      ∙ ap (λ (w : Slice). λ b. found (place b (staged_in s.session)) (s.device.block b) w.block) (sym e.head.work)
 
-  pub shows-all : s ≡ state_of s.session v.copy.device.now v.copy.work.now
-  shows-all = ap₂ (λ (d w : Slice). record { session = s.session; device = d; work = w }) e.device e.work
+-- all of it but the numbers of staged blocks
+module _ (v : Volume) (s : State) (e : Heads v s) where
+  pub heads-all : s ≡ state_of s.session v.copy.device.now v.copy.work.now
+  heads-all = ap₂ (λ (d w : Slice). record { session = s.session; device = d; work = w }) e.device e.work
 
 -- ---- a session lent
-
--- made of these parts
-pub lent-is : (l : LentSession) (s : Session) → l.blocks ≡ s.blocks → l.phase ≡ s.phase → l.cells.now ≡ s.staged → l.count ≡ s.count → session_lent l ≡ s
-lent-is l s b p c n = rw (b, p, c, n)
-
--- and given back with others of its cells in use
-pub lent-back : (l m : LentSession) (s q : Session) (cells : List ℕ) → session_lent l ≡ s → Kept l m → cells ≡ m.cells.now
-    → q ≡ session_of s.blocks s.phase cells m.count → (bs : List ℕ) → session_lent m ≡ with_staged (session_lent l) bs → q ≡ with_staged s bs
-lent-back l m s q cells e k c is bs h =
-    let b : m.blocks ≡ s.blocks = k.blocks ∙ ap (λ (x : Session). x.blocks) e in
-    let p : m.phase ≡ s.phase = k.phase ∙ ap (λ (x : Session). x.phase) e in
-    is ∙ rw (c, ← b, ← p) refl ∙ h ∙ ap (λ (x : Session). with_staged x bs) e
 
 -- two changes, one after the other
 kept_then : (l m n : LentSession) → Kept l m → Kept m n → Kept l n
 kept_then l m n a b =
-    record { work = b.work ∙ a.work; cells = b.cells ∙ a.cells; device = b.device ∙ a.device; blocks = b.blocks ∙ a.blocks; phase = b.phase ∙ a.phase }
+    record { work = b.work ∙ a.work; cells = b.cells ∙ a.cells; count = b.count ∙ a.count; device = b.device ∙ a.device; blocks = b.blocks ∙ a.blocks; phase = b.phase ∙ a.phase }
 
 pub held_then : (s t u : Staging) → Held s t → Held t u → Held s u
 held_then s t u a b = record { lent = b.lent ∙ a.lent; parts = kept_then _ _ _ a.parts b.parts }

@@ -9,7 +9,7 @@ use Rattle.transaction.specs.Places.{session_of}
 
 -- the session that is lent, the numbers of its staged blocks, and all of its state
 abbrev pub session_lent : LentSession → Session
-session_lent l = session_of l.blocks l.phase l.cells.now l.count
+session_lent l = session_of l.blocks l.phase l.cells.now l.count.now
 
 abbrev pub numbers_lent : LentSession → List ℕ
 numbers_lent l = staged_in (session_lent l)
@@ -17,10 +17,11 @@ numbers_lent l = staged_in (session_lent l)
 abbrev pub state_lent : LentSession → State
 state_lent l = state_of (session_lent l) l.device.now l.work.now
 
--- a call changes the bytes and the cells behind the same two references, and the count
+-- a call changes the bytes, the cells and the count behind the same three references
 pub record Kept (l l' : LentSession) : Type 0 where
   pub work : l'.work.ghost_name ≡ l.work.ghost_name
   pub cells : l'.cells.ghost_name ≡ l.cells.ghost_name
+  pub count : l'.count.ghost_name ≡ l.count.ghost_name
   pub device : l'.device.now ≡ l.device.now
   pub blocks : l'.blocks ≡ l.blocks
   pub phase : l'.phase ≡ l.phase

@@ -1,3 +1,4 @@
 pub mod Places
 pub mod Volumes
 pub mod LentSessions
+pub mod Images

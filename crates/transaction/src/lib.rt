@@ -11,17 +11,20 @@ ghost use Rattle.block.specs.Places.{found_at};
 ghost use Rattle.block.specs.Stores.{stored_in};
 ghost use Rattle.transaction.specs.Places.{spot, blocks_with, session_of};
 ghost use Rattle.transaction.specs.Volumes.{working, Shows};
-ghost use Rattle.transaction.specs.LentSessions.{session_lent, numbers_lent, state_lent, Kept, Held};
+ghost use Rattle.transaction.specs.LentSessions.{session_lent, numbers_lent, state_lent, Kept};
+ghost use Rattle.transaction.specs.Images.{session_of_image, state_of_image, work_of_image, Same};
 
 use block::{block_in, store_block, store_copy};
 use spec::{DiskBlock, Limits, Phase, Session};
 
+mod image;
 mod lent_session;
 mod staged;
 mod staging;
 mod volume;
 mod working_copy;
 
+pub use image::Image;
 pub use lent_session::LentSession;
 pub use staged::Staged;
 pub use staging::Staging;
@@ -29,7 +32,7 @@ pub use volume::Volume;
 pub use working_copy::WorkingCopy;
 
 // How many of the 32 cells are in use: a count past them is read as all.
-fn staged_in(count: usize) -> usize
+pub fn staged_in(count: usize) -> usize
     ensures { (result ≡ min count 32) × (result ≤ 32) }
 {
     count.min(Limits::LOG_LENGTH)
@@ -49,6 +52,20 @@ fn first_place(cells: &[u32], want: u32) -> Option<usize>
     cells.iter().position(|x| *x == want)
 }
 
+// Where block b stands among these numbers.
+pub fn place_in(staged: &[u32], b: DiskBlock) -> Option<usize>
+    ensures { result ≡ found_at (place b.0 staged.now) }
+{
+    first_place(staged, b.0)
+}
+
+// The place among the images that block b has or gets.
+pub fn spot(staged: &[u32], b: DiskBlock) -> usize
+    ensures { result ≡ spot staged.now b.0 }
+{
+    place_in(staged, b).unwrap_or(staged.len())
+}
+
 impl<'a> Staged<'a> {
     // Those of a session, in its cells in use.
     pub fn of(cells: &'a [u32; Limits::LOG_LENGTH], count: usize) -> Staged<'a>
@@ -62,14 +79,14 @@ impl<'a> Staged<'a> {
     pub fn place_of(self, b: DiskBlock) -> Option<usize>
         ensures { result ≡ found_at (place b.0 self.entry.list.now) }
     {
-        first_place(self.list, b.0)
+        place_in(self.list, b)
     }
 
     // The place among the images that block b has or gets.
     pub fn spot(self, b: DiskBlock) -> usize
         ensures { result ≡ spot self.entry.list.now b.0 }
     {
-        self.place_of(b).unwrap_or(self.list.len())
+        spot(self.list, b)
     }
 }
 
@@ -142,12 +159,12 @@ impl<'a> LentSession<'a> {
         blocks: usize,
         phase: Phase,
         cells: &'a mut [u32; Limits::LOG_LENGTH],
-        count: usize,
+        count: &'a mut usize,
     ) -> LentSession<'a>
         ensures bytes { result.work.ghost_name ≡ work.entry.ghost_name }
-        ensures numbers { result.cells.ghost_name ≡ cells.entry.ghost_name }
+        ensures numbers { (result.cells.ghost_name ≡ cells.entry.ghost_name) × (result.count.ghost_name ≡ count.entry.ghost_name) }
         ensures parts { (result.device.now ≡ device.now) × (result.work.now ≡ work.old) × (result.blocks ≡ blocks) × (result.phase ≡ phase)
-            × (result.cells.now ≡ cells.old) × (result.count ≡ count) }
+            × (result.cells.now ≡ cells.old) × (result.count.now ≡ count.old) }
     {
         LentSession {
             device,
@@ -163,7 +180,7 @@ impl<'a> LentSession<'a> {
     pub fn staged(&self) -> Staged<'_>
         ensures { result.list.now ≡ numbers_lent self.now }
     {
-        Staged::of(self.cells, self.count)
+        Staged::of(self.cells, *self.count)
     }
 
     // Its working copy.
@@ -187,7 +204,7 @@ impl<'a> LentSession<'a> {
             self.blocks,
             self.phase,
             self.cells,
-            self.count,
+            *self.count,
         )
     }
 
@@ -198,47 +215,51 @@ impl<'a> LentSession<'a> {
         self.staged().spot(b)
     }
 
-    // Block b among the staged ones, at its place i.
-    pub fn add(&mut self, b: DiskBlock, i: usize)
-        requires { (i ≡ spot (numbers_lent self.old) b.0) × (i < 32) }
-        ensures parts { Kept self.old self.new }
-        ensures bytes { self.new.work.now ≡ self.old.work.now }
-        ensures numbers { session_lent self.new ≡ with_staged (session_lent self.old) (blocks_with (numbers_lent self.old) b.0) }
-    {
-        let n = self.staged().list.len();
-        if i < n {
-            self.count = n;
-            return;
-        }
-        self.cells[n] = b.0;
-        self.count = n + 1;
-    }
-
     // A count past the cells becomes that of all cells, as staging leaves it.
     pub fn settle(&mut self)
         ensures parts { Kept self.old self.new }
         ensures bytes { self.new.work.now ≡ self.old.work.now }
         ensures numbers { session_lent self.new ≡ with_staged (session_lent self.old) (numbers_lent self.old) }
     {
-        self.count = self.staged().list.len();
+        *self.count = self.staged().list.len();
     }
 }
 
-impl Staging<'_, '_> {
-    // The image of block b, whose place is k, becomes its working copy: it is that already where b is staged.
-    pub fn load(&mut self, b: DiskBlock, k: usize)
-        requires { (k ≡ spot (numbers_lent self.old.lent.now) b.0) × (k < 32) }
-        ensures parts { Held self.old self.new }
-        ensures numbers { session_lent self.new.lent.now ≡ session_lent self.old.lent.now }
-        ensures bytes { slice_of self.new.lent.now.work.now ≡ stored_in (slice_of self.old.lent.now.work.now) k (view (state_lent self.old.lent.now) b.0) }
+impl Image<'_, '_, '_> {
+    // The image becomes the block's working copy: it is that already where the block is staged.
+    pub fn load(&mut self)
+        ensures parts { Same self.old self.new }
+        ensures numbers { session_of_image self.new ≡ session_of_image self.old }
+        ensures bytes { slice_of (work_of_image self.new)
+            ≡ stored_in (slice_of (work_of_image self.old)) self.old.place (view (state_of_image self.old) self.old.block.0) }
     {
-        let lent = &mut *self.lent;
+        let k = self.place;
+        let images = &mut *self.images;
+        let lent = &mut *images.lent;
         if k < lent.staged().list.len() {
             return;
         }
-        let from = block_in(lent.device, b);
+        let from = block_in(lent.device, self.block);
         let work = &mut *lent.work;
         store_copy(work, DiskBlock(k as u32), from);
+    }
+
+    // The block is among the staged ones.
+    pub fn add(&mut self)
+        ensures parts { Same self.old self.new }
+        ensures bytes { work_of_image self.new ≡ work_of_image self.old }
+        ensures numbers { session_of_image self.new
+            ≡ with_staged (session_of_image self.old) (blocks_with (staged_in (session_of_image self.old)) self.old.block.0) }
+    {
+        let images = &mut *self.images;
+        let lent = &mut *images.lent;
+        let n = lent.staged().list.len();
+        if self.place < n {
+            *lent.count = n;
+            return;
+        }
+        lent.cells[n] = self.block.0;
+        *lent.count = n + 1;
     }
 }
 
@@ -253,13 +274,17 @@ pub fn stage(
     ensures { (device : List ℕ) → state_of result device work.new
         ≡ with_staging (state_of s device work.old) (stage (staged_of (state_of s device work.old)) (put b.0 x.now)) }
 {
-    let phase = s.phase;
-    let mut cells = s.staged;
-    let i = Staged::of(&cells, s.count).spot(b);
-    store_block(work, DiskBlock(i as u32), x);
-    let device: &[u8] = &[];
-    let mut lent = LentSession::new(device, work, s.blocks, phase, &mut cells, s.count);
-    lent.add(b, i);
-    let count = lent.count;
-    Session::with_cells(s.blocks, phase, cells, count)
+    let mut left = s;
+    let place = Staged::of(&left.staged, left.count).spot(b);
+    store_block(work, DiskBlock(place as u32), x);
+    let images = &mut Staging {
+        lent: &mut lend!(&[], work, left),
+    };
+    Image {
+        images,
+        block: b,
+        place,
+    }
+    .add();
+    left
 }

@@ -1,3 +1,3 @@
 pub mod Runs
-pub mod Slots
+pub mod Reading
 pub mod Walks

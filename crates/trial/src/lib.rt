@@ -1,29 +1,31 @@
 // What the programs that run functions on concrete values share.
 #![tactic(auto)]
 
-ghost use Rattle.std.specs.Prelude.{◌≡◌, ◌+◌, ◌≤◌, length, get_or};
+ghost use Rattle.std.specs.Prelude.{◌≡◌, ◌+◌, ◌≤◌, length, get_or, replicate};
 ghost use Rattle.spec.specs.Bytes.{patch, bytes2};
+ghost use Rattle.spec.specs.Transaction.{state_of};
+ghost use Rattle.trial.specs.States.{state_lent, staged_with};
 
 use spec::{BlockStored, DiskBlock, Extent, Limits, Refusal, Session};
 use std::fmt::Display;
 use std::io;
 
+// ---- text
+
 // A number behind a blank.
 pub fn number<D: Display + Drop>(rt: &impl Print, n: D) -> io::Result<()> {
-    rt.write_all(b" ")?;
-    rt.print(n)
+    print!(rt; " {n}")
 }
 
 // That a call is refused, and why.
 pub fn refused(rt: &impl Print, why: Refusal) -> io::Result<()> {
-    rt.write_all(b" refused")?;
-    number(rt, why.number())
+    print!(rt; " refused {}", why.number())
 }
 
 // That a call is done.
 pub fn done(rt: &impl Print, answer: Result<(), Refusal>) -> io::Result<()> {
     match answer {
-        Ok(()) => rt.write_all(b" done"),
+        Ok(()) => print!(rt; " done"),
         Err(why) => refused(rt, why),
     }
 }
@@ -31,7 +33,7 @@ pub fn done(rt: &impl Print, answer: Result<(), Refusal>) -> io::Result<()> {
 // What a call counts.
 pub fn counted(rt: &impl Print, answer: Result<usize, Refusal>) -> io::Result<()> {
     match answer {
-        Ok(n) => number(rt, n),
+        Ok(n) => print!(rt; " {n}"),
         Err(why) => refused(rt, why),
     }
 }
@@ -39,29 +41,54 @@ pub fn counted(rt: &impl Print, answer: Result<usize, Refusal>) -> io::Result<()
 // The block stored.
 pub fn stored(rt: &impl Print, stored: Option<BlockStored>) -> io::Result<()> {
     match stored {
-        Some(stored) => number(rt, stored.block.0),
-        None => rt.write_all(b" idle"),
+        Some(stored) => print!(rt; " {}", stored.block.0),
+        None => print!(rt; " idle"),
     }
 }
 
 // An extent as its first block and how many it has.
 pub fn extent(rt: &impl Print, e: Extent) -> io::Result<()> {
-    number(rt, e.first)?;
-    rt.write_all(b"+")?;
-    rt.print(e.count)
+    print!(rt; " {}+{}", e.first, e.count)
 }
 
-// Block b staged with 512 times a byte, where there is room.
-pub fn stage(work: &mut [u8], s: Session, b: u32, byte: u8) -> Session {
-    let x = [byte; Limits::BLOCK_SIZE];
-    let Some(work) = work.as_mut_array() else {
-        return s;
-    };
-    if Limits::LOG_LENGTH <= transaction::staged_count(s) {
-        return s;
-    }
-    transaction::stage(work, s, DiskBlock(b), &x)
+// ---- what is lent to each call
+
+// The bytes of 64 blocks, the smallest device.
+pub const SMALLEST: usize = 32768;
+
+// A device of N bytes, with the work space and session that are lent with it.
+#[derive(Drop)]
+pub struct Lent<const N: usize> {
+    pub device: [u8; N],
+    pub work: [u8; Limits::WORK_SIZE],
+    pub session: Session,
 }
+
+impl<const N: usize> Lent<N> {
+    // A device of sevens and a work space of nines.
+    pub fn sevens(session: Session) -> Lent<N>
+        ensures { state_lent result ≡ state_of session (replicate N 7) (replicate 16384 9) }
+    {
+        Lent {
+            device: [7; N],
+            work: [9; Limits::WORK_SIZE],
+            session,
+        }
+    }
+
+    // Block b staged with 512 times a byte, where there is room.
+    #[tactic(auto, unfolding(crate::specs::States::staged_with))]
+    pub fn stage(&mut self, b: u32, byte: u8)
+        ensures { (self.new.device ≡ self.old.device) × (state_lent self.new ≡ staged_with b byte (state_lent self.old)) }
+    {
+        if transaction::staged_count(self.session) < Limits::LOG_LENGTH {
+            let x = [byte; Limits::BLOCK_SIZE];
+            self.session = transaction::stage(&mut self.work, self.session, DiskBlock(b), &x);
+        }
+    }
+}
+
+// ---- images
 
 // Bytes written from a place on, as far as there is room.
 pub fn put(device: &mut [u8], at: usize, bytes: &[u8])

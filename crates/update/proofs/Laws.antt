@@ -18,6 +18,7 @@ use Rattle.checks.specs.Checks.{names_ok}
 use Rattle.std.specs.Prelude.{Ok, Err}
 use Rattle.std.specs.Prelude.{Result as Returned}
 use Rattle.alloc.specs.declared.Draft.{Draft}
+use Rattle.lookup.proofs.Laws.{then-assoc}
 use Rattle.lookup.specs.Looks.{new_ok, unless_taken, rename_ok}
 use Rattle.spec.specs.Disk.{Disk}
 use Rattle.alloc.specs.Draft.{resized_at, result_with, Drafted}
@@ -29,10 +30,6 @@ drafted-for u v i n size table c e q d = subst (λ (w : Disk). Drafted w i (bloc
 then-bind : {A B C : Type 0} (a : Result A) (b : Result B) (f : B → Result C) → (a >> b) >>= f ≡ a >> (b >>= f)
 then-bind (refuse r) b f = refl
 then-bind (accept a) b f = refl
-
-then-then : {A B C : Type 0} (a : Result A) (b : Result B) (x : Result C) → (a >> b) >> x ≡ a >> (b >> x)
-then-then (refuse r) b x = refl
-then-then (accept a) b x = refl
 
 bind-keep : {A B C : Type 0} (a : Result A) (b : A → Result B) (f : A → Result C) → (a >>= λ i. b i >> accept i) >>= f ≡ a >>= λ i. b i >> f i
 bind-keep (refuse r) b f = refl
@@ -80,9 +77,9 @@ module _ (s : Session) (d w : List ℕ) where
       rename-parts =
           ap (settle (outcome (state_of s d w)))
           (then-bind (names_ok (state_of s d w) name new) (unless_taken (state_of s d w) name new) renamed
-          ∙ then-then (lent_ok (state_of s d w)) _ _
+          ∙ then-assoc (lent_ok (state_of s d w)) _ _
           ∙ ap (λ (x : Result Outcome). lent_ok (state_of s d w) >> x)
-          (then-then (require (is_name name && is_name new) BadName) (require (is_ready s.phase) NotReady) _
+          (then-assoc (require (is_name name && is_name new) BadName) (require (is_ready s.phase) NotReady) _
           ∙ ap (λ (x : Result Outcome). require (is_name name && is_name new) BadName >> (require (is_ready s.phase) NotReady >> x))
           (bind-keep (known (state_of s d w) name) (λ i. require (not (is_taken (state_of s d w) new)) Taken) renamed)))
 

@@ -4,10 +4,10 @@ use mathlib.Core.Path.{◌≡◌, refl, sym, ap, ap₂, ◌∙◌}
 use mathlib.Core.Bool.{Bool, true, false, cond}
 use mathlib.Core.List.{List, [], ◌∷◌, ◌++◌, append-nil}
 use lib.Dec.{eqb}
-use lib.ListN.{length, take, replicate}
+use lib.ListN.{length, replicate}
 use native.Mathlib.Omega.{arith}
 use Rattle.spec.specs.declared.Extent.{Extent}
-use borrow.Author.Tests.{eqb-true, le-leb}
+use borrow.Author.Tests.{ne_eqb, le-leb}
 use Rattle.spec.specs.Bytes.{same, zeros, concat}
 use Rattle.spec.specs.Disk.{Disk}
 use Rattle.spec.specs.Bitmap.{bits_of, bytes_of, free_bits, mark, picks}
@@ -63,11 +63,11 @@ empty-levels v i =
 
 no-levels : (t : Tree) → levels_in t ≡ [] → nodes_in t ≡ []
 unfolding levels_in nodes_in
-no-levels t e = go (eqb t.nodes 0) refl
+no-levels t e = go t.nodes e
   where
-    go : (z : Bool) → eqb t.nodes 0 ≡ z → take t.nodes t.node ≡ []
-    go true h = rw (eqb-true t.nodes 0 h)
-    go false h = let q : ◌∷◌ (take t.nodes t.node) [] ≡ [] = rw h at e in cc
+    go : (ns : List ℕ) → cond (eqb (length ns) 0) [] (ns ∷ []) ≡ [] → ns ≡ []
+    go [] e = refl
+    go (n ∷ ns) e = let q : (n ∷ ns) ∷ [] ≡ [] = rw (ne_eqb (length (n ∷ ns)) 0 (λ z. omega arith)) at e in cc
 
 -- it always fits
 emptied-accepts : (bits held : List ℕ) (levels : List (List ℕ)) → fits bits held levels 0 ≡ accept (resized bits held levels 0)
@@ -87,11 +87,11 @@ emptied-fits v i table c r h e =
 -- the levels of a tree as code holds it: none, or one
 one-level : (v : Disk) (held : List (List ℕ)) (t : Tree) (es : List Extent) → level_edits v held (levels_in t) es ≡ node_edits v (length (lowest_level held)) (nodes_in t) es
 unfolding levels_in nodes_in
-one-level v held t es = go (eqb t.nodes 0) refl
+one-level v held t es = go t.nodes
   where
-    go : (z : Bool) → eqb t.nodes 0 ≡ z → level_edits v held (cond (eqb t.nodes 0) [] (take t.nodes t.node ∷ [])) es ≡ node_edits v (length (lowest_level held)) (take t.nodes t.node) es
-    go true e = rw (e, eqb-true t.nodes 0 e)
-    go false e = rw e (append-nil (node_edits v (length (lowest_level held)) (take t.nodes t.node) es))
+    go : (ns : List ℕ) → level_edits v held (cond (eqb (length ns) 0) [] (ns ∷ [])) es ≡ node_edits v (length (lowest_level held)) ns es
+    go [] = refl
+    go (n ∷ ns) = rw (ne_eqb (length (n ∷ ns)) 0 (λ z. omega arith)) (append-nil (node_edits v (length (lowest_level held)) (n ∷ ns) es))
 
 resized-blocks : (v : Disk) (i wanted : ℕ) → (resized_at v i wanted).blocks ≡ blocks_in (resized_at v i wanted).extents
 unfolding resized_at resized

@@ -9,18 +9,17 @@ ghost use Rattle.transaction.specs.LentSessions.{state_lent, Kept, Held};
 ghost use Rattle.update.specs.Records.{Differs, new_record, record_stores};
 
 use alloc::draft_of;
-use block::copy_of;
+use bitmap::Bitmap;
 use change::{Plan, apply, stage_record};
 use content::{RecordPrefix, Rewrite, record_bytes};
 use inode::{InodeNumber, blocks_for, inode_block, name_of, size_of, table_block};
 use lookup::{look_up, look_up_new, look_up_pair, look_up_sized};
 use runs::ExtentList;
 use spec::{Answered, ByteOffset, DiskBlock, Limits, Refusal, Session};
-use transaction::{LentSession, Staging};
+use transaction::{Image, LentSession, Staging, lend};
 
 // Each public call stands in two forms: of a session lent in its parts, so that the C interface lends the caller's cells and copies none, and by value,
-// which calls the first. The five by value repeat the same lines around that call: one function over them would take it as a closure and state its promise
-// for any call, while these state theirs in the words of the specification.
+// which lends its session to the first.
 
 // The first bytes of record i changed to others than they were, and nothing else: 18.
 fn change_record(images: &mut Staging, i: InodeNumber, new: RecordPrefix) -> Result<(), Refusal>
@@ -30,11 +29,17 @@ fn change_record(images: &mut Staging, i: InodeNumber, new: RecordPrefix) -> Res
         ≡ settle (outcome (state_lent images.old.lent.now)) (staging (state_lent images.old.lent.now)
         (record_stores (view (state_lent images.old.lent.now)) i.n new.entry.bytes.now)) }
 {
-    let k = images.lent.spot(table_block(i));
-    if Limits::LOG_LENGTH <= k {
+    let block = table_block(i);
+    let place = images.lent.spot(block);
+    if Limits::LOG_LENGTH <= place {
         return Err(Refusal::TooManyStaged);
     }
-    stage_record(images, i, k, new);
+    let image = &mut Image {
+        images,
+        block,
+        place,
+    };
+    stage_record(image, i, new);
     Ok(())
 }
 
@@ -59,23 +64,12 @@ pub fn create_in(lent: &mut LentSession, name: &[u8]) -> Result<(), Refusal>
 }
 
 // The same of a session by value.
-pub fn create(device: &[u8], work: &mut [u8], session: Session, name: &[u8]) -> Answered<()>
+pub fn create(device: &[u8], work: &mut [u8], mut session: Session, name: &[u8]) -> Answered<()>
     ensures { left result.session device.now work.new (done_of result.answer)
         ≡ create (state_of session device.now work.old) name.now }
 {
-    let Session {
-        blocks,
-        phase,
-        staged: mut cells,
-        count,
-    } = session;
-    let mut lent = LentSession::new(device, work, blocks, phase, &mut cells, count);
-    let answer = create_in(&mut lent, name);
-    let after = lent.count;
-    Answered {
-        session: Session::with_cells(blocks, phase, cells, after),
-        answer,
-    }
+    let answer = create_in(&mut lend!(device, work, session), name);
+    Answered { session, answer }
 }
 
 // "Rename keeps the record in its place."
@@ -91,26 +85,15 @@ pub fn rename_in(lent: &mut LentSession, name: &[u8], new: &[u8]) -> Result<(), 
 pub fn rename(
     device: &[u8],
     work: &mut [u8],
-    session: Session,
+    mut session: Session,
     name: &[u8],
     new: &[u8],
 ) -> Answered<()>
     ensures { left result.session device.now work.new (done_of result.answer)
         ≡ rename (state_of session device.now work.old) name.now new.now }
 {
-    let Session {
-        blocks,
-        phase,
-        staged: mut cells,
-        count,
-    } = session;
-    let mut lent = LentSession::new(device, work, blocks, phase, &mut cells, count);
-    let answer = rename_in(&mut lent, name, new);
-    let after = lent.count;
-    Answered {
-        session: Session::with_cells(blocks, phase, cells, after),
-        answer,
-    }
+    let answer = rename_in(&mut lend!(device, work, session), name, new);
+    Answered { session, answer }
 }
 
 // "Remove .. give back every data and extent block": the record is emptied. The Plan is written out here and in `resize`: a function for it would take its
@@ -121,11 +104,11 @@ pub fn remove_in(lent: &mut LentSession, name: &[u8]) -> Result<(), Refusal>
 {
     let volume = lent.volume();
     let i = look_up(&volume, name)?;
-    let mut table = copy_of(volume.copy.block(DiskBlock(Limits::BITMAP_BLOCK)));
+    let mut bitmap = Bitmap::of(volume.copy.block(DiskBlock(Limits::BITMAP_BLOCK)));
     let mut extents = ExtentList::empty();
-    let d = draft_of(&mut table, &mut extents, &volume.copy, i, 0)?;
+    let draft = draft_of(&mut bitmap, &mut extents, &volume.copy, i, 0)?;
     let data = Rewrite {
-        held: d.held,
+        held: draft.held,
         old: 0,
         size: 0,
         x: ByteOffset(0),
@@ -133,10 +116,8 @@ pub fn remove_in(lent: &mut LentSession, name: &[u8]) -> Result<(), Refusal>
     };
     let plan = Plan {
         number: i,
-        table: &table,
-        extents: d.extents,
-        nodes: d.nodes,
-        before: d.before,
+        table: &bitmap.bytes,
+        draft,
         inode: [0u8; Limits::INODE_SIZE],
         data,
     };
@@ -144,59 +125,46 @@ pub fn remove_in(lent: &mut LentSession, name: &[u8]) -> Result<(), Refusal>
 }
 
 // The same of a session by value.
-pub fn remove(device: &[u8], work: &mut [u8], session: Session, name: &[u8]) -> Answered<()>
+pub fn remove(device: &[u8], work: &mut [u8], mut session: Session, name: &[u8]) -> Answered<()>
     ensures { left result.session device.now work.new (done_of result.answer)
         ≡ remove (state_of session device.now work.old) name.now }
 {
-    let Session {
-        blocks,
-        phase,
-        staged: mut cells,
-        count,
-    } = session;
-    let mut lent = LentSession::new(device, work, blocks, phase, &mut cells, count);
-    let answer = remove_in(&mut lent, name);
-    let after = lent.count;
-    Answered {
-        session: Session::with_cells(blocks, phase, cells, after),
-        answer,
-    }
+    let answer = remove_in(&mut lend!(device, work, session), name);
+    Answered { session, answer }
 }
 
 // 16, 17 and 18: record i becomes a file of this size, with bytes laid over it at x.
 fn resize(
     images: &mut Staging,
     i: InodeNumber,
-    size: usize,
+    size: u32,
     x: ByteOffset,
     bytes: &[u8],
 ) -> Result<(), Refusal>
-    requires { (x.0 + length bytes.now ≤ 1048576) × (size < 4294967296) }
+    requires { x.0 + length bytes.now ≤ 1048576 }
     ensures parts { Held images.old images.new }
     ensures state { outcome (state_lent images.new.lent.now) (done_of result)
         ≡ settle (outcome (state_lent images.old.lent.now)) (rewrite (state_lent images.old.lent.now) i.n size x.0 bytes.now) }
 {
     let copy = images.lent.copy();
-    let mut table = copy_of(copy.block(DiskBlock(Limits::BITMAP_BLOCK)));
+    let mut bitmap = Bitmap::of(copy.block(DiskBlock(Limits::BITMAP_BLOCK)));
     let mut extents = ExtentList::empty();
-    let wanted = blocks_for(size);
-    let d = draft_of(&mut table, &mut extents, &copy, i, wanted)?;
+    let wanted = blocks_for(size as usize);
+    let draft = draft_of(&mut bitmap, &mut extents, &copy, i, wanted)?;
     let records = inode_block(&copy, i);
     let old = size_of(records, i.n) as usize;
-    let inode = record_bytes(name_of(records, i.n), size, d.extents, d.nodes);
+    let inode = record_bytes(name_of(records, i.n), size, draft.extents, &draft.nodes);
     let data = Rewrite {
-        held: d.held,
+        held: draft.held,
         old,
-        size,
+        size: size as usize,
         x,
         bytes,
     };
     let plan = Plan {
         number: i,
-        table: &table,
-        extents: d.extents,
-        nodes: d.nodes,
-        before: d.before,
+        table: &bitmap.bytes,
+        draft,
         inode,
         data,
     };
@@ -216,8 +184,8 @@ pub fn write_in(
     let volume = lent.volume();
     let n = bytes.len();
     let i = look_up_sized(&volume, name, x, n)?;
-    let old = size_of(inode_block(&volume.copy, i), i.n) as usize;
-    let size = old.max(x.0 + n);
+    let old = size_of(inode_block(&volume.copy, i), i.n);
+    let size = old.max((x.0 + n) as u32);
     resize(&mut Staging { lent }, i, size, x, bytes)
 }
 
@@ -225,7 +193,7 @@ pub fn write_in(
 pub fn write(
     device: &[u8],
     work: &mut [u8],
-    session: Session,
+    mut session: Session,
     name: &[u8],
     x: ByteOffset,
     bytes: &[u8],
@@ -233,19 +201,8 @@ pub fn write(
     ensures { left result.session device.now work.new (done_of result.answer)
         ≡ write (state_of session device.now work.old) name.now x.0 bytes.now }
 {
-    let Session {
-        blocks,
-        phase,
-        staged: mut cells,
-        count,
-    } = session;
-    let mut lent = LentSession::new(device, work, blocks, phase, &mut cells, count);
-    let answer = write_in(&mut lent, name, x, bytes);
-    let after = lent.count;
-    Answered {
-        session: Session::with_cells(blocks, phase, cells, after),
-        answer,
-    }
+    let answer = write_in(&mut lend!(device, work, session), name, x, bytes);
+    Answered { session, answer }
 }
 
 // Cut, or lengthened by zeros.
@@ -255,31 +212,20 @@ pub fn set_size_in(lent: &mut LentSession, name: &[u8], size: usize) -> Result<(
 {
     let x = ByteOffset(0);
     let i = look_up_sized(&lent.volume(), name, x, size)?;
-    resize(&mut Staging { lent }, i, size, x, &name[0..0])
+    resize(&mut Staging { lent }, i, size as u32, x, &name[0..0])
 }
 
 // The same of a session by value.
 pub fn set_size(
     device: &[u8],
     work: &mut [u8],
-    session: Session,
+    mut session: Session,
     name: &[u8],
     size: usize,
 ) -> Answered<()>
     ensures { left result.session device.now work.new (done_of result.answer)
         ≡ set_size (state_of session device.now work.old) name.now size }
 {
-    let Session {
-        blocks,
-        phase,
-        staged: mut cells,
-        count,
-    } = session;
-    let mut lent = LentSession::new(device, work, blocks, phase, &mut cells, count);
-    let answer = set_size_in(&mut lent, name, size);
-    let after = lent.count;
-    Answered {
-        session: Session::with_cells(blocks, phase, cells, after),
-        answer,
-    }
+    let answer = set_size_in(&mut lend!(device, work, session), name, size);
+    Answered { session, answer }
 }

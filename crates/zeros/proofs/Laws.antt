@@ -1,20 +1,24 @@
 -- Bytes tested one at a time. Assumes nothing.
-use Prim.Native.Nat.{ℕ, zero, suc, ◌+◌, ◌<◌}
-use mathlib.Core.Path.{◌≡◌, refl, sym, ap}
-use mathlib.Core.Bool.{Bool, true, ◌&&◌, and-true}
+use Prim.Native.Nat.{ℕ, zero, suc}
+use mathlib.Core.Path.{◌≡◌, refl}
+use mathlib.Core.Bool.{Bool, true, false, ◌&&◌}
 use mathlib.Core.List.{List, [], ◌∷◌}
-use native.Mathlib.Numerals.{add-one}
 use borrow.Author.Tests.{eqb-true}
 use lib.Dec.{eqb}
-use lib.ListN.{length, take, drop, get_or}
-use lib.Seq.{take-suc}
-use Rattle.lists.specs.Places.{all_append}
+use lib.ListN.{take, drop, get_or}
+use Rattle.std.specs.Prelude.{fold}
 use Rattle.spec.specs.Bytes.{all, all_zero}
 use Rattle.lists.specs.Tests.{both_true, and_both}
 
--- one byte more
-pub zero_more : (xs : List ℕ) (k : ℕ) → k < length xs → all_zero (take k xs) && eqb (get_or xs k 0) 0 ≡ all_zero (take (k + 1) xs)
-zero_more xs k h = sym (rw (add-one k, take-suc xs k 0 h, all_append (λ x. eqb x 0) (take k xs) (get_or xs k 0 ∷ [])) (ap (λ t. all_zero (take k xs) && t) (and-true (eqb (get_or xs k 0) 0))))
+-- byte by byte
+zero-from : (t : Bool) (xs : List ℕ) → fold (λ z x. z && eqb x 0) t xs ≡ t && all_zero xs
+zero-from true [] = refl
+zero-from false [] = refl
+zero-from true (x ∷ xs) = zero-from (eqb x 0) xs
+zero-from false (x ∷ xs) = zero-from false xs
+
+pub zero-fold : (xs : List ℕ) → fold (λ z x. z && eqb x 0) true xs ≡ all_zero xs
+zero-fold xs = zero-from true xs
 
 -- ---- bytes that are all zero
 

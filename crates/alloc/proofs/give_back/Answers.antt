@@ -20,7 +20,7 @@ pub loop-e-preserved : goal.loop-e-preserved
 loop-e-preserved c =
     let i = c.loop-e.invariant in
     let p = c.in-Some.ensures.steps in
-    record { passed = pass-more _ _ _ i.passed _ _ p.rest; given = back_more _ _ _ i.passed _ _ p.rest _ _ _ i.given c.release_run.ensures }
+    record { passed = pass-more _ _ _ i.passed _ _ p.rest; given = back_more _ _ _ i.passed _ _ p.rest _ _ _ i.given c.clear_run.ensures }
 
 pub returns : goal.returns
-returns c = back_end _ c.args.i.n c.args.from.0 _ _ c.loop-e.invariant.passed c.in-None.ensures.steps.0 c.args.t.now _ c.loop-e.invariant.given
+returns c = back_end _ c.args.i.n c.args.from.0 _ _ c.loop-e.invariant.passed c.in-None.ensures.steps.0 c.args.t.now.bytes _ c.loop-e.invariant.given

@@ -10,5 +10,5 @@ use Rattle.alloc.proofs.give_back.Given as goal
 abbrev pub invariant-loop-e : goal.invariant-loop-e
 invariant-loop-e l = record {
   passed : Passed (take 2048 (drop l.fn.from.0 (data_at (working l.copy) l.fn.i.n))) (pieces_left l.e-iterator) l.count;
-  given : bits_of l.t ≡ mark 0 (take l.count (take 2048 (drop l.fn.from.0 (data_at (working l.copy) l.fn.i.n)))) (bits_of l.initial.t);
+  given : bits_of l.t.bytes ≡ mark 0 (take l.count (take 2048 (drop l.fn.from.0 (data_at (working l.copy) l.fn.i.n)))) (bits_of l.initial.t.bytes);
 }

@@ -7,7 +7,7 @@ use Rattle.alloc.specs.Parts.{nodes_at}
 use Rattle.alloc.proofs.Laws.{Gathering}
 use Rattle.alloc.proofs.held_nodes.Given as goal
 
-abbrev pub invariant-loop-len : goal.invariant-loop-len
-invariant-loop-len l =
+abbrev pub invariant-loop-k : goal.invariant-loop-k
+invariant-loop-k l =
     (v : Disk) → exactly 512 l.table.bytes.now ≡ v (block_of_inode l.fn.i.n)
-    → Gathering v (block_of_inode l.fn.i.n) (nodes_at v l.fn.i.n) (l.cur.top + 4 * l.len) (l.cur.tops - l.len) l.node l.len
+    → Gathering v (block_of_inode l.fn.i.n) (nodes_at v l.fn.i.n) (l.cur.top + 4 * l.k) (l.cur.tops - l.k) l.nodes

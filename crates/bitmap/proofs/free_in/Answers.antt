@@ -1,15 +1,17 @@
-use mathlib.Core.Path.{ap}
+use mathlib.Core.Path.{◌∙◌}
 use native.Mathlib.Omega.{arith}
-use Rattle.spec.specs.Bitmap.{free_bits}
-use Rattle.bitmap.proofs.Words.{word-says, all_words}
+use Rattle.spec.specs.Bitmap.{bits_of}
+use Rattle.bitmap.proofs.Laws.{length-bits, free-le}
+use Rattle.bitmap.proofs.Words.{all-free}
 use Rattle.bitmap.proofs.free_in.Goals as goal
 
--- `bitmap::free_in` meets its contract. The count so far is that of the zero bits of the words read.
-
-pub loop-w-preserved : goal.loop-w-preserved
-loop-w-preserved c =
-    let w = word-says _ c.told-t _ _ (omega arith) c.word_in-x.ensures.0 c.word_in-x.ensures.1 in
-    omega (arith, w)
+pub free_in_words-requires : goal.free_in_words-requires
+free_in_words-requires c =
+    let t = c.args.t.now in
+    omega (arith, all-free t c.told-t _ c.as_chunks.ensures.front c.fits-t, free-le (bits_of t), length-bits t, c.told-t)
 
 pub returns : goal.returns
-returns c = let e = all_words c.args.t.now c.loop-w.w c.told-t (omega arith) in (omega (arith, ap free_bits e), omega arith)
+returns c =
+    let t = c.args.t.now in
+    let e = c.free_in_words.ensures ∙ all-free t c.told-t _ c.as_chunks.ensures.front c.fits-t in
+    (e, omega (arith, e, free-le (bits_of t), length-bits t, c.told-t))

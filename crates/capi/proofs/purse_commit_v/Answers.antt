@@ -1,4 +1,5 @@
-use Rattle.std.proofs.Common.{refl}
+use Rattle.std.proofs.Common.{refl, ap}
+use lib.ListN.{length}
 use Rattle.spec.specs.Calls.{commit}
 use Rattle.spec.specs.Session.{in_phase}
 use Rattle.journal.specs.Entries.{begun_phase}
@@ -15,5 +16,5 @@ returns c =
     let b = session_of s.blocks s.phase a.staged.now s.count in
     ends_of commit commit-still a.numbers.now a.staged.now a.device.now a.work.now b (lent-session _ a.numbers.now a.staged.now c.of-s.ensures) committed_of
     (in_phase b (begun_phase s.phase c.commit_in-answer.result)) a.device.now a.work.now _
-    (c.commit_in-answer.ensures _ c.volume.ensures) _ c.begun.ensures.0 _ _
+    (c.commit_in-answer.ensures _ c.volume.ensures.head (ap length c.volume.ensures.numbers)) _ c.begun.ensures.0 _ _
     c.begun.ensures.1 refl

@@ -1,6 +1,4 @@
-use Rattle.std.proofs.Common.{ap, ◌∙◌}
-use Rattle.mirror.specs.declared.Head.{Head}
-use Rattle.mirror.specs.Mirror.{decode, finished_of}
+use Rattle.mirror.specs.Mirror.{finished_of}
 use Rattle.spec.specs.Calls.{format}
 use Rattle.capi.proofs.Kept.{format-still}
 use Rattle.capi.proofs.Ends.{ends-settled}
@@ -9,5 +7,4 @@ use Rattle.capi.proofs.purse_format_v.Goals as goal
 pub returns : goal.returns
 returns c = λ w.
     let a = c.args in
-    let s = c.decode-before.ensures ∙ ap (λ (h : Head). decode h a.staged.now) c.head_in.ensures in
-    ends-settled format format-still a.numbers.now a.staged.now a.device.now w _ s finished_of _ _ w _ (c.format-after.ensures w) _ c.settled.ensures.0 _ _ c.settled.ensures.1 c.settled.ensures.2
+    ends-settled format format-still a.numbers.now a.staged.now a.device.now w _ c.session_in-before.ensures finished_of _ _ w _ (c.format-after.ensures w) _ c.settled.ensures.0 _ _ c.settled.ensures.1 c.settled.ensures.2

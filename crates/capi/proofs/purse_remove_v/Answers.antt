@@ -9,4 +9,4 @@ pub returns : goal.returns
 returns c =
     let a = c.args in
     ends-in (λ (s : State). remove s a.name.now) (λ (s : State). remove-still s a.name.now) a.numbers.now a.staged.now a.device.now a.work.now _ c.of-s.ensures
-    c.new-session.result c.remove_in-answer.new.lent c.new-session.ensures.parts c.remove_in-answer.ensures.parts _ c.remove_in-answer.ensures.state _ _ c.changed.ensures _ _ (search rules) (search rules)
+    c.new-lent.result c.remove_in-answer.new.lent c.new-lent.ensures.parts c.remove_in-answer.ensures.parts _ c.remove_in-answer.ensures.state _ _ c.changed.ensures _ _ (search rules) (search rules)

@@ -9,4 +9,4 @@ pub returns : goal.returns
 returns c =
     let a = c.args in
     ends-in (λ (s : State). rename s a.name.now a.new.now) (λ (s : State). rename-still s a.name.now a.new.now) a.numbers.now a.staged.now a.device.now a.work.now _ c.of-s.ensures
-    c.new-session.result c.rename_in-answer.new.lent c.new-session.ensures.parts c.rename_in-answer.ensures.parts _ c.rename_in-answer.ensures.state _ _ c.changed.ensures _ _ (search rules) (search rules)
+    c.new-lent.result c.rename_in-answer.new.lent c.new-lent.ensures.parts c.rename_in-answer.ensures.parts _ c.rename_in-answer.ensures.state _ _ c.changed.ensures _ _ (search rules) (search rules)

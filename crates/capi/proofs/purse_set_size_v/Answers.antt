@@ -9,4 +9,4 @@ pub returns : goal.returns
 returns c =
     let a = c.args in
     ends-in (λ (s : State). set_size s a.name.now a.size) (λ (s : State). size-still s a.name.now a.size) a.numbers.now a.staged.now a.device.now a.work.now _ c.of-s.ensures
-    c.new-session.result c.set_size_in-answer.new.lent c.new-session.ensures.parts c.set_size_in-answer.ensures.parts _ c.set_size_in-answer.ensures.state _ _ c.changed.ensures _ _ (search rules) (search rules)
+    c.new-lent.result c.set_size_in-answer.new.lent c.new-lent.ensures.parts c.set_size_in-answer.ensures.parts _ c.set_size_in-answer.ensures.state _ _ c.changed.ensures _ _ (search rules) (search rules)

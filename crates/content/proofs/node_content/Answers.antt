@@ -1,18 +1,12 @@
-use mathlib.Core.Path.{refl, ap, ◌∙◌}
+use Prim.Native.Nat.{◌*◌}
+use mathlib.Core.Path.{ap}
 use native.Mathlib.Omega.{arith}
-use lib.ListN.{length, length-take}
-use Rattle.content.proofs.Laws.{filled, length-filled, slots-none, slots-more, slots-all}
+use lib.ListN.{length, drop, length-take}
+use Rattle.content.proofs.Laws.{node-laid}
 use Rattle.content.proofs.node_content.Goals as goal
 
-pub loop-k-init : goal.loop-k-init
-unfolding filled
-loop-k-init c = let l = ap length c.extents_of-own.ensures in record { few = omega (arith, simp length-take at l); full = refl; filled = slots-none c.extents_of-own.result.now }
-
-pub loop-k-preserved : goal.loop-k-preserved
-loop-k-preserved c =
-    let i = c.loop-k.invariant in
-    let f = slots-more c.loop-k.out _ c.extents_of-own.result.now c.loop-k.k i.filled c.loop-k-test.true i.few (c.copy_from_slice.ensures.after ∙ c.slot_bytes.ensures) in
-    record { few = i.few; full = ap length f ∙ length-filled _; filled = f }
+pub lay_slots-requires : goal.lay_slots-requires
+lay_slots-requires c = omega (arith, ap length c.extents_of.ensures, length-take 128 (drop (128 * c.args.j) c.args.extents.now))
 
 pub returns : goal.returns
-returns c = slots-all c.args.extents.now c.args.j c.loop-k.k c.extents_of-own.result.now _ c.extents_of-own.ensures c.loop-k-test.false c.loop-k.invariant.filled
+returns c = node-laid _ _ _ _ c.extents_of.ensures c.lay_slots.ensures

@@ -3,5 +3,6 @@ use mathlib.Core.Path.{refl}
 use Rattle.inode.proofs.Laws.{table-lent}
 use Rattle.inode.proofs.inode_block.Goals as goal
 
-pub returns-then-copy-device : goal.returns-then-copy-device
-returns-then-copy-device c = let a = c.args in let z = table-lent a.copy.now.staged.list.now a.copy.now.device.now a.copy.now.work.now a.i.n _ _ c.if-copy-device.true (search rules) refl refl in (z.1, z.2)
+pub returns-then-device-ge-TABLE_END : goal.returns-then-device-ge-TABLE_END
+returns-then-device-ge-TABLE_END c = let a = c.args in
+    table-lent a.copy.now.staged.list.now a.copy.now.device.now a.copy.now.work.now a.i.n _ _ c.if-is_empty.ensures (search rules) refl refl

@@ -1,5 +1,4 @@
-use mathlib.Core.Path.{sym, ap, ◌∙◌}
-use Rattle.mirror.specs.Mirror.{numbers_of}
+use mathlib.Core.Path.{sym, ◌∙◌}
 use Rattle.loadapi.proofs.Laws.{stays, moves}
 use Rattle.loadapi.proofs.keep_step.Goals as goal
 
@@ -7,4 +6,4 @@ pub returns-then-leaves_all : goal.returns-then-leaves_all
 returns-then-leaves_all c = let t = sym c.leaves_all.ensures ∙ c.if-leaves_all.true in (stays _ _ _ t, stays _ _ _ t)
 
 pub returns : goal.returns
-returns c = let t = sym c.leaves_all.ensures ∙ c.if-leaves_all.false in (c.keep.ensures ∙ ap numbers_of c.encode.ensures ∙ moves _ _ _ t, moves _ _ _ t)
+returns c = let t = sym c.leaves_all.ensures ∙ c.if-leaves_all.false in (c.keep_session.ensures.0 ∙ moves _ _ _ t, c.keep_session.ensures.1 ∙ moves _ _ _ t)

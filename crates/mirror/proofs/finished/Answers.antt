@@ -1,6 +1,6 @@
 use Rattle.std.proofs.Common.{◌≡◌, ap, ◌∙◌, rules}
 use Rattle.std.specs.Prelude.{unwrap_or}
-use Rattle.mirror.proofs.Laws.{fault-is, finished-done, finished-refused}
+use Rattle.mirror.proofs.Laws.{refused-numbers, finished-done, finished-refused}
 use Rattle.mirror.proofs.finished.Goals as goal
 
 pub returns-in-Ok : goal.returns-in-Ok
@@ -9,4 +9,4 @@ returns-in-Ok c =
     rw (c.in-Ok.is) (e ∙ finished-done)
 
 pub returns-in-Err : goal.returns-in-Err
-returns-in-Err c = rw (c.in-Err.is) (finished-refused c.in-Err.why _ c.number.ensures _ (c.unwrap_or.ensures ∙ ap (λ o. unwrap_or o 0) c.fault.ensures ∙ fault-is c.in-Err.why))
+returns-in-Err c = rw (c.in-Err.is) (finished-refused c.in-Err.why _ c.number.ensures _ (c.unwrap_or.ensures ∙ ap (λ o. unwrap_or o 0) c.fault.ensures ∙ (refused-numbers c.in-Err.why).0))

@@ -1,12 +1,10 @@
-use Rattle.query.proofs.Laws.{told-empty, told-used}
+use Rattle.query.specs.Records.{record_told}
 use Rattle.query.proofs.record_of.Goals as goal
 
-pub returns-then-key_of-eq0 : goal.returns-then-key_of-eq0
-returns-then-key_of-eq0 c = let a = c.args in
-    told-empty a.table.now a.i _ c.place_in_block-at.ensures.0 c.told-table _ (rw c.unwrap-name.ensures at c.try_into.ensures.1) _ c.key_of.ensures.0
-    c.if-key_of-eq0.true
+pub returns-then-is_empty : goal.returns-then-is_empty
+unfolding record_told
+returns-then-is_empty c = rw (← c.is_empty.ensures, c.if-is_empty.true)
 
 pub returns : goal.returns
-returns c = let a = c.args in
-    told-used a.table.now a.i _ c.place_in_block-at.ensures.0 c.told-table _ (rw c.unwrap-name.ensures at c.try_into.ensures.1) _ c.key_of.ensures.0
-    _ c.if-key_of-eq0.false c.size_of-size.ensures
+unfolding record_told
+returns c = rw (← c.is_empty.ensures, c.if-is_empty.false, c.name_of-name.ensures, c.size_of-size.ensures)

@@ -1,16 +1,16 @@
 use native.Mathlib.Omega.{arith}
-use mathlib.Core.Path.{ap, ◌∙◌}
+use mathlib.Core.Path.{◌≡◌, ap, ◌∙◌}
 use mathlib.Core.List.{List, [], ◌∷◌}
 use Prim.Native.Nat.{ℕ, ◌≤◌}
+use borrow.Author.Rules.{rules}
 use lib.ListN.{length, get_or}
 use Rattle.block.proofs.Laws.{patch-in}
 use Rattle.trial.proofs.put_files.Goals as goal
 
 pub returns : goal.returns
 returns c =
-    let l = c.put_slot-7.ensures.0 ∙ c.put_slot-6.ensures.0 ∙ c.put_slot-5.ensures.0 ∙ c.put_slot-4.ensures.0 ∙ c.put_slot-3.ensures.0 ∙ c.put_slot-2.ensures.0
-    ∙ c.put-3.ensures.0 ∙ c.put-2.ensures.0 ∙ c.put_slot.ensures.0 ∙ c.put.ensures.0 in
-    let w = c.put_slot-7.new.device in (
+    let w = c.put_slot-7.new.device in
+    let l : length w ≡ length c.args.device.now = search rules in (
       c.put-4.ensures.0 ∙ l,
       λ h.
           let f : 16903 ≤ length w = omega (arith, l, h) in

@@ -22,20 +22,20 @@ use Rattle.update.proofs.resize.Goals as goal
 
 pub draft_of-requires : goal.draft_of-requires
 draft_of-requires c =
-    (c.blocks_for-wanted.ensures.1, c.copy_of-table.ensures ∙ c.block.ensures.0, subst (λ (e : ExtentList). Small e 0) (sym c.empty-extents.ensures) small-none)
+    (c.blocks_for-wanted.ensures.1, c.of-bitmap.ensures ∙ c.block.ensures.0, subst (λ (e : ExtentList). Small e 0) (sym c.empty-extents.ensures) small-none)
 
-pub returns-in_err-d-clause-state : goal.returns-in_err-d-clause-state
-returns-in_err-d-clause-state c =
+pub returns-in_err-draft-clause-state : goal.returns-in_err-draft-clause-state
+returns-in_err-draft-clause-state c =
     let a = c.args in
     let l = a.images.now.lent.now in
     let plan = drafted-for _ _ a.i.n _ a.size _ _ c.copy-copy.ensures c.blocks_for-wanted.ensures.0 c.draft_of.ensures in
-    passed-on _ _ _ _ c.from_residual.ensures.1 (rewrite-bad (session_lent l) l.device.now l.work.now a.i.n a.size a.x.0 a.bytes.now _ plan.verdict _ c.in_err-d.was)
+    passed-on _ _ _ _ c.from_residual.ensures.1 (rewrite-bad (session_lent l) l.device.now l.work.now a.i.n a.size a.x.0 a.bytes.now _ plan.verdict _ c.in_err-draft.was)
 
 pub record_bytes-inode-requires : goal.record_bytes-inode-requires
-record_bytes-inode-requires c = (omega (arith, (c.draft_of.ensures.tree _ c.in_ok-d.was).bounded.blocks), c.requires.1)
+record_bytes-inode-requires c = omega (arith, (c.draft_of.ensures.tree _ c.in_ok-draft.was).bounded.blocks)
 
 pub invariant_of-plan : goal.invariant_of-plan
-invariant_of-plan c = record { bounded = (c.draft_of.ensures.tree _ c.in_ok-d.was).bounded }
+invariant_of-plan c = record { bounded = (c.draft_of.ensures.tree _ c.in_ok-draft.was).bounded }
 
 pub returns-clause-state : goal.returns-clause-state
 returns-clause-state c =
@@ -44,12 +44,12 @@ returns-clause-state c =
     let v = view (state_lent l) in
     let seen = c.copy-copy.ensures in
     let plan = drafted-for _ _ a.i.n _ a.size _ _ seen c.blocks_for-wanted.ensures.0 c.draft_of.ensures in
-    let draft = c.in_ok-d.d in
-    let t = tree_in c.draft_of.new.table draft in
+    let draft = c.in_ok-draft.draft in
+    let t = tree_in c.draft_of.new.table.bytes draft in
     let block = c.inode_block-records.ensures.0 ∙ ap (λ (u : Disk). u (block_of_inode a.i.n)) seen in
     let d : Change = record { tree = t; «record» = c.record_bytes-inode.result; old = c.size_of-old.result; size = a.size; x = a.x.0; bytes = a.bytes.now } in
-    rewrite-fine (session_lent l) l.device.now l.work.now a.i.n a.size a.x.0 a.bytes.now _ plan.verdict _ _ draft c.in_ok-d.was
-    (rewrite-stores v a.i.n _ d (plan.tree draft c.in_ok-d.was) _ a.size
+    rewrite-fine (session_lent l) l.device.now l.work.now a.i.n a.size a.x.0 a.bytes.now _ plan.verdict _ _ draft c.in_ok-draft.was
+    (rewrite-stores v a.i.n _ d (plan.tree draft c.in_ok-draft.was) _ a.size
     (c.record_bytes-inode.ensures
     ∙ kept_record v a.i.n _ _ a.size t.extents (levels_in (tree_of t.extents draft.nodes)) c.name_of.ensures block
     ∙ ap (λ (ls : List (List ℕ)). bytes_of_inode (inode_with (name_at v a.i.n) a.size t.extents ls)) (parts-levels t.table t.extents draft.nodes t.before t.held))

@@ -22,12 +22,12 @@ invariant_of-resize c =
     let l = a.lent.now in
     record { whole = (size-says (session_lent l) l.device.now l.work.now a.name.now _ (0 + a.size) (c.in_ok-i.ensures _ c.volume.ensures)).0 }
 
-pub resize-requires : goal.resize-requires
-resize-requires c =
+pub overflow_cast-size : goal.overflow_cast-size
+overflow_cast-size c =
     let a = c.args in
     let l = a.lent.now in
     let z = (size-says (session_lent l) l.device.now l.work.now a.name.now _ (0 + a.size) (c.in_ok-i.ensures _ c.volume.ensures)).1 in
-    (omega arith, omega (arith, z))
+    omega (arith, z)
 
 pub returns-clause-state : goal.returns-clause-state
 returns-clause-state c =

@@ -35,12 +35,18 @@ invariant_of-resize c =
     let l = a.lent.now in
     record { whole = (size-says (session_lent l) l.device.now l.work.now a.name.now _ (a.x.0 + length a.bytes.now) (c.in_ok-i.ensures _ c.volume-volume.ensures)).0 }
 
+pub overflow_cast-x : goal.overflow_cast-x
+overflow_cast-x c =
+    let a = c.args in
+    let l = a.lent.now in
+    let z = (size-says (session_lent l) l.device.now l.work.now a.name.now _ (a.x.0 + length a.bytes.now) (c.in_ok-i.ensures _ c.volume-volume.ensures)).1 in
+    omega (arith, z)
+
 pub resize-requires : goal.resize-requires
 resize-requires c =
     let a = c.args in
     let l = a.lent.now in
-    let z = (size-says (session_lent l) l.device.now l.work.now a.name.now _ (a.x.0 + length a.bytes.now) (c.in_ok-i.ensures _ c.volume-volume.ensures)).1 in
-    (z, omega (arith, z, c.max-size.ensures))
+    (size-says (session_lent l) l.device.now l.work.now a.name.now _ (a.x.0 + length a.bytes.now) (c.in_ok-i.ensures _ c.volume-volume.ensures)).1
 
 pub returns-clause-state : goal.returns-clause-state
 returns-clause-state c =

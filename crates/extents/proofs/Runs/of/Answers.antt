@@ -5,8 +5,10 @@ use Rattle.transaction.specs.Volumes.{working}
 use Rattle.extents.proofs.Laws.{begin-in}
 use Rattle.extents.proofs.Runs.of.Goals as goal
 
-pub invariant_of-result : goal.invariant_of-result
-invariant_of-result c = record { first = omega arith; few = omega (arith, (begin-in (working c.args.copy.now) c.args.stretch.i.n c.args.stretch.from.0 c.args.stretch.n _ c.of.ensures).few) }
+pub invariant_of-result-clause-few : goal.invariant_of-result-clause-few
+invariant_of-result-clause-few c = let s = c.args.stretch in omega (arith, (begin-in (working c.args.copy.now) s.i.n s.from.0 s.n _ c.of.ensures).few)
 
 pub returns : goal.returns
-returns c = let b = begin-in (working c.args.copy.now) c.args.stretch.i.n c.args.stretch.from.0 c.args.stretch.n _ c.of.ensures in (b.runs, omega (arith, b.some, ap length b.runs))
+returns c = let s = c.args.stretch in
+    let b = begin-in (working c.args.copy.now) s.i.n s.from.0 s.n _ c.of.ensures in
+    (b.runs, omega (arith, b.some, ap length b.runs))

@@ -3,5 +3,5 @@ use Rattle.mounted.specs.States.{state_in}
 use Rattle.mounted.specs.Rounds.{rounds, advanced}
 use Rattle.mounted.proofs.Mounted.advance_by.Given as goal
 
-abbrev pub invariant-loop-k : goal.invariant-loop-k
-invariant-loop-k g l = (l.self.work ≡ l.initial.self.work) × (state_in l.self ≡ rounds advanced l._k (state_in l.initial.self))
+abbrev pub invariant-loop : goal.invariant-loop
+invariant-loop g l = (l.self.lent.work ≡ l.initial.self.lent.work) × (state_in l.self ≡ rounds advanced l.counter (state_in l.initial.self))

@@ -4,4 +4,4 @@ use Rattle.mounted.specs.Rounds.{rounds, created}
 use Rattle.mounted.proofs.Mounted.create_all.Given as goal
 
 abbrev pub invariant-loop-k : goal.invariant-loop-k
-invariant-loop-k g l = (l.self.device ≡ l.initial.self.device) × (state_in l.self ≡ rounds created l.k (state_in l.initial.self))
+invariant-loop-k g l = (l.self.lent.device ≡ l.initial.self.lent.device) × (state_in l.self ≡ rounds created l.k (state_in l.initial.self))

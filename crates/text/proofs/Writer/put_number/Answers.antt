@@ -1,6 +1,6 @@
-use Rattle.text.specs.Written.{number}
+use Rattle.std.proofs.Common.{◌∙◌}
+use Rattle.text.proofs.Laws.{put_as, number-are}
 use Rattle.text.proofs.Writer.put_number.Goals as goal
 
 pub returns : goal.returns
-unfolding number
-returns c = c.put_digits.ensures
+returns c = put_as _ _ _ _ c.put_bytes.ensures (c.as_bytes.ensures.value ∙ (c.format.ensures.text ∙ number-are c.args.n c.ranges.n.fits))

@@ -1,14 +1,35 @@
 use Rattle.std.proofs.Common.{rules}
-use native.Mathlib.Omega.{arith}
-use Rattle.tree.proofs.Walks.{going_more, going-out, going_end}
+use Rattle.std.specs.Prelude.{None}
+use mathlib.Core.Path.{◌≡◌, refl, sym, ◌∙◌}
+use Rattle.spec.specs.Sound.{slots_packed}
+use Rattle.tree.specs.Slots.{slots_of}
+use Rattle.tree.proofs.Reading.{left-zero}
+use Rattle.tree.proofs.Walks.{going-start, going-off, going-more, going-end, going-unpacked}
 use Rattle.tree.proofs.Walk.extents_over.Goals as goal
 
-pub returns-then-slot-eq0 : goal.returns-then-slot-eq0
-returns-then-slot-eq0 c = going-out _ _ _ _ _ _ _ _ _ _ _ c.loop-j.invariant c.in_block-slot.result.extent (omega arith) c.in_block-slot.ensures c.if-slot-eq0.true
+pub loop-slot-init : goal.loop-slot-init
+loop-slot-init c = (going-start _ _ _ _ _ _ refl, refl)
 
-pub loop-j-preserved : goal.loop-j-preserved
-loop-j-preserved c = let w = c.test_extent-q.ensures in
-    going_more _ _ _ _ _ _ _ _ _ _ _ c.loop-j.invariant _ _ c.in_block-slot.result.extent _ _ (omega arith) (omega arith) (omega arith) c.in_block-slot.ensures (omega (arith, c.if-slot-eq0.false)) (search rules) w.0 w.1
+pub returns-in_err-q : goal.returns-in_err-q
+returns-in_err-q c =
+    let e : c.from_residual.result ≡ None = search rules in
+    rw e (going-off _ _ _ _ _ _ _ _ c.loop-slot.invariant.0 _ _ c.in-Some.ensures.steps.used c.in_err-q.ensures _)
+
+pub loop-slot-preserved : goal.loop-slot-preserved
+loop-slot-preserved c =
+    let i = c.loop-slot.invariant in
+    let s = c.in-Some.ensures.steps in
+    (going-more _ _ _ _ _ _ _ _ i.0 _ _ s.used _ _ c.in_ok-q.ensures, sym s.packed ∙ i.1)
+
+pub returns-then-not-are_zero : goal.returns-then-not-are_zero
+returns-then-not-are_zero c =
+    let i = c.loop-slot.invariant in
+    let slots = slots_of c.args.slots in
+    going-unpacked _ _ _ _ _ _ _ _ i.0 (slots_packed slots) (left-zero slots (slots_of c.loop-slot.rest) _ _ i.1 c.in_default.ensures.steps c.are_zero.ensures ∙ c.if-not-are_zero.true)
 
 pub returns : goal.returns
-returns c = going_end _ _ _ _ _ _ _ _ _ _ _ c.loop-j.invariant (omega arith)
+returns c =
+    let i = c.loop-slot.invariant in
+    let s = c.in_default.ensures.steps in
+    let slots = slots_of c.args.slots in
+    going-end _ _ _ _ _ _ _ _ i.0 s.0 (slots_packed slots) (left-zero slots (slots_of c.loop-slot.rest) _ _ i.1 s c.are_zero.ensures ∙ c.if-not-are_zero.false)

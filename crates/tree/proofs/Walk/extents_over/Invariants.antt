@@ -1,10 +1,15 @@
-use Prim.Native.Nat.{◌+◌, ◌*◌, ◌-◌}
-use lib.ListN.{drop}
-use Rattle.spec.specs.Bytes.{exactly}
-use Rattle.spec.specs.Inode.{slots_in}
+use mathlib.Core.Path.{◌≡◌}
+use lib.ListN.{length}
+use Rattle.spec.specs.Sound.{slots_packed}
+use Rattle.tree.specs.Slots.{slots_of, used_slots}
+use Rattle.tree.specs.Runs.{totals_of}
 use Rattle.tree.proofs.Walks.{Going}
 use Rattle.tree.proofs.Walk.extents_over.Given as goal
 
-abbrev pub invariant-loop-j : goal.invariant-loop-j
-invariant-loop-j l =
-    Going l.self.device.blocks l.self.last.0 (exactly 512 l.block) l.marks l.q (l.at + 4 * l.j) (l.n - l.j) l.initial.marks l.initial.q (slots_in l.n (drop l.at (exactly 512 l.block))) l.n
+abbrev pub invariant-loop-slot : goal.invariant-loop-slot
+invariant-loop-slot l =
+    Going l.self.device.blocks l.self.last.0 l.marks (totals_of l.q) (used_slots l.rest) l.initial.marks (totals_of l.fn.r) (used_slots l.slots)
+    × (slots_packed (slots_of l.rest) ≡ slots_packed (slots_of l.slots))
+
+abbrev pub decreases-loop-slot : goal.decreases-loop-slot
+decreases-loop-slot l = length (used_slots l.rest)

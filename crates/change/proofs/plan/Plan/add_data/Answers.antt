@@ -14,11 +14,11 @@ use Rattle.change.proofs.Outside.{clear-run}
 use Rattle.change.proofs.plan.Plan.add_data.Goals as goal
 
 pub block_count-at-requires : goal.block_count-at-requires
-block_count-at-requires c = omega (arith, counts-by c.args.self.now.extents.now, c.args.self.now.bounded.blocks)
+block_count-at-requires c = omega (arith, counts-by c.args.self.now.draft.extents.now, c.args.self.now.bounded.blocks)
 
 pub loop-e-init : goal.loop-e-init
 loop-e-init c =
-    let es = c.args.self.now.extents.now in
+    let es = c.args.self.now.draft.extents.now in
     let r : iter_rest (rev_source c.into_iter-e-iterator.result) ≡ es =
     ap (λ q. iter_rest q) (ap (λ q. rev_source q) c.into_iter-e-iterator.ensures.into_iter_gives ∙ c.rev-e-items.ensures.source) ∙ c.iter.ensures.rest in
     let p = place-sum es _ c.block_count-at.ensures in
@@ -29,17 +29,17 @@ loop-e-init c =
     }
 
 pub overflow_sub-at : goal.overflow_sub-at
-overflow_sub-at c = (extent-left c.args.self.now.extents.now _ _ _ _ c.loop-e.invariant.front c.loop-e.invariant.at c.in-Some.ensures.steps).under
+overflow_sub-at c = (extent-left c.args.self.now.draft.extents.now _ _ _ _ c.loop-e.invariant.front c.loop-e.invariant.at c.in-Some.ensures.steps).under
 
 pub add_run-requires : goal.add_run-requires
 add_run-requires c =
     let b = c.args.self.now.bounded in
-    let r = extent-left c.args.self.now.extents.now _ _ _ _ c.loop-e.invariant.front c.loop-e.invariant.at c.in-Some.ensures.steps in
+    let r = extent-left c.args.self.now.draft.extents.now _ _ _ _ c.loop-e.invariant.front c.loop-e.invariant.at c.in-Some.ensures.steps in
     (omega (arith, ap (λ (e : Extent). e.first) r.is, b.first (length (iter_rest (rev_source c.next.new.self)))), omega (arith, r.whole, r.room, b.blocks), r.each, c.of-w.ensures)
 
 pub loop-e-preserved-in-Continue-1 : goal.loop-e-preserved-in-Continue-1
 loop-e-preserved-in-Continue-1 c =
-    let r = extent-left c.args.self.now.extents.now _ _ _ _ c.loop-e.invariant.front c.loop-e.invariant.at c.in-Some.ensures.steps in
+    let r = extent-left c.args.self.now.draft.extents.now _ _ _ _ c.loop-e.invariant.front c.loop-e.invariant.at c.in-Some.ensures.steps in
     record {
       front = r.front;
       at = r.back;
@@ -49,14 +49,14 @@ loop-e-preserved-in-Continue-1 c =
 pub returns-in_err-add_run : goal.returns-in_err-add_run
 returns-in_err-add_run c =
     let p = c.args.self.now in
-    let r = extent-left p.extents.now _ _ _ _ c.loop-e.invariant.front c.loop-e.invariant.at c.in-Some.ensures.steps in
+    let r = extent-left p.draft.extents.now _ _ _ _ c.loop-e.invariant.front c.loop-e.invariant.at c.in-Some.ensures.steps in
     λ v l. let h = c.in_err-add_run.ensures v (data-cast v p.number.n (change_of p) _ _ _ r.whole (c.loop-e.invariant.lists v l)) in
     told-err _ _ _ _ _ c.from_residual.ensures.1 h.0 (data-below v p.number.n (change_of p) 0 (c.loop-e.at - c.in-Some.e.now.count) (omega arith) h.1)
 
 pub loop-e-preserved : goal.loop-e-preserved
 loop-e-preserved c =
     let p = c.args.self.now in
-    let r = extent-left p.extents.now _ _ _ _ c.loop-e.invariant.front c.loop-e.invariant.at c.in-Some.ensures.steps in
+    let r = extent-left p.draft.extents.now _ _ _ _ c.loop-e.invariant.front c.loop-e.invariant.at c.in-Some.ensures.steps in
     record {
       front = r.front;
       at = r.back;
@@ -67,6 +67,6 @@ loop-e-preserved c =
 
 pub returns : goal.returns
 returns c =
-    let es = c.args.self.now.extents.now in
+    let es = c.args.self.now.draft.extents.now in
     let z : length (iter_rest (rev_source c.loop-e.e-iterator)) ≡ 0 = c.in-None.ensures.steps.0 in
     λ v l. data-cast v c.args.self.now.number.n (change_of c.args.self.now) _ _ _ (c.loop-e.invariant.at ∙ ap (place_of es) z ∙ place_none es) (c.loop-e.invariant.lists v l)

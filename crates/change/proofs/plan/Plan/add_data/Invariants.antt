@@ -12,7 +12,7 @@ use Rattle.change.proofs.plan.Plan.add_data.Given as goal
 -- the iterator has the front of the extents left
 abbrev pub invariant-loop-e : goal.invariant-loop-e
 invariant-loop-e l = record {
-  front : iter_rest (rev_source l.e-iterator) ≡ take (length (iter_rest (rev_source l.e-iterator))) l.self.extents.now;
-  at : l.at ≡ place_of l.self.extents.now (length (iter_rest (rev_source l.e-iterator)));
+  front : iter_rest (rev_source l.e-iterator) ≡ take (length (iter_rest (rev_source l.e-iterator))) l.self.draft.extents.now;
+  at : l.at ≡ place_of l.self.draft.extents.now (length (iter_rest (rev_source l.e-iterator)));
   lists : (v : Disk) → Lists (content_by v l.self) l.initial.agenda [] → Lists (content_by v l.self) l.agenda (ascending (data_from v l.self l.at));
 }

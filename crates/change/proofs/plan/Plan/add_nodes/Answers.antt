@@ -18,7 +18,7 @@ loop-j-init c =
     let v = working c.args.copy.now in
     let e = ap (λ q. enumerate_source q) (ap (λ q. rev_source q) c.into_iter-j-iterator.ensures.into_iter_gives ∙ c.rev-j-items.ensures.source) ∙ c.enumerate.ensures.source in
     let r : iter_rest (enumerate_source (rev_source c.into_iter-j-iterator.result)) ≡ nodes_in (change_of c.args.self.now).tree =
-    ap (λ q. iter_rest q) e ∙ c.iter.ensures.rest ∙ c.blocks-nodes.ensures.0 in
+    ap (λ q. iter_rest q) e ∙ c.iter.ensures.rest ∙ c.as_slice-nodes.ensures.0 in
     record {
       none = ap (λ q. q.count) (ap (λ q. rev_source q) c.into_iter-j-iterator.ensures.into_iter_gives ∙ c.rev-j-items.ensures.source) ∙ c.enumerate.ensures.count;
       front = r ∙ sym (take-length (nodes_in (change_of c.args.self.now).tree)) ∙ ap (λ (k : ℕ). take k (nodes_in (change_of c.args.self.now).tree)) (ap length (sym r));

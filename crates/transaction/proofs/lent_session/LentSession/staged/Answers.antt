@@ -5,4 +5,4 @@ use Rattle.transaction.proofs.lent_session.LentSession.staged.Goals as goal
 pub returns : goal.returns
 returns c =
     let l = c.args.self.now in
-    c.of.ensures ∙ sym (staged-parts l.cells.now l.count l.blocks l.phase)
+    c.of.ensures ∙ sym (staged-parts l.cells.now l.count.now l.blocks l.phase)

@@ -4,4 +4,4 @@ use Rattle.transaction.proofs.volume.Volume.of_parts.Goals as goal
 
 pub returns : goal.returns
 returns c = let a = c.args in
-    record { size = refl; at-phase = refl; numbers = staged-parts a.cells.now a.count a.blocks a.phase ∙ sym c.of.ensures; device = refl; work = refl }
+    record { head = record { size = refl; at-phase = refl; device = refl; work = refl }; numbers = staged-parts a.cells.now a.count a.blocks a.phase ∙ sym c.of.ensures }

@@ -1,8 +1,0 @@
-use Prim.Native.Nat.{◌*◌}
-use mathlib.Core.Path.{◌≡◌}
-use lib.ListN.{take}
-use Rattle.spec.specs.Bitmap.{bits_of, free_bits}
-use Rattle.bitmap.proofs.lowest_free_from.Given as goal
-
-abbrev pub invariant-loop-at : goal.invariant-loop-at
-invariant-loop-at l = free_bits (take (64 * l.at) (bits_of l.t)) ≡ 0

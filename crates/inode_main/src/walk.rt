@@ -1,0 +1,55 @@
+// The walk over a file's tree, slot by slot.
+use inode::{Cursor, InodeNumber, SlotBlock, inode_block, start_at, table_block};
+use spec::{DiskBlock, Extent};
+use transaction::WorkingCopy;
+
+// What a step of the walk finds: an extent, or a node, whose extents follow.
+#[derive(Clone, Copy)]
+pub enum Step {
+    Leaf(Extent),
+    Node(DiskBlock),
+}
+
+// The extents and nodes of a file, in the order of its blocks.
+#[derive(Clone, Copy)]
+pub struct Walk<'a> {
+    copy: WorkingCopy<'a>,
+    record_block: DiskBlock,
+    at: Cursor,
+}
+
+impl<'a> Walk<'a> {
+    // All of record i's file.
+    pub fn of(copy: &WorkingCopy<'a>, i: InodeNumber) -> Walk<'a> {
+        Walk {
+            copy: *copy,
+            record_block: table_block(i),
+            at: start_at(inode_block(copy, i), i),
+        }
+    }
+}
+
+impl<'a> Iterator for Walk<'a> {
+    ghost use Rattle.std.specs.Iterator.{at_most};
+    ghost use Rattle.inode.specs.Walk.{weight};
+
+    type Item = Step;
+
+    ghost remaining = { λ w. at_most (weight w.at) };
+
+    fn next(&mut self) -> Option<Step> {
+        let leaf = SlotBlock {
+            bytes: self.copy.block(DiskBlock(self.at.block)),
+        };
+        if let Some((e, then)) = self.at.pass(&leaf) {
+            self.at = then;
+            return Some(Step::Leaf(e));
+        }
+        let table = SlotBlock {
+            bytes: self.copy.block(self.record_block),
+        };
+        let (b, then) = self.at.enter(&table)?;
+        self.at = then;
+        Some(Step::Node(b))
+    }
+}

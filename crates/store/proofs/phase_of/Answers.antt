@@ -1,0 +1,48 @@
+use Rattle.std.specs.Prelude.{Err}
+use borrow.Author.Rules.{rules}
+use mathlib.Core.Path.{◌≡◌, sym, ap, ◌∙◌}
+use lib.ListN.{length}
+use Rattle.block.proofs.Laws.{allowed-says}
+use Rattle.checks.proofs.Laws.{require-passed}
+use Rattle.store.proofs.Laws.{require-refused, fault-at, no-fault, counted, open-device, open-header, open-log, open-unsound, open-ready}
+use Rattle.store.proofs.phase_of.Goals as goal
+
+pub returns-in_err-require : goal.returns-in_err-require
+returns-in_err-require c =
+    let err : c.from_residual.result ≡ Err c.in_err-require.field-0.0 = search rules in
+    let r = require-refused _ _ _ c.in_err-require.ensures in
+    rw err (tt, λ s work. rw r.1 (open-device s c.args.device.now work (sym c.is_allowed.ensures ∙ r.0)))
+
+pub returns-in-Some : goal.returns-in-Some
+returns-in-Some c =
+    let d = c.args.device.now in
+    let e = sym c.is_allowed.ensures ∙ require-passed _ _ _ c.in_ok-require.ensures in
+    (tt, λ s work. open-header s d work e _ (fault-at d _ e c.block_in-head.ensures _ _ _ c.header_fault.ensures c.in-Some.is))
+
+pub returns-then-len-ne0 : goal.returns-then-len-ne0
+returns-then-len-ne0 c =
+    let d = c.args.device.now in
+    let e = sym c.is_allowed.ensures ∙ require-passed _ _ _ c.in_ok-require.ensures in
+    let n = counted d _ e c.block_in-head.ensures _ (c.len.ensures.0 ∙ ap length c.targets_in.ensures) in
+    (λ s work. open-log s d work e (no-fault d _ e c.block_in-head.ensures _ _ c.header_fault.ensures c.in_default.is) (λ z. c.if-len-ne0.true (n ∙ z)), tt)
+
+pub is_sound-requires : goal.is_sound-requires
+is_sound-requires c =
+    let e = sym c.is_allowed.ensures ∙ require-passed _ _ _ c.in_ok-require.ensures in
+    (allowed-says _ e).high
+
+pub returns-in_err-require-2 : goal.returns-in_err-require-2
+returns-in_err-require-2 c =
+    let d = c.args.device.now in
+    let e = sym c.is_allowed.ensures ∙ require-passed _ _ _ c.in_ok-require.ensures in
+    let n = counted d _ e c.block_in-head.ensures _ (c.len.ensures.0 ∙ ap length c.targets_in.ensures) in
+    let err : c.from_residual-in_err-require-2.result ≡ Err c.in_err-require-2.field-0.0 = search rules in
+    let r = require-refused _ _ _ c.in_err-require-2.ensures in
+    rw err (tt, λ s work. rw r.1 (open-unsound s d work e (no-fault d _ e c.block_in-head.ensures _ _ c.header_fault.ensures c.in_default.is) (sym n ∙ c.if-len-ne0.false) (sym c.is_sound.ensures ∙ r.0)))
+
+pub returns : goal.returns
+returns c =
+    let d = c.args.device.now in
+    let e = sym c.is_allowed.ensures ∙ require-passed _ _ _ c.in_ok-require.ensures in
+    let n = counted d _ e c.block_in-head.ensures _ (c.len.ensures.0 ∙ ap length c.targets_in.ensures) in
+    (λ s work. open-ready s d work e (no-fault d _ e c.block_in-head.ensures _ _ c.header_fault.ensures c.in_default.is) (sym n ∙ c.if-len-ne0.false) (sym c.is_sound.ensures ∙ require-passed _ _ _ c.in_ok-require-2.ensures), tt)

@@ -127,7 +127,7 @@ pub fn record_in(volume: &Volume, i: usize) -> Result<Option<FileRecord>, Refusa
         return Ok(None);
     };
     let table = inode_block(&volume.copy, number);
-    // Mostly it is a whole block, whose length is known: 7 ns in place of 10.
+    // Mostly it is a whole block, whose length is known: 8 ns in place of 10.
     Ok(match table.first_chunk::<{ Limits::BLOCK_SIZE }>() {
         Some(whole) => record_of(whole, i),
         None => record_of(table, i),

@@ -47,14 +47,11 @@ fn keep(extents: &mut ExtentList, copy: &WorkingCopy, i: InodeNumber, wanted: us
         from: FileBlock(0),
         n: wanted,
     };
-    let mut end = extents.end;
     let mut n: usize = 0;
     for e in Pieces::of(copy, front) {
-        let b = DiskBlock(e.extent.first);
-        end = end.push(&mut extents.cells, b, e.extent.count);
+        extents.push(DiskBlock(e.extent.first), e.extent.count);
         n += e.extent.count as usize;
     }
-    extents.end = end;
     n
 }
 
@@ -90,17 +87,16 @@ fn take_data(t: &mut Bitmap, extents: &mut ExtentList, kept: usize, n: usize)
     requires { Small extents.old kept × (kept ≤ 2048) × (n ≤ free_bits (bits_of t.old.bytes)) × (n ≤ 4096) }
     ensures { TookData t.old.bytes t.new.bytes extents.old kept n extents.new }
 {
-    let mut end = extents.end;
     let mut from: usize = 0;
     for _ in 0..n {
         let b = pick(t, from);
-        end = end.push(&mut extents.cells, b, 1);
+        extents.push(b, 1);
         from = (b.0 / 64) as usize;
     }
-    extents.end = end;
 }
 
-// The nodes of record i, of the block of the table that holds it.
+// The nodes of record i, of the block of the table that holds it. By number: whether a slot is in use depends on how many come behind it. That
+// some are left is so here, but `is_live` is the walk's own test, and its laws are told of it.
 fn held_nodes(table: &SlotBlock, i: InodeNumber) -> Nodes
     ensures { (v : Disk) → exactly 512 table.now.bytes.now ≡ v (block_of_inode i.n) → result ≡ nodes_at v i.n }
 {

@@ -19,6 +19,7 @@ use Rattle.lists.specs.Bits.{mark-append}
 use Rattle.lists.specs.Counts.{up_from-occurs}
 use Rattle.lists.specs.All.{all-at}
 use Rattle.block.proofs.Lists.{up_from-append}
+use Rattle.bitmap.specs.Words.{mask_of}
 use Rattle.bitmap.proofs.Numbers.{low_bits, byte_low, mask_low, and_low}
 
 -- ---- numbers in a row, marked
@@ -118,13 +119,28 @@ run-cut bits b n k l e = ⊎_elim inside outside (cases_lt b 4096)
 
 -- zeros from bit s on, n of them, and ones elsewhere
 unfoldable pub hole : ℕ → ℕ → ℕ
-hole n s = 255 - 255 / 2 ^ (8 - n) * 2 ^ s % 256
+hole n s = 255 - mask_of n s
+
+-- a mask as the code shifts it
+mask-shifts : ℕ → ℕ → Bool
+mask-shifts n s = eqb (255 / 2 ^ (8 - n) * 2 ^ s % 256) (mask_of n s)
+
+masks-shift : all (λ n. all (mask-shifts n) (up_from 0 8)) (up_from 0 9) ≡ true
+unfolding mask-shifts mask_of mark
+masks-shift = refl
+
+pub mask-shift : (n s : ℕ) → n ≤ 8 → s < 8 → 255 / 2 ^ (8 - n) * 2 ^ s % 256 ≡ mask_of n s
+unfolding mask-shifts
+mask-shift n s hn hs =
+    let p = all-at (λ m. all (mask-shifts m) (up_from 0 8)) (up_from 0 9) n masks-shift (up_from-occurs n 0 9 (omega arith) (omega arith)) in
+    let q = all-at (mask-shifts n) (up_from 0 8) s p (up_from-occurs s 0 8 (omega arith) (omega arith)) in
+    eqb-true _ _ q
 
 hole-grows : ℕ → ℕ → Bool
 hole-grows n s = leb 8 (s + n) || eqb (hole (suc n) s) (bit_and (hole n s) (255 - 2 ^ (s + n)))
 
 holes-grow : all (λ n. all (hole-grows n) (up_from 0 8)) (up_from 0 8) ≡ true
-unfolding hole-grows hole
+unfolding hole-grows hole mask_of mark
 holes-grow = refl
 
 or-false : (a : ℕ) (d : Bool) → a < 8 → leb 8 a || d ≡ true → d ≡ true
@@ -138,8 +154,8 @@ hole-more n s h =
     eqb-true (hole (suc n) s) (bit_and (hole n s) (255 - 2 ^ (s + n))) (or-false (s + n) _ h q)
 
 low-hole : (x n s : ℕ) → s + n ≤ 8 → low_bits 8 (bit_and x (hole n s)) ≡ mark 0 (up_from s n) (low_bits 8 x)
-unfolding mark hole
-low-hole x zero s h = let e : 255 - 255 / 2 ^ (8 - 0) * 2 ^ s % 256 ≡ 2 ^ 8 - 1 = omega arith in rw e (mask_low 8 x)
+unfolding mark hole mask_of
+low-hole x zero s h = mask_low 8 x
 low-hole x (suc n) s h =
     rw (hole-more n s (omega arith), ← and_assoc (255 - 2 ^ (s + n)) x (hole n s), up_more s n, mark-more 0 (up_from s n) (s + n) (low_bits 8 x))
     (and_low 8 (s + n) (bit_and x (hole n s)) (omega arith) ∙ ap (λ (l : List ℕ). set l (s + n) 0) (low-hole x n s (omega arith)))

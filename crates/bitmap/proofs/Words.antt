@@ -17,7 +17,7 @@ use Rattle.std.specs.Simd.{first_chunks}
 use Rattle.std.proofs.lemmas.List.Sums.{sum_by-cons}
 use Rattle.spec.specs.Bytes.{place, place_from}
 use Rattle.spec.specs.Bitmap.{bits_of_byte, bits_of, free_bits}
-use Rattle.bitmap.specs.Words.{Table, word_of, free_of}
+use Rattle.bitmap.specs.Words.{Table, word_of, free_of_word}
 use Rattle.bitmap.proofs.Numbers.{low_bits, byte_low, length-low, low-append, low_free, low-place, or-low, and_low}
 use Rattle.bitmap.proofs.Laws.{length-bits, drop-byte, byte-bits, occurs-append, place_after}
 
@@ -133,15 +133,15 @@ module _ (t : List ℕ) (i : ℕ) where
       )
 
 -- as many words as there are
-words-free : (k : ℕ) (t : List ℕ) → length t ≡ 8 * k → ((j : ℕ) → get_or t j 0 < 256) → sum_by free_of (first_chunks 8 k t) ≡ free_bits (bits_of t)
-unfolding bits_of free_of
+words-free : (k : ℕ) (t : List ℕ) → length t ≡ 8 * k → ((j : ℕ) → get_or t j 0 < 256) → sum_by free_of_word (first_chunks 8 k t) ≡ free_bits (bits_of t)
+unfolding bits_of free_of_word
 words-free zero [] l h = refl
 words-free zero (x ∷ t) l h = absurd (omega arith)
 words-free (suc k) t l h =
     let rest = words-free k (drop 8 t) (length-drop 8 t ∙ omega arith) (λ j. rw get_or-drop (h (8 + j))) in
     let bits = number-bits t 0 8 (λ j m. h (0 + j)) (omega arith) in
     let few : number t 0 8 < 2 ^ 64 = number_lt t 0 8 (λ j m. h (0 + j)) in
-    sum_by-cons free_of (take 8 t) (first_chunks 8 k (drop 8 t))
+    sum_by-cons free_of_word (take 8 t) (first_chunks 8 k (drop 8 t))
     ∙ omega (
       arith,
       rest,
@@ -162,8 +162,8 @@ chunk-at (suc k) (suc w) t d h =
 
 -- the words of a table
 module _ (t : List ℕ) (full : length t ≡ 512) (words : List (List ℕ)) (all : words ≡ first_chunks 8 (length t / 8) t) where
-  pub all-free : ((j : ℕ) → get_or t j 0 < 256) → sum_by free_of words ≡ free_bits (bits_of t)
-  all-free h = ap (sum_by free_of) all ∙ words-free (length t / 8) t (omega arith) h
+  pub all-free : ((j : ℕ) → get_or t j 0 < 256) → sum_by free_of_word words ≡ free_bits (bits_of t)
+  all-free h = ap (sum_by free_of_word) all ∙ words-free (length t / 8) t (omega arith) h
 
   pub word-read : (w x : ℕ) (d : List ℕ) → w < 64 → x ≡ from_le_bytes w64 (get_or words w d) → x ≡ word_of t w
   word-read w x d l e =

@@ -1,10 +1,12 @@
 // The bitmap that a change works on.
 ghost use Rattle.bitmap.specs.Words.{Table};
 
+use crate::mask;
 use block::copy_of;
 use spec::{DiskBlock, Limits};
 
-// Its bytes: each is one, which a borrow that others changed would not tell.
+// Its bytes, and the fact that they are 512 numbers below 256, which the laws of a table ask for: kept by the type, it holds after each change, and no contract
+// repeats it.
 #[derive(Clone, Copy)]
 pub struct Bitmap {
     pub bytes: [u8; Limits::BLOCK_SIZE],
@@ -27,6 +29,7 @@ impl Bitmap {
     }
 
     // The lowest bit that is 0, where no bit below word `from` is: "trailing zeros of the complemented word".
+    // By a loop: with `position` of the first word that is not full, the word is read twice, and what the function answers stays open at all three of its ends.
     pub fn lowest_free_from(&self, from: usize) -> Option<DiskBlock>
         requires { free_bits (take (64 * from) (bits_of self.now.bytes)) ≡ 0 }
         ensures { result ≡ found_of (place 0 (bits_of self.now.bytes)) }
@@ -80,7 +83,7 @@ impl Bitmap {
         if n == 0 {
             return;
         }
-        self.bytes[(b.0 / 8) as usize] &= !((255u8 >> (8 - n)) << (b.0 % 8));
+        self.bytes[(b.0 / 8) as usize] &= !mask(b, n);
     }
 
     // The bits of n bytes from byte i on become 0.

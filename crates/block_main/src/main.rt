@@ -5,7 +5,7 @@ use block::{block_in, clear_block, copy_of, load, load2, load4, store_block, sto
 use spec::DiskBlock;
 use std::io;
 
-// The area of block b, and whether it is a data block and a target on a device of 64 blocks.
+// The area of block b, and whether it is a data block and a target on a device of 64 blocks. An area has no number but its place among the variants, which only `as` tells.
 fn show_area(rt: &impl Print, b: u32) -> io::Result<()> {
     let area = block::area_of(DiskBlock(b)) as u32;
     let data = u32::from(block::in_data(64, DiskBlock(b)));

@@ -21,6 +21,7 @@ use Rattle.spec.specs.Transaction.{State, view, BlockStore, stage_all, with_stag
 use Rattle.spec.specs.Journal.{commit_stores, recovery_stores}
 use Rattle.spec.specs.Plan.{tree_for}
 use Rattle.spec.specs.Calls.{Outcome, outcome, with_buffer, settle, is_ready, known, is_taken, empty_inode, lent_ok, ready_ok, name_ok, file_ok, sized_ok, header_ok, volume_ok, start_commit, advance_in, staging, rewrite, create, remove, rename, write, set_size, read, open_store, format, advance, commit, abort}
+pub use Rattle.capi.specs.Changes.{Still}
 
 pub true≢false : true ≡ false → ⊥
 true≢false p = let z : ◌≡◌ {A = ℕ} 0 1 = cc in omega arith
@@ -42,10 +43,6 @@ told-then (accept a) b k = k
 told-bind : {A : Type 0} (a : Result A) (f : A → Result Outcome) → ((x : A) → Told (f x)) → Told (a >>= f)
 told-bind (refuse r) f k = told-refuse r
 told-bind (accept a) f k = k a
-
--- refused, a call keeps all: `kept` is the outcome that does, with that answer
-pub record Still (kept : Answer → Outcome) (o : Outcome) : Type 0 where
-  pub refusal : is_refused o.answer ≡ true → o ≡ kept o.answer
 
 still : (kept : Answer → Outcome) (r : Result Outcome) → ((a : Answer) → (kept a).answer ≡ a) → Told r → Still kept (settle kept r)
 still kept (refuse r) h k = record { refusal = λ e. ap kept (sym (h (refusal_of r))) }

@@ -9,20 +9,22 @@
 ghost use Rattle.std.specs.Prelude.{◌≡◌, List, ℕ, ◌/◌, ◌<◌, ◌≤◌, length};
 ghost use Rattle.spec.specs.Answers.{done_of, started_of, stored_of, counted_of as answer_of};
 ghost use Rattle.spec.specs.Transaction.{State, state_of};
-ghost use Rattle.spec.specs.Calls.{format, open_store, advance, commit, abort, create, remove, rename, write, set_size, read, size_of, free_count, record_at, nth_extent, run_list};
+ghost use Rattle.spec.specs.Calls.{Outcome, outcome, format, open_store, advance, commit, abort, create, remove, rename, write, set_size, read, size_of, free_count, record_at, nth_extent, run_list};
 ghost use Rattle.journal.specs.Entries.{behind, begun_phase};
 ghost use Rattle.transaction.specs.Places.{session_of};
 ghost use Rattle.transaction.specs.Volumes.{working, Shows};
+ghost use Rattle.transaction.specs.LentCalls.{Keeps, Does};
 ghost use Rattle.extents.specs.Stretches.{runs_in};
 ghost use Rattle.capi.specs.Cells.{parts_in};
+ghost use Rattle.capi.specs.Changes.{Still};
 ghost use Rattle.mirror.specs.Mirror.{head_in, numbers_of, head_of, decode, encode, finished_of, committed_of, advanced_of, counted_of, run_of, unless_refused, lent, Ends, Reads, Names, Lists, extents_of, with_extents};
 
 use extents::{Runs, Stretch, count_runs};
 use journal::{advance_in, begun_phase, commit_in, last_phase, phase_at};
 use lookup::look_up;
 use mirror::{
-    CAdvanced, CCommitted, CCounted, CFinished, CRecord, CRun, advanced, committed, counted,
-    finished, head_in, head_of, keep, keep_session, phase_in, recorded, run, session_in,
+    CAdvanced, CCommitted, CCounted, CFinished, CRecord, CRun, Head, advanced, committed, counted,
+    finished, keep_session, recorded, run, session_in,
 };
 use query::{free_count_in, nth_extent_in, read_in, record_in, size_in};
 use spec::{Answered, BlockStored, ByteOffset, Extent, FileBlock, Limits, Phase, Refusal};
@@ -42,10 +44,10 @@ impl Parts {
     fn of(numbers: &[u64; 4]) -> Parts
         ensures { result ≡ parts_in numbers.now }
     {
-        let head = head_in(numbers);
+        let head = Head::from(*numbers);
         Parts {
             blocks: head.blocks as usize,
-            phase: phase_in(head),
+            phase: head.phase(),
             count: head.count as usize,
         }
     }
@@ -66,7 +68,7 @@ impl Parts {
     fn keep(self, numbers: &mut [u64; 4], phase: Phase, count: usize)
         ensures { numbers.new ≡ numbers_of (head_of self.blocks phase count) }
     {
-        keep(numbers, head_of(self.blocks as u64, phase, count as u64));
+        *numbers = Head::of(self.blocks as u64, phase, count as u64).into();
     }
 }
 
@@ -213,6 +215,25 @@ fn changed(numbers: &mut [u64; 4], s: Parts, answer: Result<(), Refusal>) -> CFi
     finished(answer)
 }
 
+// A call that changes a session which is lent: run on the session of lent numbers and cells.
+fn changing<F: FnOnce(&mut LentSession) -> Result<(), Refusal>>(
+    device: &[u8],
+    work: &mut [u8],
+    numbers: &mut [u64; 4],
+    staged: &mut [u32; Limits::LOG_LENGTH],
+    call: F,
+) -> CFinished
+    requires callable { F.IsAlwaysCallable call }
+    requires keeps { Keeps F.FnOnce call }
+    ensures { (f : State → Outcome) → ((s : State) → Still (outcome s) (f s)) → Does F.FnOnce call f
+        → Ends finished_of result (lent numbers.old staged.old device.now work.old) (lent numbers.new staged.new device.now work.new) f }
+{
+    let mut s = Parts::of(numbers);
+    let mut lent = LentSession::new(device, work, s.blocks, s.phase, staged, &mut s.count);
+    let answer = call(&mut lent);
+    changed(numbers, s, answer)
+}
+
 // Makes an empty file.
 #[unsafe(no_mangle)]
 pub extern "C" fn purse_create_v(
@@ -225,10 +246,7 @@ pub extern "C" fn purse_create_v(
     ensures { Ends finished_of result (lent numbers.old staged.old device.now work.old)
         (lent numbers.new staged.new device.now work.new) (λ s. create s name.now) }
 {
-    let mut s = Parts::of(numbers);
-    let mut lent = LentSession::new(device, work, s.blocks, s.phase, staged, &mut s.count);
-    let answer = create_in(&mut lent, name);
-    changed(numbers, s, answer)
+    changing(device, work, numbers, staged, |lent| create_in(lent, name))
 }
 
 // Removes a file.
@@ -243,10 +261,7 @@ pub extern "C" fn purse_remove_v(
     ensures { Ends finished_of result (lent numbers.old staged.old device.now work.old)
         (lent numbers.new staged.new device.now work.new) (λ s. remove s name.now) }
 {
-    let mut s = Parts::of(numbers);
-    let mut lent = LentSession::new(device, work, s.blocks, s.phase, staged, &mut s.count);
-    let answer = remove_in(&mut lent, name);
-    changed(numbers, s, answer)
+    changing(device, work, numbers, staged, |lent| remove_in(lent, name))
 }
 
 // Names a file anew.
@@ -262,10 +277,13 @@ pub extern "C" fn purse_rename_v(
     ensures { Ends finished_of result (lent numbers.old staged.old device.now work.old)
         (lent numbers.new staged.new device.now work.new) (λ s. rename s name.now new.now) }
 {
-    let mut s = Parts::of(numbers);
-    let mut lent = LentSession::new(device, work, s.blocks, s.phase, staged, &mut s.count);
-    let answer = rename_in(&mut lent, name, new);
-    changed(numbers, s, answer)
+    changing(
+        device,
+        work,
+        numbers,
+        staged,
+        |lent| rename_in(lent, name, new),
+    )
 }
 
 // Bytes laid over a file from byte x on.
@@ -282,10 +300,13 @@ pub extern "C" fn purse_write_v(
     ensures { Ends finished_of result (lent numbers.old staged.old device.now work.old)
         (lent numbers.new staged.new device.now work.new) (λ s. write s name.now x bytes.now) }
 {
-    let mut s = Parts::of(numbers);
-    let mut lent = LentSession::new(device, work, s.blocks, s.phase, staged, &mut s.count);
-    let answer = write_in(&mut lent, name, ByteOffset(x as usize), bytes);
-    changed(numbers, s, answer)
+    changing(
+        device,
+        work,
+        numbers,
+        staged,
+        |lent| write_in(lent, name, ByteOffset(x as usize), bytes),
+    )
 }
 
 // A file cut, or lengthened by zeros.
@@ -301,10 +322,13 @@ pub extern "C" fn purse_set_size_v(
     ensures { Ends finished_of result (lent numbers.old staged.old device.now work.old)
         (lent numbers.new staged.new device.now work.new) (λ s. set_size s name.now size) }
 {
-    let mut s = Parts::of(numbers);
-    let mut lent = LentSession::new(device, work, s.blocks, s.phase, staged, &mut s.count);
-    let answer = set_size_in(&mut lent, name, size as usize);
-    changed(numbers, s, answer)
+    changing(
+        device,
+        work,
+        numbers,
+        staged,
+        |lent| set_size_in(lent, name, size as usize),
+    )
 }
 
 // Bytes of a file from byte x on, as many as the buffer takes and the file has; how many.
@@ -397,7 +421,7 @@ pub extern "C" fn purse_nth_extent_v(
     ))
 }
 
-// The runs of a stretch into pairs of cells, where there are pairs for all.
+// The runs of a stretch into pairs of cells, where there are pairs for all. By index: of what `chunks_exact_mut` lends, std tells nothing once it is given back.
 fn put_runs(copy: &WorkingCopy, stretch: Stretch, list: &mut [u32])
     requires { length (runs_in (working copy.now) stretch.i.n stretch.from.0 stretch.n) ≤ length list.old / 2 }
     ensures { list.new ≡ with_extents list.old (runs_in (working copy.now) stretch.i.n stretch.from.0 stretch.n) }

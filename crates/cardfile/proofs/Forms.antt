@@ -17,7 +17,7 @@ use borrow.Author.Tests.{eqb-true, eqb-false, eq-eqb, ne_eqb, lt-ltb, le-ltb, lt
 use Rattle.spec.specs.Bytes.{occurs, exactly}
 use Rattle.spec.specs.Listing.{decimal}
 use Rattle.cardfile.specs.Cards.{bytes_of, name_of, amount_bytes, read_hex, read_decimal, within, serial_h, serial_d, serial_of, amount_of, Entry, entry, before, split, entry_of}
-use Rattle.cardfile.specs.Lines.{number_told, serial_told, form_told, formed, letter_of, spelling_of, spelling_for, serial_for, standing_in, standing, line_told, line_in, line_at, card_for, line_of, line_number, name_told}
+use Rattle.cardfile.specs.Lines.{number_told, serial_told, form_told, formed, letter_of, spelling_of, digits_of, width_of, spelling_for, serial_for, standing_in, standing, line_told, line_in, line_at, card_for, line_of, line_number, name_told}
 use Rattle.cardfile.specs.declared.Spelling.{Spelling}
 use Rattle.cardfile.specs.declared.Spelling.TheVariants.{Hexadecimal, Decimal}
 use Rattle.cardfile.specs.declared.Serial.{Serial}
@@ -30,39 +30,69 @@ use Rattle.cardfile.proofs.Digits.{digits-back}
 
 -- ---- a serial by its length and its spelling
 
-module _ (t : List ℕ) (r : Option Serial) where
-  pub h-eight : length t ≡ 8 → r ≡ serial_told (read_hex t) → r ≡ serial_told (serial_h t)
-  unfolding serial_h
-  h-eight l e = rw (eq-eqb (length t) 8 l) e
+module _ (s : Spelling) (n : ℕ) where
+  pub width-short : n ≡ digits_of s 4 → Some 4 ≡ width_of s n
+  unfolding width_of
+  width-short h = rw (eq-eqb n (digits_of s 4) h)
 
-  pub h-fourteen : length t ≡ 14 → r ≡ serial_told (read_hex t) → r ≡ serial_told (serial_h t)
-  unfolding serial_h
-  h-fourteen l e = rw (l) e
+  pub width-rest : (n ≡ digits_of s 4 → ⊥) → (r : Option ℕ) → r ≡ cond (eqb n (digits_of s 7)) (Some 7) None → r ≡ width_of s n
+  unfolding width_of
+  width-rest h r e = e ∙ sym (rw (ne_eqb n (digits_of s 4) h))
 
-  pub d-ten : length t ≡ 10 → r ≡ serial_told (within 4 (read_decimal 0 t)) → r ≡ serial_told (serial_d t)
-  unfolding serial_d
-  d-ten l e = rw (eq-eqb (length t) 10 l) e
+module _ (t : List ℕ) (w : ℕ) where
+  pub h-room : Some w ≡ width_of Hexadecimal (length t) → (length t ≡ 2 * w) × (w ≤ 7)
+  unfolding width_of
+  h-room e = go (eqb (length t) 8) refl (eqb (length t) 14) refl e
+    where
+      go : (a : Bool) → eqb (length t) 8 ≡ a → (b : Bool) → eqb (length t) 14 ≡ b → Some w ≡ cond a (Some 4) (cond b (Some 7) None) → (length t ≡ 2 * w) × (w ≤ 7)
+      go true p b q e = let z : w ≡ 4 = cc in (omega (arith, z, eqb-true (length t) 8 p), omega (arith, z))
+      go false p true q e = let z : w ≡ 7 = cc in (omega (arith, z, eqb-true (length t) 14 q), omega (arith, z))
+      go false p false q e = cc
 
-  pub d-seventeen : length t ≡ 17 → r ≡ serial_told (within 7 (read_decimal 0 t)) → r ≡ serial_told (serial_d t)
-  unfolding serial_d
-  d-seventeen l e = rw (l) e
+  pub d-room : Some w ≡ width_of Decimal (length t) → (length t ≤ 17) × (w ≤ 7)
+  unfolding width_of
+  d-room e = go (eqb (length t) 10) refl (eqb (length t) 17) refl e
+    where
+      go : (a : Bool) → eqb (length t) 10 ≡ a → (b : Bool) → eqb (length t) 17 ≡ b → Some w ≡ cond a (Some 4) (cond b (Some 7) None) → (length t ≤ 17) × (w ≤ 7)
+      go true p b q e = let z : w ≡ 4 = cc in (omega (arith, eqb-true (length t) 10 p), omega (arith, z))
+      go false p true q e = let z : w ≡ 7 = cc in (omega (arith, eqb-true (length t) 17 q), omega (arith, z))
+      go false p false q e = cc
 
-  pub of-h : r ≡ serial_told (serial_h t) → r ≡ serial_told (serial_of 72 t)
-  unfolding serial_of
-  of-h e = e
+  pub h-good : Some w ≡ width_of Hexadecimal (length t) → (r : Option Serial) → r ≡ serial_told (read_hex t) → r ≡ serial_told (serial_of 72 t)
+  unfolding width_of serial_of serial_h
+  h-good e r h = go (eqb (length t) 8) (eqb (length t) 14) e
+    where
+      go : (a b : Bool) → Some w ≡ cond a (Some 4) (cond b (Some 7) None) → r ≡ serial_told (cond (a || b) (read_hex t) none)
+      go true b e = h
+      go false true e = h
+      go false false e = cc
 
-  pub of-d : r ≡ serial_told (serial_d t) → r ≡ serial_told (serial_of 68 t)
-  unfolding serial_of
-  of-d e = e
+  pub d-good : Some w ≡ width_of Decimal (length t) → (r : Option Serial) → r ≡ serial_told (within w (read_decimal 0 t)) → r ≡ serial_told (serial_of 68 t)
+  unfolding width_of serial_of serial_d
+  d-good e r h = go (eqb (length t) 10) (eqb (length t) 17) e
+    where
+      go : (a b : Bool) → Some w ≡ cond a (Some 4) (cond b (Some 7) None)
+          → r ≡ serial_told (cond a (within 4 (read_decimal 0 t)) (cond b (within 7 (read_decimal 0 t)) none))
+      go true b e = let z : w ≡ 4 = cc in rw z at h
+      go false true e = let z : w ≡ 7 = cc in rw z at h
+      go false false e = cc
 
 module _ (t : List ℕ) where
-  pub h-other : (length t ≡ 8 → ⊥) → (length t ≡ 14 → ⊥) → None ≡ serial_told (serial_h t)
-  unfolding serial_h
-  h-other k l = rw (ne_eqb (length t) 8 k, ne_eqb (length t) 14 l)
-
-  pub d-other : (length t ≡ 10 → ⊥) → (length t ≡ 17 → ⊥) → None ≡ serial_told (serial_d t)
-  unfolding serial_d
-  d-other k l = rw (ne_eqb (length t) 10 k, ne_eqb (length t) 17 l)
+  pub width-none : (s : Spelling) → None ≡ width_of s (length t) → None ≡ serial_told (serial_of (letter_of s) t)
+  unfolding width_of serial_of serial_h serial_d
+  width-none Hexadecimal e = go (eqb (length t) 8) (eqb (length t) 14) e
+    where
+      go : (a b : Bool) → ◌≡◌ {A = Option ℕ} None (cond a (Some 4) (cond b (Some 7) None)) → None ≡ serial_told (cond (a || b) (read_hex t) none)
+      go true b e = cc
+      go false true e = cc
+      go false false e = refl
+  width-none Decimal e = go (eqb (length t) 10) (eqb (length t) 17) e
+    where
+      go : (a b : Bool) → ◌≡◌ {A = Option ℕ} None (cond a (Some 4) (cond b (Some 7) None))
+          → None ≡ serial_told (cond a (within 4 (read_decimal 0 t)) (cond b (within 7 (read_decimal 0 t)) none))
+      go true b e = cc
+      go false true e = cc
+      go false false e = refl
 
   pub of_other : (c : ℕ) → None ≡ spelling_of c → serial_of c t ≡ none
   unfolding serial_of
@@ -195,18 +225,18 @@ module _ (l : List ℕ) (k : ℕ) (q : k ≡ length (before 59 l)) where
           go none h = refl
           go (some x) h = cc
 
-      pub form-cents : None ≡ number_told (amount_of (drop (k + 3) l)) → None ≡ form_told (entry_of l)
-      form-cents g = go (serial_of (get_or l (k + 1) 0) (take k l)) (amount_of (drop (k + 3) l)) g ∙ ap form_told (sym parted)
+      pub form-cents : (t : List ℕ) → None ≡ number_told (amount_of t) → t ≡ drop (k + 3) l → None ≡ form_told (entry_of l)
+      form-cents t g u = go (serial_of (get_or l (k + 1) 0) (take k l)) (amount_of (drop (k + 3) l)) (rw u at g) ∙ ap form_told (sym parted)
         where
           go : (o : Maybe (List ℕ)) (a : Maybe ℕ) → None ≡ number_told a → None ≡ form_told (entry (get_or l (k + 1) 0) o a)
           go none a g = refl
           go (some x) none g = refl
           go (some x) (some n) g = cc
 
-      pub form-good : (r : Serial) → Some r ≡ serial_told (serial_of (letter_of c) (take k l)) → (n d : ℕ) → Some n ≡ number_told (amount_of (drop (k + 3) l)) → d ≡ length (drop (k + 3) l)
+      formed-of : (r : Serial) → Some r ≡ serial_told (serial_of (letter_of c) (take k l)) → (n d : ℕ) → Some n ≡ number_told (amount_of (drop (k + 3) l)) → d ≡ length (drop (k + 3) l)
           → Some (record { serial = r; spelling = c; amount = n; digits = d }) ≡ form_told (entry_of l)
       unfolding card_for
-      form-good r h n d g p =
+      formed-of r h n d g p =
           go (serial_of (get_or l (k + 1) 0) (take k l)) (amount_of (drop (k + 3) l)) refl (here (Some r) h) g ∙ ap form_told (sym parted)
         where
           go : (o : Maybe (List ℕ)) (a : Maybe ℕ) → amount_of (drop (k + 3) l) ≡ a → Some r ≡ serial_told o → Some n ≡ number_told a
@@ -219,6 +249,10 @@ module _ (l : List ℕ) (k : ℕ) (q : k ≡ length (before 59 l)) where
               let i : d ≡ length (decimal y) = p ∙ ap length (sym (cents-text (drop (k + 3) l) y u)) in
               let b = (lettered (get_or l (k + 1) 0) c e).spelling in
               rw (v, b, z, i)
+
+      pub form-good : (r : Serial) → Some r ≡ serial_told (serial_of (letter_of c) (take k l)) → (n : ℕ) (t : List ℕ) → Some n ≡ number_told (amount_of t) → t ≡ drop (k + 3) l
+          → Some (record { serial = r; spelling = c; amount = n; digits = length t }) ≡ form_told (entry_of l)
+      form-good r h n t g u = formed-of r h n (length t) (rw u at g) (ap length u)
 
 -- the parts of a line, as the code lends them
 head-is : (l : List ℕ) (k : ℕ) → take (k - 0) l ≡ take k l
@@ -355,9 +389,27 @@ name-is w n h l =
         let u : 256 ^ w ≤ 72057594037927936 = pow-le-pow_right z {i = w} {j = 7} h in
         omega arith
 
-pub name-as : (w n : ℕ) → name_told w n ≡ to_le_bytes w64 (w % 256 + 256 * (n % 72057594037927936))
-unfolding name_told
-name-as w n = le_bytes-are (w % 256 + 256 * (n % 72057594037927936))
+-- the eight bytes of a name: that of the serial's length, and the seven lowest of its number
+pub name-as : (w n : ℕ) → name_told w n
+    ≡ w % 256 ∷ get_or (to_le_bytes w64 n) 0 0 ∷ get_or (to_le_bytes w64 n) 1 0 ∷ get_or (to_le_bytes w64 n) 2 0 ∷ get_or (to_le_bytes w64 n) 3 0
+    ∷ get_or (to_le_bytes w64 n) 4 0 ∷ get_or (to_le_bytes w64 n) 5 0 ∷ get_or (to_le_bytes w64 n) 6 0 ∷ []
+unfolding name_told bytes_of
+name-as w n =
+    let z : (w % 256 + 256 * (n % 72057594037927936)) / 256 ≡ n % 72057594037927936 = omega arith in
+    let y : (w % 256 + 256 * (n % 72057594037927936)) % 256 ≡ w % 256 = omega arith in
+    let a : n % 72057594037927936 / 256 / 256 ≡ n % 72057594037927936 / 65536 = omega arith in
+    let b : n % 72057594037927936 / 65536 / 256 ≡ n % 72057594037927936 / 16777216 = omega arith in
+    let c : n % 72057594037927936 / 16777216 / 256 ≡ n % 72057594037927936 / 4294967296 = omega arith in
+    let d : n % 72057594037927936 / 4294967296 / 256 ≡ n % 72057594037927936 / 1099511627776 = omega arith in
+    let e : n % 72057594037927936 / 1099511627776 / 256 ≡ n % 72057594037927936 / 281474976710656 = omega arith in
+    let p0 : n % 72057594037927936 % 256 ≡ n % 256 = omega arith in
+    let p1 : n % 72057594037927936 / 256 % 256 ≡ n / 256 % 256 = omega arith in
+    let p2 : n % 72057594037927936 / 65536 % 256 ≡ n / 65536 % 256 = omega arith in
+    let p3 : n % 72057594037927936 / 16777216 % 256 ≡ n / 16777216 % 256 = omega arith in
+    let p4 : n % 72057594037927936 / 4294967296 % 256 ≡ n / 4294967296 % 256 = omega arith in
+    let p5 : n % 72057594037927936 / 1099511627776 % 256 ≡ n / 1099511627776 % 256 = omega arith in
+    let p6 : n % 72057594037927936 / 281474976710656 % 256 ≡ n / 281474976710656 % 256 = omega arith in
+    simp (z, y, a, b, c, d, e, p0, p1, p2, p3, p4, p5, p6)
 
 pub amount-is : (n : ℕ) → amount_bytes n ≡ to_le_bytes w64 n
 unfolding amount_bytes
@@ -369,8 +421,8 @@ pub ruleset bytes_rules = (name-as, amount-is)
 -- what the answers of line_in need
 pub ruleset line_rules = (in-bound, in-long, in-open, in-room, in-good, in-bad)
 
--- what the answers of serial_h, serial_d and serial_of need
-pub ruleset serial_rules = (h-eight, h-fourteen, h-other, d-ten, d-seventeen, d-other, of-h, of-d)
+-- what the answers of Spelling's bytes need
+pub ruleset width_rules = (width-short, width-rest)
 
 -- what the answers of amount_of need
 pub ruleset cents_rules = (cents-none, cents-many, cents-idle, cents-good)
@@ -379,4 +431,4 @@ pub ruleset cents_rules = (cents-none, cents-many, cents-idle, cents-good)
 pub ruleset place_rules = (at-end, at-inside)
 
 -- what the answers of form_of need
-pub ruleset form_rules = (form-short, form-open, form-letter, form-serial, form-cents, form-good)
+pub ruleset form_rules = (form-short, form-open, form-letter, form-serial)

@@ -3,7 +3,7 @@ use Rattle.std.specs.Prelude.{ℕ, suc, ◌+◌, ◌*◌, ◌%◌, cond, List, [
 use Rattle.std.proofs.Math.Option.{Option as Maybe, none, some}
 use Rattle.spec.specs.Bytes.{occurs}
 use Rattle.spec.specs.Listing.{decimal}
-use Rattle.cardfile.specs.Cards.{Entry, letter_h, letter_d, number_of, bytes_of, before, entry_of}
+use Rattle.cardfile.specs.Cards.{Entry, letter_h, letter_d, digits_for, number_of, bytes_of, before, entry_of}
 use Rattle.cardfile.specs.declared.Spelling.{Spelling}
 use Rattle.cardfile.specs.declared.Spelling.TheVariants.{Hexadecimal, Decimal}
 use Rattle.cardfile.specs.declared.Serial.{Serial}
@@ -86,6 +86,14 @@ spelling_of letter = cond (eqb letter letter_h) (Some Hexadecimal) (cond (eqb le
 -- the spelling of an entry, whose letter is one of the two
 abbrev pub spelling_for : ℕ → Spelling
 spelling_for letter = cond (eqb letter letter_h) Hexadecimal Decimal
+
+-- how many digits spell a serial of so many bytes, and how many bytes so many digits spell
+abbrev pub digits_of : Spelling → ℕ → ℕ
+digits_of Hexadecimal width = 2 * width
+digits_of Decimal width = digits_for width
+
+unfoldable pub width_of : Spelling → ℕ → Option ℕ
+width_of spelling digits = cond (eqb digits (digits_of spelling 4)) (Some 4) (cond (eqb digits (digits_of spelling 7)) (Some 7) None)
 
 -- an entry with its amount's digits counted
 unfoldable pub card_for : Entry → Card

@@ -2,8 +2,8 @@
 #![tactic(auto)]
 
 ghost use Rattle.std.specs.Prelude.{◌≡◌, ◌+◌, ◌-◌, ◌*◌, ◌%◌, ◌<◌, ◌≤◌, ◌^◌, ◌==◌, min, position, length};
-ghost use Rattle.cardfile.specs.Cards.{before, digit_value, hex_value, hex_byte, read_hex, read_decimal, within, serial_h, serial_d, serial_of, amount_of, entry_of, amount_bytes};
-ghost use Rattle.cardfile.specs.Lines.{line_of, line_number, below, letter_of, spelling_of, line_fault_number, number_told, bytes_told, serial_told, form_told, line_in, line_at, name_told};
+ghost use Rattle.cardfile.specs.Cards.{before, digit_value, hex_value, hex_byte, read_hex, read_decimal, within, serial_of, amount_of, entry_of, amount_bytes};
+ghost use Rattle.cardfile.specs.Lines.{line_of, line_number, below, letter_of, spelling_of, digits_of, width_of, line_fault_number, number_told, bytes_told, serial_told, form_told, line_in, line_at, name_told};
 
 use spec::Limits;
 
@@ -25,7 +25,7 @@ impl Spelling {
         }
     }
 
-    // The spelling of the lines with a letter.
+    // The spelling of the lines with a letter. No TryFrom<u8>: it is no plainer, since its error would tell nothing, and form_of would drop it by ok().
     fn of_letter(letter: u8) -> Option<Spelling>
         ensures { result ≡ spelling_of letter }
     {
@@ -34,6 +34,29 @@ impl Spelling {
             b'D' => Some(Spelling::Decimal),
             _ => None,
         }
+    }
+
+    // How many digits spell a serial of so many bytes.
+    pub fn digits(self, bytes: usize) -> usize
+        requires { bytes ≤ 7 }
+        ensures { (result ≡ digits_of self bytes) × (result ≤ 17) }
+    {
+        match self {
+            Spelling::Hexadecimal => 2 * bytes,
+            Spelling::Decimal if bytes == Serial::SHORT => Serial::SHORT_DECIMAL,
+            Spelling::Decimal => Serial::LONG_DECIMAL,
+        }
+    }
+
+    // How many bytes a serial has that so many digits spell.
+    #[tactic(auto, using(crate::proofs::Forms::width_rules))]
+    fn bytes(self, digits: usize) -> Option<usize>
+        ensures { result ≡ width_of self digits }
+    {
+        if digits == self.digits(Serial::SHORT) {
+            return Some(Serial::SHORT);
+        }
+        (digits == self.digits(Serial::LONG)).then_some(Serial::LONG)
     }
 }
 
@@ -46,21 +69,14 @@ pub struct Serial {
 }
 
 impl Serial {
-    // "8 or 14 hexadecimal digits", "10 digits for four bytes and 17 for seven"
+    // "8 or 14 hexadecimal digits", two for each byte, "10 digits for four bytes and 17 for seven"
     pub const SHORT: usize = 4;
 
     pub const LONG: usize = 7;
 
-    pub const SHORT_HEX: usize = 8;
-
-    pub const LONG_HEX: usize = 14;
-
     pub const SHORT_DECIMAL: usize = 10;
 
     pub const LONG_DECIMAL: usize = 17;
-
-    // One more than seven bytes hold.
-    pub const LONG_LIMIT: u64 = 72057594037927936;
 }
 
 // What a line says. The amount's digits are its last bytes.
@@ -89,7 +105,7 @@ impl Line {
     pub const LENGTH: usize = 64;
 
     // One more: so far a feed is looked for.
-    pub const SEEN: usize = 65;
+    pub const SEEN: usize = Line::LENGTH + 1;
 }
 
 // Why a line has no card: "longer than 64 bytes", "not of this form or without its feed". Each is its refusal's number: these alone tell 20 and 21.
@@ -108,7 +124,7 @@ impl LineFault {
     }
 }
 
-// The place of the first x: in a function of its own, where the proof finds what std's position answers; within `until` it did not.
+// The place of the first x: in a function of its own, since within `until` what std's position answers stays open in `returns`.
 // Transaction searches its cells so: the one crate below both is spec, which has no code but its types', so each keeps its one line.
 fn place_of(s: &[u8], x: u8) -> Option<usize>
     ensures { result ≡ position (λ c. c == x) s.now }
@@ -136,21 +152,17 @@ fn line_length(rest: &[u8]) -> usize
 fn digit_value(c: u8) -> Option<u64>
     ensures { result ≡ below 10 (digit_value c) }
 {
-    match c {
-        b'0'..=b'9' => Some(u64::from(c - b'0')),
-        _ => None,
-    }
+    char::from(c).to_digit(10).map(u64::from)
 }
 
-// A hexadecimal digit's value.
-#[tactic(auto, using(crate::proofs::Laws::digit_rules))]
+// A hexadecimal digit's value: of capitals alone, where std's to_digit takes small letters too.
+#[tactic(auto, using(crate::proofs::Laws::hex_digit_rules))]
 fn hex_value(c: u8) -> Option<u64>
     ensures { result ≡ below 16 (hex_value c) }
 {
     match c {
-        b'0'..=b'9' => Some(u64::from(c - b'0')),
         b'A'..=b'F' => Some(10 + u64::from(c - b'A')),
-        _ => None,
+        _ => digit_value(c),
     }
 }
 
@@ -175,7 +187,8 @@ fn decimal_number(t: &[u8]) -> Option<u64>
     Some(n)
 }
 
-// The number of the bytes that hexadecimal digits spell, from the last byte on.
+// The number of the bytes that hexadecimal digits spell, from the last byte on. By u64's from_le_bytes it is no plainer: eight bytes beside it, and a loop that fills
+// four or seven of them.
 #[tactic(auto, using(crate::proofs::Laws::hex_rules))]
 fn hex_number(t: &[u8]) -> Option<u64>
     requires { (length t.now % 2 ≡ 0) × (length t.now ≤ 14) }
@@ -198,18 +211,6 @@ fn hex_serial(t: &[u8], bytes: usize) -> Option<Serial>
     Some(Serial { bytes, number })
 }
 
-// The serial of an H line.
-#[tactic(auto, using(crate::proofs::Forms::serial_rules))]
-fn serial_h(t: &[u8]) -> Option<Serial>
-    ensures { result ≡ serial_told (serial_h t.now) }
-{
-    match t.len() {
-        Serial::SHORT_HEX => hex_serial(t, Serial::SHORT),
-        Serial::LONG_HEX => hex_serial(t, Serial::LONG),
-        _ => None,
-    }
-}
-
 // The serial that decimal digits spell, if its bytes hold the number.
 #[tactic(auto, using(crate::proofs::Laws::within_rules))]
 fn decimal_serial(t: &[u8], bytes: usize) -> Option<Serial>
@@ -220,26 +221,14 @@ fn decimal_serial(t: &[u8], bytes: usize) -> Option<Serial>
     (number < 256u64.pow(bytes as u32)).then_some(Serial { bytes, number })
 }
 
-// The serial of a D line.
-#[tactic(auto, using(crate::proofs::Forms::serial_rules))]
-fn serial_d(t: &[u8]) -> Option<Serial>
-    ensures { result ≡ serial_told (serial_d t.now) }
-{
-    match t.len() {
-        Serial::SHORT_DECIMAL => decimal_serial(t, Serial::SHORT),
-        Serial::LONG_DECIMAL => decimal_serial(t, Serial::LONG),
-        _ => None,
-    }
-}
-
 // The serial of a line in this spelling.
-#[tactic(auto, using(crate::proofs::Forms::serial_rules))]
 fn serial_of(t: &[u8], spelling: Spelling) -> Option<Serial>
     ensures { result ≡ serial_told (serial_of (letter_of spelling) t.now) }
 {
+    let bytes = spelling.bytes(t.len())?;
     match spelling {
-        Spelling::Hexadecimal => serial_h(t),
-        Spelling::Decimal => serial_d(t),
+        Spelling::Hexadecimal => hex_serial(t, bytes),
+        Spelling::Decimal => decimal_serial(t, bytes),
     }
 }
 
@@ -348,14 +337,15 @@ pub fn line_number(text: &[u8], at: usize) -> usize
     1 + text[..end].iter().filter(|c| **c == b'\n').count()
 }
 
-// The name of a card (that of a record is read by crate inode): the number of its serial's bytes, these bytes, zeros.
+// The name of a card (that of a record is read by crate inode): the number of its serial's bytes, these bytes, zeros. The number is taken modulo 256, since `as` takes
+// only what fits.
 #[tactic(auto, using(crate::proofs::Forms::bytes_rules))]
 pub fn name_of(card: Card) -> [u8; Limits::NAME_SIZE]
     ensures { result ≡ name_told card.serial.bytes card.serial.number }
 {
     let bytes = card.serial.bytes % 256;
-    let number = card.serial.number % Serial::LONG_LIMIT;
-    (bytes as u64 + 256 * number).to_le_bytes()
+    let b = card.serial.number.to_le_bytes();
+    [bytes as u8, b[0], b[1], b[2], b[3], b[4], b[5], b[6]]
 }
 
 // What its file holds.

@@ -17,8 +17,10 @@ use Rattle.spec.specs.Transaction.{view, state_of, put, stage, staged_of, with_s
 use Rattle.lists.specs.Tests.{eqb-turn}
 use Rattle.block.specs.Stores.{stored_in}
 use Rattle.block.proofs.Laws.{length-exactly, get_or-exactly, exactly-all, block-is, with-same, same_self, same_true}
-use Rattle.block.proofs.Steps.{slice-stored}
+use Rattle.spec.specs.declared.DiskBlock.{DiskBlock}
 use Rattle.transaction.specs.Places.{spot, blocks_with}
+use Rattle.transaction.specs.Images.{session_of_image, state_of_image, work_of_image, image_in, Same}
+use Rattle.transaction.specs.declared.image.Image.{Image}
 use Rattle.transaction.proofs.Laws.{stage-leaves}
 use Rattle.inode.specs.Records.{bytes_in}
 use Rattle.content.specs.Content.{with_record}
@@ -125,14 +127,21 @@ ready-loaded g old was work j k e fits is =
       made = ap g (sym (block-is work k ∙ exactly-all 512 (take 512 (drop (512 * k) work)) l) ∙ ap (λ (u : Slice). u.block k) loaded ∙ with-same k old (blocks_of was));
     }
 
--- a content made in an image that is ready for it, in the part that is lent: its block is staged with what it makes of the block
-pub image-staged : (s q : Session) (device was w : List ℕ) (b k : ℕ) (g : List ℕ → List ℕ) (y : List ℕ) → k ≡ spot (staged_in s) b → 512 * k + 512 ≤ length w
-    → Ready g (view (state_of s device was) b) was w k → y ≡ g (take (512 * k + 512 - 512 * k) (drop (512 * k) w)) → length y ≡ 512
-    → (left : List ℕ) → left ≡ take (512 * k) w ++ (y ++ drop (512 * k + 512 - 512 * k) (drop (512 * k) w)) → q ≡ with_staged s (blocks_with (staged_in s) b)
-    → state_of q device left ≡ with_staging (state_of s device was) (stage (staged_of (state_of s device was)) (put b (g (view (state_of s device was) b))))
-image-staged s q device was w b k g y e fits ready ey l left el eq =
-    let x = g (view (state_of s device was) b) in
-    let z : 512 * k + 512 - 512 * k ≡ 512 = omega arith in
-    let yx : y ≡ x = ey ∙ ap (λ (n : ℕ). g (take n (drop (512 * k) w))) z ∙ ready.made in
-    let m : length x ≡ 512 = sym (ap length yx) ∙ l in
-    stage-leaves s q device was left b k x e (ap slice_of el ∙ slice-stored k x y w yx m fits ∙ ready.around x) eq
+-- a content made in an image m that is ready for it as r, in place as e, and its block put among the staged ones as q: the block is staged with what it makes of the block
+pub image-staged : (m r e q : Image) (g : List ℕ → List ℕ)
+    → Same m r → session_of_image r ≡ session_of_image m → Ready g (view (state_of_image m) m.block.0) (work_of_image m) (work_of_image r) m.place
+    → Same r e → session_of_image e ≡ session_of_image r → slice_of (work_of_image e) ≡ stored_in (slice_of (work_of_image r)) r.place (g (image_in r.place (work_of_image r)))
+    → Same e q → work_of_image q ≡ work_of_image e → session_of_image q ≡ with_staged (session_of_image e) (blocks_with (staged_in (session_of_image e)) e.block.0)
+    → state_of_image q ≡ with_staging (state_of_image m) (stage (staged_of (state_of_image m)) (put m.block.0 (g (view (state_of_image m) m.block.0))))
+image-staged m r e q g mr sr ready re se edit eq work staged =
+    let l = m.images.now.lent.now in
+    let x = g (view (state_of_image m) m.block.0) in
+    let laid : slice_of (work_of_image q) ≡ stored_in (slice_of (work_of_image m)) m.place x =
+    ap slice_of work ∙ edit ∙ ap (λ (k : ℕ). stored_in (slice_of (work_of_image r)) k (g (image_in k (work_of_image r)))) mr.place
+    ∙ ap (stored_in (slice_of (work_of_image r)) m.place) ready.made ∙ ready.around x
+    in
+    let session : session_of_image q ≡ with_staged (session_of_image m) (blocks_with (staged_in (session_of_image m)) m.block.0) =
+    staged ∙ ap₂ (λ (s : Session) (d : DiskBlock). with_staged s (blocks_with (staged_in s) d.0)) (se ∙ sr) (re.block ∙ mr.block)
+    in
+    ap (λ (d : List ℕ). state_of (session_of_image q) d (work_of_image q)) (eq.parts.parts.device ∙ re.parts.parts.device ∙ mr.parts.parts.device)
+    ∙ stage-leaves (session_of_image m) (session_of_image q) l.device.now (work_of_image m) (work_of_image q) m.block.0 m.place x m.own laid session

@@ -4,3 +4,4 @@ pub mod Outside
 pub mod Places
 pub mod Staging
 pub mod Steps
+pub mod Heads

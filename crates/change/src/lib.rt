@@ -46,28 +46,6 @@ fn edit_block(block: &mut [u8; Limits::BLOCK_SIZE], plan: &Plan, content: Conten
     }
 }
 
-// The same in the block's image, which is a slice of 512 bytes: std's array of a part of the work space tells nothing of what is written back.
-fn edit_image(image: &mut [u8], plan: &Plan, content: Content)
-    requires { length image.old ≡ 512 }
-    ensures { image.new ≡ content_of plan.now.number.n (change_of plan.now) content image.old }
-{
-    let Some(block) = image.as_mut_array() else {
-        unreachable!()
-    };
-    edit_block(block, plan, content);
-}
-
-// The first bytes of record i replaced in the image of its block. No closure for this and `edit_image` in one: the contract of each would stand again at it.
-fn lay_in_image(image: &mut [u8], i: InodeNumber, new: RecordPrefix)
-    requires { length image.old ≡ 512 }
-    ensures { image.new ≡ with_record i.n new.entry.bytes.now image.old }
-{
-    let Some(block) = image.as_mut_array() else {
-        unreachable!()
-    };
-    lay_record(block, i.n, new);
-}
-
 // Whether these bytes stand at a place of a block, which may be cut short.
 fn same_at(block: &[u8], at: usize, bytes: &[u8]) -> bool
     requires { at + length bytes.now ≤ 512 }
@@ -292,12 +270,9 @@ fn stage_image(image: &mut Image, plan: &Plan, content: Content)
         ≡ with_staging (state_of_image image.old) (stage (staged_of (state_of_image image.old))
         (put image.old.block.0 (content_of plan.now.number.n (change_of plan.now) content (view (state_of_image image.old) image.old.block.0)))) }
 {
-    let at = Limits::BLOCK_SIZE * image.place;
     ready_image(image, plan.data.held, content);
-    let images = &mut *image.images;
-    let lent = &mut *images.lent;
-    let work = &mut *lent.work;
-    edit_image(&mut work[at..at + Limits::BLOCK_SIZE], plan, content);
+    let make = |block: &mut [u8; Limits::BLOCK_SIZE]| edit_block(block, plan, content);
+    image.edit(make);
     image.add();
 }
 
@@ -328,12 +303,9 @@ pub fn stage_record(image: &mut Image, i: InodeNumber, new: RecordPrefix)
         ≡ with_staging (state_of_image image.old) (stage (staged_of (state_of_image image.old))
         (put (block_of_inode i.n) (with_record i.n new.entry.bytes.now (view (state_of_image image.old) (block_of_inode i.n))))) }
 {
-    let at = Limits::BLOCK_SIZE * image.place;
     image.load();
-    let images = &mut *image.images;
-    let lent = &mut *images.lent;
-    let work = &mut *lent.work;
-    lay_in_image(&mut work[at..at + Limits::BLOCK_SIZE], i, new);
+    let lay = |block: &mut [u8; Limits::BLOCK_SIZE]| lay_record(block, i.n, new);
+    image.edit(lay);
     image.add();
 }
 

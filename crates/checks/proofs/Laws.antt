@@ -1,13 +1,19 @@
 -- The cases of the tests at the head of a call. Assumes nothing.
 use Prim.Native.Nat.{ℕ, ◌*◌, ◌≤◌}
-use mathlib.Core.Path.{◌≡◌, refl, sym, ◌∙◌}
-use mathlib.Core.Bool.{Bool, true, false, ◌&&◌}
+use mathlib.Core.Path.{◌≡◌, refl, sym, ap, ◌∙◌}
+use mathlib.Core.Bool.{Bool, true, false, not, ◌&&◌}
 use mathlib.Core.List.{List}
-use borrow.Author.Tests.{eqb-true, leb-true}
+use borrow.Author.Tests.{eqb-true, eq-eqb, ne_eqb, leb-true}
 use lib.Dec.{eqb, leb}
 use lib.ListN.{length, take}
+use Rattle.std.specs.Borrow.{Bor}
+use Rattle.std.specs.Prelude.{Option, Some, None, MatchOption}
+use Rattle.std.specs.Array.{IsWholeChunk}
+use Rattle.spec.specs.Bytes.{all_zero}
 use Rattle.spec.specs.Disk.{is_allowed}
 use Rattle.spec.specs.Inode.{is_name}
+use Rattle.block.specs.Keys.{key_of}
+use Rattle.block.proofs.Keys.{zero-key}
 use Rattle.spec.specs.declared.Phase.{Phase}
 use Rattle.spec.specs.declared.Session.{Session}
 use Rattle.spec.specs.declared.Refusal.{Refusal}
@@ -102,3 +108,12 @@ module _ (s : Session) (d w name : List ℕ) where
 -- what is told of a session and an answer
 pub told : (q s : Session) (a b : Answer) (d w : List ℕ) (o : Outcome) → q ≡ s → a ≡ b → left s d w b ≡ o → left q d w a ≡ o
 told q s a b d w o e f g = rw (e, f) g
+
+-- ---- 3
+
+-- the test of eight bytes, if there are eight: Q is what it tells
+pub name-test : (xs : List ℕ) (o : Option (Bor (List ℕ))) (r : Bool) (Q : Bor (List ℕ) → Type 0) → MatchOption o (length xs ≡ 8 → ⊥) (λ y. IsWholeChunk xs y.now 8)
+    → MatchOption o (r ≡ false) Q → ((y : Bor (List ℕ)) → Q y → r ≡ not (eqb (key_of y.now) 0)) → r ≡ is_name xs
+unfolding is_name
+name-test xs None r Q n q h = q ∙ sym (rw (ne_eqb (length xs) 8 n))
+name-test xs (Some y) r Q n q h = h y q ∙ rw (eq-eqb (length xs) 8 n.long) (ap not (zero-key y.now (key_of y.now) refl ∙ ap all_zero n.same))

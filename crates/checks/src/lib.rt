@@ -21,9 +21,9 @@ use transaction::Volume;
 pub fn is_allowed(size: usize) -> bool
     ensures { result ≡ is_allowed size }
 {
+    let blocks = size / Limits::BLOCK_SIZE;
     size % Limits::BLOCK_SIZE == 0
-        && Limits::FEWEST_BLOCKS <= size / Limits::BLOCK_SIZE
-        && size / Limits::BLOCK_SIZE <= Limits::MOST_BLOCKS
+        && (Limits::FEWEST_BLOCKS..=Limits::MOST_BLOCKS).contains(&blocks)
 }
 
 // "the N of the session"
@@ -77,10 +77,7 @@ pub fn ready(volume: &Volume) -> Result<(), Refusal>
 pub fn is_name(name: &[u8]) -> bool
     ensures { result ≡ is_name name.now }
 {
-    match name.as_array() {
-        Some(name) => key_of(name) != 0,
-        None => false,
-    }
+    name.as_array().is_some_and(|name| key_of(name) != 0)
 }
 
 // 1, 2, 3 and 12

@@ -19,7 +19,7 @@ use Rattle.spec.specs.declared.Extent.{Extent}
 use Rattle.spec.specs.Inode.{extent, bytes_of_slots}
 use Rattle.spec.specs.Plan.{overlay, clear_tail, is_last_kept}
 use Rattle.spec.specs.declared.FileBlock.{FileBlock}
-use Rattle.std.specs.Prelude.{Option, Some, None}
+use Rattle.std.specs.Prelude.{Option, Some, None, MatchOption}
 use Rattle.content.specs.Content.{with_record, node_content, laid_over, last_kept, kept_content, data_content}
 
 -- ---- a record
@@ -229,8 +229,14 @@ kept-at old size p = go (ltb size old && not (eqb (size % 512) 0))
     go true = refl
     go false = refl
 
-pub kept-some : (old size p : ℕ) (k : FileBlock) → Some k ≡ last_kept old size → eqb p k.0 ≡ is_last_kept old size p
-kept-some old size p k e = ap (λ (o : Option FileBlock). is_at o p) e ∙ kept-at old size p
+-- the test of the place that was found, if any: Q is what a test of it tells
+pub kept-test : (old size p : ℕ) (o : Option FileBlock) (r : Bool) (Q : FileBlock → Type 0) → o ≡ last_kept old size → MatchOption o (r ≡ false) Q
+    → ((k : FileBlock) → Q k → r ≡ eqb p k.0) → r ≡ is_last_kept old size p
+kept-test old size p o r Q e m h = go o m ∙ ap (λ (o : Option FileBlock). is_at o p) e ∙ kept-at old size p
+  where
+    go : (o : Option FileBlock) → MatchOption o (r ≡ false) Q → r ≡ is_at o p
+    go None m = m
+    go (Some k) m = h k m
 
 pub kept-none : (old size p : ℕ) → ◌≡◌ {A = Option FileBlock} None (last_kept old size) → false ≡ is_last_kept old size p
 kept-none old size p e = ap (λ (o : Option FileBlock). is_at o p) e ∙ kept-at old size p

@@ -1,6 +1,11 @@
 -- Laws of the bytes of a file record. Assumes nothing.
 use Prim.Native.Nat.{ℕ, zero, suc, ◌+◌, ◌*◌, ◌/◌, ◌%◌, ◌<◌, ◌≤◌}
-use mathlib.Core.Path.{◌≡◌, refl, sym, ap, ◌∙◌}
+use mathlib.Core.Path.{◌≡◌, refl, sym, ap, subst, ◌∙◌}
+use mathlib.Core.Logic.{⊎_elim}
+use native.Mathlib.Nat.{eq-or-lt_of_le}
+use denote.Param.Members.{Mut}
+use Rattle.std.specs.Fn.{Called}
+use Rattle.std.specs.Array.{IsFromFnResult, IsFromFnResultFrom}
 use mathlib.Core.Bool.{Bool, true, false, cond}
 use mathlib.Core.List.{List, [], ◌∷◌, ◌++◌, append_assoc, append-nil}
 use native.Mathlib.Omega.{arith}
@@ -155,6 +160,32 @@ module _ (t : Tree) (n z q : List ℕ) (d size : ℕ) (a b c e : Extent) where
   record_is ez ed qa qb qc qe eq =
       eq ∙ rw (ez, ed, qa, qb, qc, qe)
       (ap (λ (xs : List ℕ). n ++ (bytes4 size ++ (length (levels_in t) ∷ 0 ∷ 0 ∷ 0 ∷ xs))) (sym (four-slots (top_slots (levels_in t) t.extents))))
+
+-- the four slots, made one after the other
+module _ {F : Type 0} {g : Mut F (ℕ × Unit {0}) Extent} (slots : List Extent) (f : F)
+    (told : (i : ℕ) (t : Extent) (q : F) → Called g f (i, tt) t q → (q ≡ f) × (t ≡ get_or slots i (extent 0 0))) where
+  slot-made : (q : List Extent) (n a i : ℕ) → IsFromFnResultFrom g f q a n → a ≤ i → i < a + n → get_or q i (extent 0 0) ≡ get_or slots i (extent 0 0)
+  slot-made q zero a i h lo up = absurd (omega arith)
+  slot-made q (suc n) a i h lo up = ⊎_elim
+      (λ (e : a ≡ i). ap (λ k. get_or q k (extent 0 0)) (sym e) ∙ h.2.1 (extent 0 0) ∙ (told a h.1 h.0 h.3).1 ∙ ap (λ k. get_or slots k (extent 0 0)) e)
+      (λ (l : a < i). slot-made q n (a + 1) i (subst (λ p. IsFromFnResultFrom g p q (a + 1) n) (told a h.1 h.0 h.3).0 h.4) (omega arith) (omega arith))
+      (eq-or-lt_of_le lo)
+
+  four : (q : List Extent) → length q ≡ 4 → q ≡ get_or q 0 (extent 0 0) ∷ get_or q 1 (extent 0 0) ∷ get_or q 2 (extent 0 0) ∷ get_or q 3 (extent 0 0) ∷ []
+  four (a ∷ b ∷ c ∷ d ∷ []) l = refl
+  four [] l = absurd (omega (arith, l))
+  four (a ∷ []) l = absurd (omega (arith, l))
+  four (a ∷ b ∷ []) l = absurd (omega (arith, l))
+  four (a ∷ b ∷ c ∷ []) l = absurd (omega (arith, l))
+  four (a ∷ b ∷ c ∷ d ∷ x ∷ xs) l = absurd (omega (arith, l))
+
+  pub slots-made : (q : List Extent) → IsFromFnResult g f q 4
+      → q ≡ get_or slots 0 (extent 0 0) ∷ get_or slots 1 (extent 0 0) ∷ get_or slots 2 (extent 0 0) ∷ get_or slots 3 (extent 0 0) ∷ []
+  slots-made q h =
+      let at = λ (i : ℕ) (l : i < 4). slot-made q 4 0 i h.each (omega arith) l in
+      let e = four q h.long in
+      let a = at 0 (omega arith) in let b = at 1 (omega arith) in let c = at 2 (omega arith) in let d = at 3 (omega arith) in
+      e ∙ rw (a, b, c, d) refl
 
 -- a tree and its parts
 module _ (table : List ℕ) (extents : List Extent) (nodes : List ℕ) (before held : ℕ) where

@@ -121,12 +121,7 @@ pub fn record_bytes(
     requires { counts extents.now < 4294967296 }
     ensures { result ≡ bytes_of_inode (inode_with name size extents.now (levels_in (tree_of extents.now nodes.now))) }
 {
-    let slots = [
-        top_slot(extents, nodes, 0),
-        top_slot(extents, nodes, 1),
-        top_slot(extents, nodes, 2),
-        top_slot(extents, nodes, 3),
-    ];
+    let slots = std::array::from_fn(|k| top_slot(extents, nodes, k));
     joined(name, size.to_le_bytes(), depth_of(nodes), &slots)
 }
 
@@ -177,10 +172,7 @@ impl Rewrite<'_> {
     fn is_last_kept(&self, p: DataBlock) -> bool
         ensures { result ≡ is_last_kept self.now.old self.now.size p.0 }
     {
-        match self.last_kept() {
-            Some(k) => p.0 as usize == k.0,
-            None => false,
-        }
+        self.last_kept().is_some_and(|k| p.0 as usize == k.0)
     }
 
     // "each data block holding a byte of the data"

@@ -15,7 +15,7 @@ use borrow.Author.Tests.{eq-eqb, ne_eqb, lt-ltb, le-ltb, le-leb, lt-leb, leb-tru
 use Rattle.spec.specs.Answers.{refused}
 use Rattle.spec.specs.Listing.{decimal, hexadecimal}
 use Rattle.cardfile.specs.Cards.{Entry, letter_h, letter_d, number_of, bytes_of, padded, digits_for, spell, before, entry_of}
-use Rattle.cardfile.specs.Lines.{split_lines, letter_of, spelling_for, card_for, line_at, line_fault_number}
+use Rattle.cardfile.specs.Lines.{split_lines, letter_of, digits_of, spelling_for, card_for, line_at, line_fault_number}
 use Rattle.cardfile.specs.declared.Card.{Card}
 use Rattle.cardfile.specs.declared.Spelling.{Spelling}
 use Rattle.cardfile.specs.declared.Spelling.TheVariants.{Hexadecimal, Decimal}
@@ -174,6 +174,11 @@ together t ds c =
     let y = length-append (t ++ (59 ∷ c ∷ 59 ∷ ds)) (10 ∷ []) in
     let z = length-append t (59 ∷ c ∷ 59 ∷ ds) in
     omega arith
+
+-- the digits that the code counts are those of the wanted letter
+pub size-is : (s : Spelling) (b : ℕ) → digits_of s b ≡ spelt_size (letter_of s) b
+size-is Hexadecimal b = refl
+size-is Decimal b = refl
 
 line-size : (w : ℕ) (s ds : List ℕ) → length (line_with w s ds) ≡ spelt_size w (length s) + length ds + 4
 unfolding line_with

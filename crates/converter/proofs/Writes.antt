@@ -4,7 +4,7 @@ use mathlib.Core.Path.{◌≡◌, refl, sym, ap, ◌∙◌}
 use mathlib.Core.Bool.{Bool, true, false, cond}
 use mathlib.Core.List.{List, [], ◌∷◌, ◌++◌, append_assoc}
 use mathlib.Core.Option.{some}
-use Rattle.std.specs.Prelude.{Some, None, Result, Ok, Err}
+use Rattle.std.specs.Prelude.{Option, Some, None, Result, Ok, Err}
 use native.Mathlib.Omega.{arith}
 use native.Mathlib.Nat.{div-div-eq-div-mul, pow-succ', one-le-pow}
 use lib.ListN.{length, take, drop, length-append, take-append-drop}
@@ -17,7 +17,7 @@ use Rattle.text.specs.declared.Writer.{Writer}
 use Rattle.text.specs.Written.{Written, Put}
 use Rattle.text.proofs.Laws.{put_then, put_as, Left, left-start, left_step, left_end, laid-front}
 use Rattle.cardfile.specs.Cards.{Entry, bytes_of, name_of, padded, digits_for, spell, line_text, before}
-use Rattle.cardfile.specs.Lines.{split_lines, letter_of, line_at, line_fault_number, name_told}
+use Rattle.cardfile.specs.Lines.{split_lines, letter_of, digits_of, line_at, line_fault_number, name_told}
 use Rattle.cardfile.specs.declared.Card.{Card}
 use Rattle.cardfile.specs.declared.Spelling.{Spelling}
 use Rattle.cardfile.specs.declared.Spelling.TheVariants.{Hexadecimal, Decimal}
@@ -90,15 +90,9 @@ module _ (b n : ℕ) (k : b ≤ 7) (l : n < 256 ^ b) where
       let y : length (bytes_of b n) ≤ 7 = omega (arith, length-bytes b n) in
       rw (q, name-is b n k l, z) (ap hexadecimal (exactly-front 7 (bytes_of b n) y))
 
-  spell-d : padded (digits_for b) n ≡ spell (letter_of Decimal) (bytes_of b n)
+  pub spell-d : padded (digits_of Decimal b) n ≡ spell (letter_of Decimal) (bytes_of b n)
   unfolding spell
   spell-d = rw (length-bytes b n, number-bytes b n l)
-
-  pub spell-four : b ≡ 4 → padded 10 n ≡ spell (letter_of Decimal) (bytes_of b n)
-  spell-four q = ap (λ (j : ℕ). padded j n) (sym (rw (eq-eqb b 4 q))) ∙ spell-d
-
-  pub spell-seven : (b ≡ 4 → ⊥) → padded 17 n ≡ spell (letter_of Decimal) (bytes_of b n)
-  spell-seven q = ap (λ (j : ℕ). padded j n) (sym (rw (ne_eqb b 4 q))) ∙ spell-d
 
 -- ---- a line
 
@@ -163,6 +157,12 @@ module _ (w : ℕ) (text : List ℕ) (p₀ p : Writer) (at : ℕ) (q : Putting w
 
   pub put-fault : (r : Result Line LineFault) → Some r ≡ line_shown (line_at text at) → (f : LineFault) → r ≡ Err f → Put p₀ p (output_of (convert_file w text))
   put-fault r e f h = not-refused (line_fault_number f) (line-fault w text at f (shown-fault text at f (sym e ∙ ap Some h)) 1)
+
+  -- where no card is found, all is written
+  pub put-last : (o : Option (Result Line LineFault)) → o ≡ line_shown (line_at text at) → ((x : Line) → o ≡ Some (Ok x) → ⊥) → Put p₀ p (output_of (convert_file w text))
+  put-last None e h = put-end e
+  put-last (Some (Ok x)) e h = absurd (h x refl)
+  put-last (Some (Err f)) e h = put-fault (Err f) e f refl
 
 -- the card of the next line
 pub put-card : (w : ℕ) (text : List ℕ) (s t : Lines) (r : Result Line LineFault) → s.text.now ≡ text → LineStep s (Some r) t → (x : Line) → r ≡ Ok x → Next w text s.at x.card x.next

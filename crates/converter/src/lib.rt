@@ -8,7 +8,7 @@ ghost use Rattle.cardfile.specs.Cards.{bytes_of, padded, spell};
 ghost use Rattle.cardfile.specs.Lines.{letter_of};
 ghost use Rattle.text.specs.Written.{Written, Put};
 ghost use Rattle.converter.specs.Convert.{line_with, Conversion, output, onto, convert_file, left_buffer, convert, converted_of};
-ghost use Rattle.converter.specs.Passes.{answer_behind, answer_for, card_told, output_of, spelt_size};
+ghost use Rattle.converter.specs.Passes.{answer_behind, answer_for, card_told, output_of};
 
 use cardfile::{Card, Line, LineFault, Lines, Serial, Spelling, name_of};
 use text::Writer;
@@ -49,18 +49,6 @@ impl ConvertFault {
 
 // ---- the first pass: every line is tested, and the output counted
 
-// How many digits spell a serial of so many bytes.
-fn spelt_size(bytes: usize, wanted: Spelling) -> usize
-    requires { bytes ≤ 7 }
-    ensures { (result ≡ spelt_size (letter_of wanted) bytes) × (result ≤ 17) }
-{
-    match wanted {
-        Spelling::Hexadecimal => 2 * bytes,
-        Spelling::Decimal if bytes == Serial::SHORT => Serial::SHORT_DECIMAL,
-        Spelling::Decimal => Serial::LONG_DECIMAL,
-    }
-}
-
 // More of an output, for a buffer of so many bytes: how many bytes it then has, none where they do not fit.
 fn count_more(room: Option<usize>, size: usize, most: usize) -> Option<usize>
     ensures more { (t : List ℕ) (c : Conversion) → length t ≡ size → answer_behind most room (onto t c) ≡ answer_behind most result c }
@@ -89,7 +77,7 @@ fn test_lines(text: &[u8], wanted: Spelling, most: usize) -> Result<usize, Conve
         if card.spelling == wanted {
             return Err(ConvertFault::SameSpelling(line));
         }
-        let size = spelt_size(card.serial.bytes, wanted) + card.digits + SIGNS;
+        let size = wanted.digits(card.serial.bytes) + card.digits + SIGNS;
         room = count_more(room, size, most);
     }
     room.ok_or(ConvertFault::TooSmall)
@@ -97,7 +85,7 @@ fn test_lines(text: &[u8], wanted: Spelling, most: usize) -> Result<usize, Conve
 
 // ---- the second pass: every line is written
 
-// The last digits of a number, so many of them, the highest first.
+// The last digits of a number, so many of them, the highest first: one by one, since of core's `write!` holds what stands at text's put_number.
 fn put_padded(w: &mut Writer, count: usize, n: u64)
     requires { count ≤ 17 }
     ensures { Put w.old w.new (padded count n) }
@@ -121,10 +109,7 @@ fn put_serial(w: &mut Writer, card: Card, wanted: Spelling)
             let name = name_of(card);
             w.put_hex(&name[1..bytes + 1]);
         }
-        Spelling::Decimal if bytes == Serial::SHORT => {
-            put_padded(w, Serial::SHORT_DECIMAL, number);
-        }
-        Spelling::Decimal => put_padded(w, Serial::LONG_DECIMAL, number),
+        Spelling::Decimal => put_padded(w, wanted.digits(bytes), number),
     }
 }
 
@@ -147,11 +132,8 @@ fn put_cards(out: &mut [u8], text: &[u8], wanted: Spelling) -> usize
     ensures { Written out.old 0 (output_of (convert_file (letter_of wanted) text.now)) out.new result }
 {
     let mut w = Writer::new(out);
-    for found in Lines::of(text) {
-        // A file that is not refused has no fault.
-        let Ok(found) = found else {
-            break;
-        };
+    // A file that is not refused has no fault.
+    for found in Lines::of(text).map_while(Result::ok) {
         let end = found.next - 1;
         let from = end - found.card.digits;
         put_card(&mut w, found.card, wanted, &text[from..end]);

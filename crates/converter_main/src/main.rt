@@ -16,7 +16,7 @@ fn show(rt: &impl Print, wanted: Spelling, text: &[u8], out: &mut [u8]) -> io::R
     let answer = convert(wanted, text, out);
     show_answer(rt, answer)?;
     rt.write_all(out)?;
-    rt.write_all(b"|\n")
+    println!(rt; "|")
 }
 
 // Into a buffer of so many bytes.

@@ -3,7 +3,7 @@ use Prim.Native.Nat.{ℕ, zero, suc, ◌+◌, ◌-◌, ◌<◌, ◌≤◌, min}
 use mathlib.Core.Path.{◌≡◌, refl, sym, ap, ◌∙◌}
 use mathlib.Core.Bool.{Bool, true, false, cond}
 use mathlib.Core.Logic.{◌⊎◌, inl, inr}
-use mathlib.Core.List.{List, [], ◌∷◌, ◌++◌, append_assoc}
+use mathlib.Core.List.{List, [], ◌∷◌, ◌++◌, append-nil, append_assoc}
 use native.Mathlib.Omega.{arith}
 use borrow.Author.Tests.{eq-eqb, ne_eqb, le-leb, lt-leb}
 use lib.Dec.{eqb, leb}
@@ -22,15 +22,18 @@ use Rattle.transaction.specs.Volumes.{working, Shows}
 use Rattle.transaction.specs.declared.volume.Volume.{Volume}
 use Rattle.transaction.proofs.Laws.{shows-view}
 use Rattle.inode.specs.declared.Cursor.{Cursor}
-use Rattle.inode.specs.Walk.{Slot, live, rest, start_of, Onward, Inward, Ended}
+use Rattle.inode.specs.Walk.{rest, start_of, Onward, Inward, Ended}
 use Rattle.inode.proofs.Laws.{drop-take}
-use Rattle.inode.proofs.Walk.{extents-start, block_start, slot_of, step-leaf}
+use Rattle.inode.proofs.Walk.{extents-start, block_start}
 use Rattle.extents.specs.declared.Scan.{Scan}
+use Rattle.extents.specs.declared.piece.Piece.{Piece}
+use Rattle.extents.specs.declared.pieces.Pieces.{Pieces}
+use Rattle.extents.specs.Pieces.{pieces_left}
 use Rattle.std.specs.Prelude.{Option as Returned, Some, None, MatchOption, slice_get, option_map}
 use Rattle.std.specs.Option.{ForSome}
 use Rattle.std.specs.Iterator.{YieldsFirst, MakesProgress, item_count}
 use Rattle.extents.specs.Stretches.{run_of, held_blocks, held_count}
-use Rattle.extents.specs.Stretches.{pending, Starts, blocks_at, pieces, left_at, TakesPiece, GoesOn, Passes, moved, runs_in}
+use Rattle.extents.specs.Stretches.{pending, Starts, blocks_at, pieces, left_at, TakesPiece, GoesOn, runs_in}
 
 -- ---- lists of numbers in a row
 
@@ -140,37 +143,59 @@ module _ (v : Disk) (tb : ℕ) (c : Scan) where
     pub slot-piece : d.block ≡ c.at.block → c.skip < e.count → 0 < c.room → (m : ℕ) → m ≡ min (e.count - c.skip) c.room
         → TakesPiece v tb c (extent (e.first + c.skip) m) (record { at = d; skip = 0; room = c.room - m })
     unfolding left_at
-    slot-piece b k p m q = record { pieces = rw o.extents (cut-in c.skip c.room m e (rest v tb d) k p q); some = omega arith; less = o.less; block = b }
+    slot-piece b k p m q = record { pieces = rw o.extents (cut-in c.skip c.room m e (rest v tb d) k p q); some = omega arith; room = omega arith; less = o.less; block = b }
 
     pub slot-passed : e.count ≤ c.skip → GoesOn v tb c (record { at = d; skip = c.skip - e.count; room = c.room })
     unfolding left_at
-    slot-passed k = record { pieces = rw o.extents (cut-past c.skip c.room e (rest v tb d) k); less = o.less }
+    slot-passed k = record { pieces = rw o.extents (cut-past c.skip c.room e (rest v tb d) k); room = refl; less = o.less }
 
   pub node-next : (b : ℕ) (d : Cursor) → Inward v tb c.at b d → GoesOn v tb c (record { at = d; skip = c.skip; room = c.room })
   unfolding left_at
-  node-next b d i = record { pieces = ap (λ (es : List Extent). pieces c.skip c.room es) i.extents; less = i.less }
+  node-next b d i = record { pieces = ap (λ (es : List Extent). pieces c.skip c.room es) i.extents; room = refl; less = i.less }
 
   pub node-none : Ended v tb c.at → left_at v tb c ≡ []
   unfolding left_at pieces
   node-none i = ap (λ (es : List Extent). pieces c.skip c.room es) i.extents
 
--- slots passed, one by one
-module _ (c : Scan) (X : List ℕ) (at left skip : ℕ) where
-  -- with `left` slots from byte `at` and `skip` blocks, nothing is lost
-  abbrev Passing : Type 0
-  Passing = (v : Disk) (tb : ℕ) → X ≡ v c.at.block → Passes v tb c (moved c at left skip)
+-- block p of the file of record i is block k of so many blocks that follow each other, as an extent has them; those behind it, to its end or that of the largest file, follow it in the file
+pub record Held (v : Disk) (i p : ℕ) (e : Extent) (k : ℕ) : Type 0 where
+  pub follow : (m : ℕ) → m ≤ e.count - k → p + m ≤ 2048 → take m (drop p (data_of v (inode_at v i))) ≡ up_from (e.first + k) m
+  pub inside : k < e.count
+  pub low : p < 2048
+  pub first : e.first < 65536
+  pub count : e.count < 65536
 
-  module _ (h : Passing) (e : Extent) (r : Bool) (s : Slot X at e) (l : r ≡ live left e) (live-one : r ≡ true) where
-    pub pass-more : e.count ≤ skip → (v : Disk) (tb : ℕ) → X ≡ v c.at.block → Passes v tb c (moved c (at + 4) (left - 1) (skip - e.count))
-    pass-more k v tb x =
-        let p = h v tb x in
-        let o = step-leaf v tb (moved c at left skip).at e r (slot_of X (v c.at.block) at e x s) l live-one in
-        let g = slot-passed v tb (moved c at left skip) e _ o k in
-        record { pieces = p.pieces ∙ g.pieces; less = omega (arith, p.less, g.less); block = refl }
+-- so does the first piece of a stretch that has room for all that follows block p
+module _ (v : Disk) (i p n : ℕ) (ps qs : List Extent) (q : Piece) where
+  pub piece-held : blocks_in ps ≡ blocks_at v i p n → ps ≡ q.extent ∷ qs → 0 < q.extent.count → 2048 ≤ p + n
+      → Held v i p (extent (q.extent.first - (q.extent.first - 65535)) (q.extent.count + (q.extent.first - 65535))) (q.extent.first - 65535)
+  unfolding blocks_in data_of
+  piece-held h t z r =
+      let e = q.extent in
+      let x : blocks_at v i p n ≡ up_from e.first e.count ++ blocks_in qs = sym h ∙ ap blocks_in t in
+      let l : length (blocks_at v i p n) ≤ 2048 - p = simp (length-take, length-drop) (omega arith) in
+      record {
+        follow = λ m a b.
+            let y : min m n ≡ m = omega (arith, r) in
+            let w : e.first - (e.first - 65535) + (e.first - 65535) ≡ e.first = omega arith in
+            let g : m - m ≡ 0 = omega arith in
+            sym (ap (λ (k : ℕ). take k (drop p (data_of v (inode_at v i)))) y)
+            ∙ sym (take-both m n (drop p (data_of v (inode_at v i))))
+            ∙ ap (take m) x
+            ∙ take-up e.first e.count m m (blocks_in qs) (omega (arith, a))
+            ∙ rw (w, g) (append-nil (up_from e.first m));
+        inside = omega (arith, z);
+        low = omega (arith, l, ap length x, length-append (up_from e.first e.count) (blocks_in qs), length-up_from e.first e.count, z);
+        first = omega (arith, q.first, q.end);
+        count = omega (arith, q.end, q.count);
+      }
 
-pub pass-end : (c d : Scan) (X : List ℕ) (at left skip : ℕ) → d ≡ moved c at left skip → ((v : Disk) (tb : ℕ) → X ≡ v c.at.block → Passes v tb c (moved c at left skip))
-    → (v : Disk) (tb : ℕ) → X ≡ v c.at.block → Passes v tb c d
-pass-end c d X at left skip e h v tb x = rw e (h v tb x)
+-- a walk that has gone from p to q: the same pieces are left, of the same tree
+pub record Walked (p q : Pieces) : Type 0 where
+  pub left : pieces_left p ≡ pieces_left q
+  pub room : q.scan.room ≡ p.scan.room
+  pub copy : q.copy ≡ p.copy
+  pub tree : q.record_block ≡ p.record_block
 
 -- ---- maximal runs
 
@@ -222,6 +247,12 @@ first-held h = ap first_of h
 
 pub count-held : {e x : Extent} → Some e ≡ Some x → e.count ≡ x.count
 count-held h = ap held_count h
+
+-- the first piece fits where a run begins with it
+pub piece-fits : (o : Returned Extent) (q : Piece) (ps qs : List Extent) → ps ≡ q.extent ∷ qs → 0 < q.extent.count → held_count o + length (blocks_in ps) ≤ 2048
+    → ForSome (Some q.extent) (λ e. e.first < 131072) × (ForSome (Some q.extent) (λ e. 0 < e.count) × (held_count (Some q.extent) + length (blocks_in qs) ≤ 2048))
+piece-fits o q ps qs t z f =
+    (λ x h. omega (arith, first-held h, q.first), (λ x h. omega (arith, count-held h, z), omega (arith, piece-counts ps q.extent qs t, f)))
 
 -- the runs of a run that may be held and of the pieces behind it
 abbrev runs_on : Returned Extent → List Extent → List Extent

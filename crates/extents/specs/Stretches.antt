@@ -49,22 +49,22 @@ left_at v tb c = pieces c.skip c.room (rest v tb c.at)
 pub record TakesPiece (v : Disk) (tb : ℕ) (c : Scan) (e : Extent) (d : Scan) : Type 0 where
   pub pieces : left_at v tb c ≡ e ∷ left_at v tb d
   pub some : 0 < e.count
+  pub room : e.count + d.room ≡ c.room
   pub less : weight d.at < weight c.at
   pub block : d.at.block ≡ c.at.block
 
 -- at d the pieces that are left at c are left, and fewer slots
 pub record GoesOn (v : Disk) (tb : ℕ) (c d : Scan) : Type 0 where
   pub pieces : left_at v tb c ≡ left_at v tb d
+  pub room : d.room ≡ c.room
   pub less : weight d.at < weight c.at
 
 -- the same with no more slots, in the same block
 pub record Passes (v : Disk) (tb : ℕ) (c d : Scan) : Type 0 where
   pub pieces : left_at v tb c ≡ left_at v tb d
+  pub room : d.room ≡ c.room
   pub less : weight d.at ≤ weight c.at
   pub block : d.at.block ≡ c.at.block
-
-abbrev pub moved : Scan → ℕ → ℕ → ℕ → Scan
-moved c at left skip = record { at = record { block = c.at.block; at = at; left = left; top = c.at.top; tops = c.at.tops }; skip = skip; room = c.room }
 
 abbrev pub SlotSteps : Disk → ℕ → Scan → AtSlot → Type 0
 SlotSteps v tb c (slot.Piece e d) = TakesPiece v tb c e.extent d

@@ -1,18 +1,18 @@
 // Stretches of a file's data blocks: their pieces and their maximal runs.
 #![tactic(auto)]
 
-ghost use Rattle.std.specs.Prelude.{◌≡◌, [], ℕ, ◌+◌, ◌<◌, ◌≤◌, length};
+ghost use Rattle.std.specs.Prelude.{◌≡◌, [], ℕ, ◌+◌, ◌<◌, ◌≤◌, ◌++◌, length};
 ghost use Rattle.std.specs.Option.{ForSome};
 ghost use Rattle.std.proofs.Math.ListN.{get_elem?};
 ghost use Rattle.spec.specs.Bytes.{exactly};
 ghost use Rattle.spec.specs.Disk.{Disk};
-ghost use Rattle.spec.specs.Inode.{block_of_inode, blocks_in};
+ghost use Rattle.spec.specs.Inode.{block_of_inode, blocks_in, runs};
 ghost use Rattle.transaction.specs.Volumes.{working};
 ghost use Rattle.inode.specs.Walk.{leaf};
-ghost use Rattle.extents.specs.Stretches.{Starts, SlotSteps, NodeSteps, Passes, moved, run_of, runs_in, held_count};
+ghost use Rattle.extents.specs.Stretches.{Starts, SlotSteps, NodeSteps, Passes, run_of, runs_in, held_blocks, held_count};
 ghost use Rattle.extents.specs.Pieces.{pieces_left};
 
-use inode::{Cursor, InodeNumber, SlotBlock, is_live, start_at};
+use inode::{Cursor, InodeNumber, SlotBlock, start_at};
 use spec::{DiskBlock, Extent, FileBlock, Limits};
 use transaction::WorkingCopy;
 
@@ -32,14 +32,14 @@ pub struct Stretch {
 
 // What is left of a stretch: `room` blocks, from `skip` blocks behind a cursor on.
 #[derive(Clone, Copy)]
-struct Scan {
-    at: Cursor,
-    skip: usize,
-    room: usize,
+pub struct Scan {
+    pub at: Cursor,
+    pub skip: usize,
+    pub room: usize,
 }
 
 // All of a stretch, of the block of the table that holds its record.
-fn scan_of(table: &[u8], stretch: Stretch) -> Scan
+pub fn scan_of(table: &[u8], stretch: Stretch) -> Scan
     ensures { (v : Disk) → exactly 512 table.now ≡ v (block_of_inode stretch.i.n) → Starts v stretch.i.n stretch.from.0 stretch.n result }
 {
     let at = start_at(table, stretch.i);
@@ -50,14 +50,14 @@ fn scan_of(table: &[u8], stretch: Stretch) -> Scan
 
 // What the first slot that is left of a leaf does to a stretch: three cases, each with its own step of the walk.
 #[derive(Clone, Copy)]
-enum AtSlot {
+pub enum AtSlot {
     Piece(Piece, Scan),
     Passed(Scan),
     Unused,
 }
 
 // The first slot of a stretch that is not at its end, read from the block of its cursor: a walk lends each block once.
-fn take_slot(block: &SlotBlock, scan: Scan) -> AtSlot
+pub fn take_slot(block: &SlotBlock, scan: Scan) -> AtSlot
     requires { 0 < scan.room }
     ensures { (v : Disk) (tb : ℕ) → exactly 512 block.now.bytes.now ≡ v scan.at.block → SlotSteps v tb scan result }
 {
@@ -89,46 +89,28 @@ fn take_slot(block: &SlotBlock, scan: Scan) -> AtSlot
     )
 }
 
-fn moved(scan: Scan, at: usize, left: usize, skip: usize) -> Scan
-    ensures { result ≡ moved scan at left skip }
-{
-    let then = Cursor {
-        at,
-        left,
-        ..scan.at
-    };
-    Scan {
-        at: then,
-        skip,
-        ..scan
-    }
-}
-
-// The stretch behind all slots of this block that end before it begins: a loop with nothing but them, which the first slot that does not ends. No range counts it: the place, the slots left and the blocks to skip move on together, and all three are the answer.
-fn pass_slots(block: &SlotBlock, scan: Scan) -> Scan
+// The stretch behind all slots of this block that end before it begins. A `while let`: the place, the slots left and what is to be skipped move on together and
+// are the answer, so an iterator over the slots would have to give all three back.
+pub fn pass_slots(block: &SlotBlock, scan: Scan) -> Scan
     ensures { (v : Disk) (tb : ℕ) → exactly 512 block.now.bytes.now ≡ v scan.at.block → Passes v tb scan result }
 {
-    let cur = scan.at;
-    let mut at = cur.at;
-    let mut left = cur.left;
-    let mut skip = scan.skip;
-    loop {
-        let e = block.slot(at);
-        if !is_live(left, e) {
-            return moved(scan, at, left, skip);
-        }
+    let mut rest = scan;
+    while let Some((e, at)) = rest.at.pass(block) {
         let count = e.count as usize;
-        if skip < count {
-            return moved(scan, at, left, skip);
+        if rest.skip < count {
+            break;
         }
-        skip -= count;
-        at += Limits::SLOT_SIZE;
-        left -= 1;
+        rest = Scan {
+            at,
+            skip: rest.skip - count,
+            ..rest
+        };
     }
+    rest
 }
 
 // The next node of a stretch, which follows a leaf with no slot left, read from the block of its record.
-fn take_node(table: &SlotBlock, scan: Scan) -> Option<(DiskBlock, Scan)>
+pub fn take_node(table: &SlotBlock, scan: Scan) -> Option<(DiskBlock, Scan)>
     ensures { (v : Disk) (tb : ℕ) → exactly 512 table.now.bytes.now ≡ v tb
         → leaf v scan.at.block scan.at.at scan.at.left ≡ [] → NodeSteps v tb scan result }
 {
@@ -136,14 +118,15 @@ fn take_node(table: &SlotBlock, scan: Scan) -> Option<(DiskBlock, Scan)>
     Some((b, Scan { at, ..scan }))
 }
 
-// The maximal runs of a stretch, one by one: pieces that touch, as a damaged file may have them, are joined. The run that may go on is held, where there is one.
+// The maximal runs of a stretch, one by one: pieces that touch, as a damaged file may have them, are joined. The run that may go on is held, where there is one:
+// with std's `Peekable`, which looks at the next piece instead, a walk would be neither Clone nor Copy.
 #[derive(Clone, Copy)]
 pub struct Runs<'a> {
-    pieces: Pieces<'a>,
-    run: Option<Extent>,
-    ghost first: { ForSome run (λ e. e.first < 131072) },
-    ghost some: { ForSome run (λ e. 0 < e.count) },
-    ghost few: { held_count run + length (blocks_in (pieces_left pieces)) ≤ 2048 },
+    pub pieces: Pieces<'a>,
+    pub run: Option<Extent>,
+    pub ghost first: { ForSome run (λ e. e.first < 131072) },
+    pub ghost some: { ForSome run (λ e. 0 < e.count) },
+    pub ghost few: { held_count run + length (blocks_in (pieces_left pieces)) ≤ 2048 },
 }
 
 impl<'a> Runs<'a> {
@@ -153,10 +136,15 @@ impl<'a> Runs<'a> {
     pub fn of(copy: &WorkingCopy<'a>, stretch: Stretch) -> Runs<'a>
         ensures { (runs_left result ≡ runs_in (working copy.now) stretch.i.n stretch.from.0 stretch.n) × (length (runs_left result) ≤ 2048) }
     {
-        Runs {
-            pieces: Pieces::of(copy, stretch),
-            run: None,
-        }
+        Runs::behind(None, Pieces::of(copy, stretch))
+    }
+
+    // The runs of the pieces that are left at any place, where a run that is held may go on.
+    pub fn behind(run: Option<Extent>, pieces: Pieces<'a>) -> Runs<'a>
+        requires { ForSome run (λ e. (e.first < 131072) × (0 < e.count)) × (held_count run + length (blocks_in (pieces_left pieces)) ≤ 2048) }
+        ensures { runs_left result ≡ runs (held_blocks run ++ blocks_in (pieces_left pieces.entry)) }
+    {
+        Runs { pieces, run }
     }
 }
 
@@ -170,7 +158,7 @@ impl<'a> Iterator for Runs<'a> {
 
     ghost remaining = { item_count runs_left };
 
-    // A `while let`, since the pieces behind the run stay for the next call.
+    // A `while let`: behind a `for` over `&mut self.pieces`, `next_gives` and the field `few` stay open, since `next` of a `&mut` does not say that it keeps the reference.
     fn next(&mut self) -> Option<Extent> {
         while let Some(piece) = self.pieces.next() {
             let e = piece.extent;

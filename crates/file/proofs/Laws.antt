@@ -1,13 +1,16 @@
 -- Laws of copying stretches. Assumes nothing.
-use Prim.Native.Nat.{ℕ, zero, suc, ◌+◌, ◌*◌, ◌-◌, ◌/◌, ◌%◌, ◌<◌, ◌≤◌}
+use Prim.Native.Nat.{ℕ, zero, suc, ◌+◌, ◌*◌, ◌-◌, ◌/◌, ◌%◌, ◌<◌, ◌≤◌, min}
 use mathlib.Core.Path.{◌≡◌, refl, sym, ap, ◌∙◌}
 use mathlib.Core.List.{List, [], ◌∷◌, ◌++◌, append_assoc, append-nil}
+use mathlib.Core.Logic.{⊎_elim}
 use native.Mathlib.Omega.{arith}
-use lib.ListN.{length, take, drop, get_or, length-append, length-take, length-drop, drop_of_length-le}
-use lib.Seq.{ext_get_or, get_or-take, take_all, get_or-drop, drop-append-add, drop-append-le, take-append-le, take_at, take-take, drop_at, drop-drop, take-add}
+use lib.ListN.{length, take, drop, get_or, replicate, length-append, length-take, length-drop, length-replicate, get_or-append, get_or-eq_default, drop_of_length-le}
+use lib.Seq.{ext_get_or, get_or-append_right, get_or-take, take_all, get_or-drop, drop-append-add, drop-append-le, take-append-le, take_at, take-take, drop_at, drop-drop, take-add}
 use Rattle.spec.specs.Bytes.{exactly}
 use Rattle.spec.specs.Disk.{Disk}
-use Rattle.block.proofs.Laws.{get_or-exactly, length-exactly, block-byte}
+use Rattle.std.proofs.lemmas.List.{get_or-replicate}
+use Rattle.block.proofs.Steps.{rest-is}
+use Rattle.block.proofs.Laws.{lt-or-le, get_or-exactly, length-exactly, block-byte}
 use Rattle.transaction.specs.Places.{view_in}
 use Rattle.transaction.proofs.Laws.{view-in-length}
 use Rattle.inode.proofs.Laws.{drop-take}
@@ -23,14 +26,31 @@ module _ (block : List ℕ) (off n : ℕ) (h : off + n ≤ 512) where
   part-byte k l =
       sym (get_or-take n (drop off (exactly 512 block)) k 0 l ∙ get_or-drop off (exactly 512 block) k 0 ∙ get_or-exactly 512 block (off + k) (omega arith))
 
-  -- a block that has them all
-  pub part-whole : off + n ≤ length block → take (off + n - off) (drop off block) ≡ take n (drop off (exactly 512 block))
-  part-whole l =
-      let e : off + n - off ≡ n = omega arith in
-      let a : length (take n (drop off block)) ≡ n = simp (length-take, length-drop) (omega arith) in
-      rw e (ext_get_or 0 (take n (drop off block)) (take n (drop off (exactly 512 block))) (a ∙ sym part_length)
-      (λ k m. let j : k < n = rw a at m in
-      get_or-take n (drop off block) k 0 j ∙ get_or-drop off block k 0 ∙ part-byte k j))
+  -- those that are there, and zeros
+  pub part-padded : (there past : List ℕ) (from m : ℕ) → from ≡ min (length block) off → m ≡ min (length (take (length block - from) (drop from block))) n
+      → there ≡ take m (take (length block - from) (drop from block)) → past ≡ replicate (n - m) 0 → there ++ past ≡ take n (drop off (exactly 512 block))
+  part-padded there past from m e f t p =
+      let rest = rest-is block off from e in
+      let t : there ≡ take m (drop off block) = rw rest at t in
+      let f : m ≡ min (length block - off) n = rw (rest, length-drop) at f in
+      let a : length there ≡ m = rw t (simp (length-take, length-drop) (omega arith)) in
+      let b : length past ≡ n - m = rw p (length-replicate (n - m) 0) in
+      let l : length (there ++ past) ≡ n = length-append there past ∙ omega arith in
+      ext_get_or 0 (there ++ past) (take n (drop off (exactly 512 block))) (l ∙ sym part_length)
+      (λ k h.
+      let j : k < n = rw l at h in
+      ⊎_elim
+      (λ (i : k < m).
+      get_or-append there past 0 k (omega arith)
+      ∙ rw t (get_or-take m (drop off block) k 0 i)
+      ∙ get_or-drop off block k 0
+      ∙ part-byte k j)
+      (λ (g : m ≤ k).
+      get_or-append_right there past k 0 (omega arith)
+      ∙ rw p (get_or-replicate (n - m) (k - length there) 0 0 (omega arith))
+      ∙ sym (get_or-eq_default block 0 {n = off + k} (omega arith))
+      ∙ part-byte k j)
+      (lt-or-le k m))
 
 -- ---- the bytes of a run
 

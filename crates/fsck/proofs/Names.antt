@@ -8,7 +8,7 @@ use mathlib.Core.Option.{Option, none, some}
 use native.Mathlib.Omega.{arith}
 use borrow.Author.Tests.{eqb-true, eqb-false, eq-eqb, ne_eqb}
 use lib.Dec.{eqb}
-use lib.ListN.{length, take, get_or, set, replicate, length-take, length-drop, length-replicate, length-set}
+use lib.ListN.{length, take, get_or, set, length-take, length-drop, length-set}
 use lib.Seq.{take-nil, get_or-set_same, get_or-set_other}
 use Rattle.spec.specs.Bytes.{exactly, found, all_zero}
 use Rattle.spec.specs.Disk.{Disk}
@@ -18,9 +18,11 @@ use Rattle.lists.specs.Lowest.{lowest-some, lowest-none, lowest-no}
 use Rattle.block.proofs.Laws.{lt-or-le, same_self}
 use Rattle.zeros.proofs.Laws.{zero-at}
 use Rattle.std.proofs.lemmas.Bool.{or_parts}
+use Rattle.std.proofs.lemmas.List.{get_or_past}
 use Rattle.block.specs.Keys.{key_of, Name}
 use Rattle.block.proofs.Keys.{same_key, zero-key, key-as}
 use Rattle.std.specs.Prelude.{Option as Returned, Some, None}
+use Rattle.std.specs.Array.{AllOfLen}
 use Rattle.inode.specs.Records.{record_in, found_of, lowest_to}
 use Rattle.block.proofs.Places.{found-some}
 use Rattle.inode.proofs.Laws.{record-at, lowest-hit, lowest-in, lowest-past, named_at, find-all}
@@ -84,16 +86,16 @@ module _ (v : Disk) (full : (b : ℕ) → length (v b) ≡ 512) where
   unfolding inode_bytes
   name-length j = simp (length-take, length-drop, full) (omega arith)
 
-  pub told-start : (z : NameTable) → z ≡ record { numbers = replicate 128 0; seen = replicate 1021 false } → Told v z 0
-  told-start z e = rw e (record {
+  pub told-start : (z : NameTable) → AllOfLen (λ x. x ≡ 0) z.numbers 128 × AllOfLen (λ b. b ≡ false) z.seen 1021 → Told v z 0
+  told-start z e = record {
     names = record {
-      full = length-replicate {A = ℕ} 128 0;
+      full = e.0.long;
       number = λ j h. absurd (omega arith);
       bytes = λ j h. absurd (omega arith);
-      rest = λ j h. zero-at (replicate 128 0) j refl;
+      rest = λ j h. ⊎_elim (e.0.at j 0) (λ l. get_or_past z.numbers j 0 (omega (arith, e.0.long))) (lt-or-le j 128);
     };
-    remainders = record { full = length-replicate {A = Bool} 1021 false; told = λ j h. absurd (omega arith) };
-  })
+    remainders = record { full = e.1.long; told = λ j h. absurd (omega arith) };
+  }
 
   -- records without a name
   pub told-on : (t : NameTable) (n m : ℕ) → n ≤ m → Told v t n → ((j : ℕ) → n ≤ j → j < m → all_zero (name_at v j) ≡ true) → Told v t m

@@ -1,7 +1,7 @@
 // Decides S1 to S8 on any bytes: one pass over the records, in which each tree is walked once, tested and marked, then one over the bits.
 #![tactic(auto)]
 
-ghost use Rattle.std.specs.Prelude.{◌≡◌, [], true, false, ◌+◌, ◌%◌, ◌≤◌, ◌<◌, length, replicate, slice_set};
+ghost use Rattle.std.specs.Prelude.{◌≡◌, [], true, ◌+◌, ◌%◌, ◌≤◌, ◌<◌, slice_set};
 ghost use Rattle.std.proofs.Math.Option.{none};
 ghost use Rattle.spec.specs.Disk.{blocks_of};
 ghost use Rattle.spec.specs.Inode.{reached_from, reached};
@@ -15,7 +15,7 @@ ghost use Rattle.fsck.specs.Damage.{damage_of, unsound};
 
 use block::{copy_of, place_in_block};
 use filecheck::{Record, clear_in};
-use inode::{InodeNumber, key_at, table_block};
+use inode::{Inode, InodeNumber, table_block};
 use marks::{Device, Marks};
 use spec::{DiskBlock, Limits};
 use zeros::is_zero;
@@ -31,27 +31,17 @@ pub enum Damage {
 }
 
 // The names of the records passed, as numbers, by record; and which remainders are those of numbers that are not zero: flags in an array, since a HashSet wants
-// a heap.
-#[derive(Drop)]
+// a heap. Its default holds no name.
+#[derive(Drop, Default)]
 struct NameTable {
     numbers: [u64; Limits::INODE_COUNT],
     seen: [bool; REMAINDERS],
 }
 
 impl NameTable {
-    // No name yet. A constructor and no Default, which would leave it to a reader that zeros and false are no name.
-    fn none() -> NameTable
-        ensures { result ≡ record { numbers = replicate 128 0; seen = replicate 1021 false } }
-    {
-        NameTable {
-            numbers: [0u64; Limits::INODE_COUNT],
-            seen: [false; REMAINDERS],
-        }
-    }
-
     // "Names differ pairwise": whether a record before i has this name. The search is needed only where its remainder was seen.
     fn holds(&self, number: u64, i: InodeNumber) -> bool
-        requires { (length self.now.numbers ≡ 128) × Seen self.now i.n × (number ≡ 0 → ⊥) }
+        requires { Seen self.now i.n × (number ≡ 0 → ⊥) }
         ensures { result ≡ seen_to i.n number self.now.numbers }
     {
         let place = (number % REMAINDERS as u64) as usize;
@@ -63,7 +53,6 @@ impl NameTable {
 
     // The name of record i.
     fn add(&mut self, i: InodeNumber, number: u64)
-        requires { (length self.old.numbers ≡ 128) × (length self.old.seen ≡ 1021) }
         ensures { self.new ≡ record { numbers = slice_set self.old.numbers i.n number; seen = slice_set self.old.seen (number % 1021) true } }
     {
         self.numbers[i.n] = number;
@@ -79,7 +68,11 @@ fn inode_sound(file: &Record, marks: &mut Marks, names: &mut NameTable) -> bool
         × (result ≡ true → Told (disk_of file.now.device) names.new (file.now.i.n + 1)) }
 {
     let i = file.i;
-    let number = key_at(file.table, i.n);
+    let inode = Inode {
+        table: file.table,
+        i: i.n,
+    };
+    let number = inode.key();
     if number == 0 {
         let at = place_in_block(i.n);
         return clear_in(file.table, at + Limits::NAME_SIZE, at + Limits::INODE_SIZE);
@@ -91,7 +84,8 @@ fn inode_sound(file: &Record, marks: &mut Marks, names: &mut NameTable) -> bool
     file.file_sound(marks)
 }
 
-// The lowest of the 16 records from `first` on, those of one block of the table, that is not sound. If all are, every block that they reach is marked.
+// The lowest of the 16 records from `first` on, those of one block of the table, that is not sound. If all are, every block that they reach is marked. By
+// a loop: with `find`, what `inode_sound` asks of the names before a record stays open in the closure, which changes them. The loop below carries the same names.
 fn records_fault(
     device: &Device,
     marks: &mut Marks,
@@ -126,7 +120,7 @@ fn inode_fault(device: &Device, marks: &mut Marks) -> Option<usize>
     ensures { (result ≡ found_of (inode_fault device.now.blocks (disk_of device.now)))
         × (result ≡ found_of none → Kept device.now.blocks marks.new [] marks.old (reached (disk_of device.now))) }
 {
-    let mut names = NameTable::none();
+    let mut names = NameTable::default();
     for k in 0..Limits::INODE_COUNT / Limits::INODES_PER_BLOCK {
         let first = InodeNumber {
             n: Limits::INODES_PER_BLOCK * k,

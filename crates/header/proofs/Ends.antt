@@ -7,6 +7,10 @@ use native.Mathlib.Omega.{arith}
 use borrow.Author.Tests.{ltb-true, ltb-false, lt-ltb, le-ltb, ne_eqb}
 use lib.Dec.{ltb}
 use lib.ListN.{length, get_or}
+use denote.Ref.{Bor}
+use Rattle.std.specs.Prelude.{Option, Some, None}
+use Rattle.std.specs.Option.{option_zip}
+use Rattle.std.specs.Slice.{IsItemAt, IsGetResult}
 use Rattle.spec.specs.Bytes.{all, distinct}
 use Rattle.spec.specs.Disk.{is_target, is_target_area, area_of}
 use Rattle.spec.specs.Journal.{are_targets}
@@ -67,6 +71,20 @@ ends-all N x (y ∷ ys) e =
         let z : is_target N y ≡ true = within-target N y (omega arith) (omega arith) in
         (sym (ap₂ ◌&&◌ z g) ∙ q)
     go true f false g l m q = sym (and-false (is_target N y)) ∙ ap (λ (b : Bool). is_target N y && b) (sym g) ∙ q
+
+-- the ends, as `first` and `last` tell them
+pub no-ends : (l : List ℕ) (f g : Option (Bor ℕ)) → IsItemAt l 0 f → IsGetResult l 0 (length l - 1) g → option_zip f g ≡ None → length l ≡ 0
+no-ends l None g a b e = omega (arith, a.3)
+no-ends l (Some x) None a b e = omega (arith, b.3)
+no-ends l (Some x) (Some y) a b e = cc
+
+pub both-ends : (l : List ℕ) (f g : Option (Bor ℕ)) (x y : Bor ℕ) → IsItemAt l 0 f → IsGetResult l 0 (length l - 1) g → option_zip f g ≡ Some (x, y)
+    → (length l ≡ 0 → ⊥) × (x.now ≡ get_or l 0 0) × (y.now ≡ get_or l (length l - 1) 0)
+both-ends l None g x y a b e = cc
+both-ends l (Some u) None x y a b e = cc
+both-ends l (Some u) (Some w) x y a b e =
+    let q : ◌≡◌ {A = Bor ℕ × Bor ℕ} (x, y) (u, w) = cc in
+    (λ z. omega (arith, a.3.0), ap (λ p. p.0.now) q ∙ a.4 (omega arith) 0, ap (λ p. p.1.now) q ∙ b.4 (omega arith) 0)
 
 pub can-list-none : (N : ℕ) (l : List ℕ) → length l ≡ 0 → false ≡ are_targets N l
 unfolding are_targets

@@ -1,42 +1,32 @@
--- The neighbours of a list, two by two, as a search by `windows` reads them. Assumes nothing.
-use Prim.Native.Nat.{ℕ}
-use mathlib.Core.Path.{◌≡◌, refl, ap, ◌∙◌}
-use mathlib.Core.Bool.{Bool, ◌&&◌}
+-- Whether a list ascends, by its neighbours two by two, as `is_sorted_by` tells it. Assumes nothing.
+use Prim.Native.Nat.{ℕ, zero, suc, ◌+◌, ◌<◌}
+use mathlib.Core.Path.{◌≡◌, refl, sym, ap, ◌∙◌}
+use mathlib.Core.Bool.{Bool, true, false, ◌&&◌, and-false}
 use mathlib.Core.List.{List, [], ◌∷◌}
 use native.Mathlib.Omega.{arith}
 use lib.Dec.{ltb}
-use lib.ListN.{length, get_or, take, drop}
-use denote.Ref.{Bor}
-use Rattle.std.specs.Slice.Iter.{windows_rest, windows_size, windows_steps}
-use Rattle.std.specs.Iterator.{AlwaysYields}
-use Rattle.std.specs.List.{list_all}
-use Rattle.std.proofs.lemmas.Iterator.{YieldsList}
+use lib.ListN.{length, get_or}
+use Rattle.std.specs.List.{AllAdjacentBelow, IsAllAdjacentAnswer}
 use Rattle.header.specs.Header.{ascends}
 
--- whether the first of two is lower
-abbrev pub rises : List ℕ → Bool
-rises w = ltb (get_or w 0 0) (get_or w 1 0)
+each-lower : (xs : List ℕ) → AllAdjacentBelow (λ x y. true ≡ ltb x y) xs (length xs) → ascends xs ≡ true
+unfolding ascends
+each-lower [] h = refl
+each-lower (x ∷ []) h = refl
+each-lower (x ∷ y ∷ ys) h =
+    rw (sym (h 0 0 (omega arith)))
+    (each-lower (y ∷ ys)
+    (λ k d l. let j : suc k + 1 ≡ suc (k + 1) = omega arith in h (suc k) d (omega arith) ∙ ap (λ i. ltb (get_or (x ∷ y ∷ ys) (suc k) d) (get_or (x ∷ y ∷ ys) i d)) j))
 
--- of each two neighbours
-pub steps_up : List ℕ → List Bool
-steps_up [] = []
-steps_up (x ∷ []) = []
-steps_up (x ∷ y ∷ ys) = ltb x y ∷ steps_up (y ∷ ys)
+one-not : (xs : List ℕ) (k : ℕ) → k + 1 < length xs → false ≡ ltb (get_or xs k 0) (get_or xs (k + 1) 0) → ascends xs ≡ false
+unfolding ascends
+one-not [] k l e = absurd (omega arith)
+one-not (x ∷ []) k l e = absurd (omega arith)
+one-not (x ∷ y ∷ ys) zero l e = rw (sym e)
+one-not (x ∷ y ∷ ys) (suc k) l e =
+    let j : suc k + 1 ≡ suc (k + 1) = omega arith in
+    ap (λ b. ltb x y && b) (one-not (y ∷ ys) k (omega arith) (e ∙ ap (λ i. ltb (get_or (x ∷ y ∷ ys) (suc k) 0) (get_or (x ∷ y ∷ ys) i 0)) j)) ∙ and-false (ltb x y)
 
-gives : (l : List ℕ) (s : _) → windows_rest s ≡ l → windows_size s ≡ 2 → AlwaysYields (windows_steps {A = ℕ}) (λ (x : Bor (List ℕ)). rises x.now) s (steps_up l)
-unfolding steps_up
-gives [] s e z = λ x j t. let n = ap length e in omega (arith, t.1.0)
-gives (a ∷ []) s e z = λ x j t. let n = ap length e in omega (arith, t.1.0)
-gives (a ∷ b ∷ l) s e z = (
-  λ j t. let n = ap length e in omega (arith, t.1.0),
-  λ x j t. (ap rises (t.1.1 ∙ ap (λ (n : ℕ). take n (windows_rest s)) z ∙ ap (λ (q : List ℕ). take 2 q) e), gives (b ∷ l) j (t.1.2 ∙ ap (drop 1) e) (t.0 ∙ z)),
-)
-
-pub neighbours : {s : _} (l : List ℕ) → windows_rest s ≡ l → windows_size s ≡ 2 → YieldsList (windows_steps {A = ℕ}) (λ (x : Bor (List ℕ)). rises x.now) s (steps_up l)
-neighbours {s} l e z = record { runs = gives l s e z }
-
-pub all-rise : (l : List ℕ) → list_all (λ (b : Bool). b) (steps_up l) ≡ ascends l
-unfolding ascends steps_up
-all-rise [] = refl
-all-rise (x ∷ []) = refl
-all-rise (x ∷ y ∷ ys) = ap (λ (b : Bool). ltb x y && b) (all-rise (y ∷ ys))
+pub sorted-up : (xs : List ℕ) (r : Bool) → IsAllAdjacentAnswer (λ x y b. b ≡ ltb x y) xs r → r ≡ ascends xs
+sorted-up xs true h = sym (each-lower xs h)
+sorted-up xs false h = sym (one-not xs h.0 h.1 (h.2 0))

@@ -3,31 +3,28 @@
 
 ghost use Rattle.std.specs.Prelude.{◌≡◌, ◌==◌, true, ◌+◌, ◌*◌, ◌<◌, ◌≤◌, not, List, ℕ, length, take, take_while};
 ghost use Rattle.std.specs.List.{list_all};
-ghost use Rattle.spec.specs.Bytes.{all, all_zero, part, member, distinct};
+ghost use Rattle.spec.specs.Bytes.{distinct};
 ghost use Rattle.spec.specs.Disk.{is_target};
 ghost use Rattle.spec.specs.Journal.{targets_in, is_record_wrong, header_fault, are_targets};
 ghost use Rattle.block.specs.Places.{found_at};
 ghost use Rattle.header.specs.Header.{record_targets, ascends};
 
+use arrayvec::ArrayVec;
 use block::{is_target, load2};
 use spec::{DiskBlock, Limits};
 use std::marker::Model;
-use zeros::is_zero;
+use zeros::{is_zero, is_zero_at};
 
-// What a log lists: the first `count` cells of `list` are in use. An array and a length, since there is no heap; users see a list.
-// Not Copy: a type whose view leaves out the unused cells is refused as Copy.
+// What a log lists.
 #[derive(Drop)]
 pub struct Targets {
-    list: [u32; Limits::LOG_LENGTH],
-    count: usize,
+    list: ArrayVec<u32, { Limits::LOG_LENGTH }>,
 }
 
 impl Model for Targets {
     ghost Value = { List ℕ };
 
-    ghost view = { λ t. take t.count t.list };
-
-    ghost invariant = { λ t. t.count ≤ 32 };
+    ghost view = { λ t. t.list.items };
 }
 
 impl Targets {
@@ -35,14 +32,14 @@ impl Targets {
     pub fn len(&self) -> usize
         ensures { (result ≡ length self.now) × (result ≤ 32) }
     {
-        self.count
+        self.list.len()
     }
 
-    // The cells in use.
+    // The targets as a slice.
     pub fn as_slice(&self) -> &[u32]
         ensures { (result.now ≡ self.now) × (length result.now ≤ 32) }
     {
-        &self.list[..self.count]
+        self.list.as_slice()
     }
 
     // Whether a log may list them.
@@ -59,22 +56,7 @@ impl Targets {
 fn record_targets(head: &[u8]) -> [u32; Limits::LOG_LENGTH]
     ensures { result ≡ record_targets head.now }
 {
-    let mut q = [0u32; Limits::LOG_LENGTH];
-    for (i, target) in q.iter_mut().enumerate() {
-        *target = load2(head, Limits::LOG_RECORD_SIZE * i);
-    }
-    q
-}
-
-// Whether the last 14 bytes of record i are zero: those that there are, where the header ends early, of which get(..) would give none.
-fn is_blank(head: &[u8], i: usize) -> bool
-    requires { i < 32 }
-    ensures { result ≡ all_zero (part (16 * i + 2) 14 head.now) }
-{
-    let at = Limits::LOG_RECORD_SIZE * i + 2;
-    let from = head.len().min(at);
-    let end = head.len().min(at + 14);
-    is_zero(&head[from..end])
+    std::array::from_fn(|i| load2(head, Limits::LOG_RECORD_SIZE * i))
 }
 
 // Whether record i is wrong, where l has the targets of all records.
@@ -87,8 +69,8 @@ fn is_record_wrong(blocks: usize, head: &[u8], l: &[u32; Limits::LOG_LENGTH], i:
     let outside = !is_target(blocks, DiskBlock(t));
     let seen = before.contains(&t);
     let late = before.contains(&0);
-    let blank = is_blank(head, i);
-    (!(t == 0) & (outside | seen | late)) | !blank
+    let blank = is_zero_at(head, Limits::LOG_RECORD_SIZE * i + 2, 14);
+    ((t != 0) & (outside | seen | late)) | !blank
 }
 
 // Refusal 10: the lowest record that is wrong. A header is zero but for the time of a commit.
@@ -99,12 +81,7 @@ pub fn header_fault(blocks: usize, head: &[u8]) -> Option<usize>
         return None;
     }
     let l = record_targets(head);
-    for i in 0..Limits::LOG_LENGTH {
-        if is_record_wrong(blocks, head, &l, i) {
-            return Some(i);
-        }
-    }
-    None
+    (0..Limits::LOG_LENGTH).find(|i| is_record_wrong(blocks, head, &l, *i))
 }
 
 // How many records are used, before the first empty one.
@@ -118,9 +95,9 @@ fn used(l: &[u32]) -> usize
 pub fn targets_in(head: &[u8]) -> Targets
     ensures { result ≡ targets_in head.now }
 {
-    let list = record_targets(head);
-    let count = used(&list);
-    Targets { list, count }
+    let mut list = ArrayVec::from(record_targets(head));
+    list.truncate(used(list.as_slice()));
+    Targets { list }
 }
 
 // ---- what a log may list
@@ -136,19 +113,14 @@ fn are_inside(blocks: usize, l: &[u32]) -> bool
 pub fn is_ascending(l: &[u32]) -> bool
     ensures { result ≡ ascends l.now }
 {
-    l.windows(2).all(|w| w[0] < w[1])
+    l.is_sorted_by(|a, b| a < b)
 }
 
 // Whether no target is listed twice.
 fn is_distinct(l: &[u32]) -> bool
     ensures { result ≡ distinct l.now }
 {
-    for (i, x) in l.iter().enumerate() {
-        if l[i + 1..].contains(x) {
-            return false;
-        }
-    }
-    true
+    l.iter().enumerate().all(|(i, x)| !l[i + 1..].contains(x))
 }
 
 // Whether a log may list targets that ascend: at least one, the first and the last within 33 to N-1.
@@ -156,11 +128,10 @@ pub fn can_list_up(blocks: usize, l: &[u32]) -> bool
     requires { ascends l.now ≡ true }
     ensures { result ≡ are_targets blocks l.now }
 {
-    let n = l.len();
-    if n == 0 {
+    let Some((first, last)) = l.first().zip(l.last()) else {
         return false;
-    }
-    is_target(blocks, DiskBlock(l[0])) & is_target(blocks, DiskBlock(l[n - 1]))
+    };
+    is_target(blocks, DiskBlock(*first)) & is_target(blocks, DiskBlock(*last))
 }
 
 // Whether a log may list them: at least one, each within 33 to N-1, none twice.

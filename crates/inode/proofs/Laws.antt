@@ -11,23 +11,23 @@ use lib.Dec.{eqb}
 use borrow.Author.Tests.{eqb-true, le-leb, lt-leb, lt-ltb, le-ltb}
 use lib.ListN.{length, take, drop, get_or, replicate, length-take, length-drop, get_or-eq_default}
 use lib.Seq.{ext_get_or, get_or-take, get_or-drop, take-take, take-nil, drop-drop}
-use Rattle.spec.specs.Bytes.{exactly, part, number2, number4, same, all_zero, found, place, lowest}
+use Rattle.spec.specs.Bytes.{exactly, part, number2, number4, same, all_zero, place, lowest}
 use Rattle.spec.specs.Disk.{Disk, blocks_of, area_of}
 use Rattle.spec.specs.declared.Session.{Session}
 use Rattle.spec.specs.Session.{staged_in}
 use Rattle.spec.specs.Transaction.{view, state_of}
-use Rattle.spec.specs.Inode.{slots_in, inode_of, inode_bytes, inode_at, name_at, is_empty, block_of_inode, place_of_inode, find, find_empty, nodes_for, levels_for}
-use Rattle.block.proofs.Laws.{lt-or-le, block-byte, length-exactly, get_or-exactly, exactly-all, block-length, block-is}
+use Rattle.spec.specs.Inode.{Inode, slots_in, inode_of, inode_bytes, inode_at, name_at, is_empty, block_of_inode, place_of_inode, find, find_empty, nodes_for, levels_for}
+use Rattle.block.proofs.Laws.{lt-or-le, block-byte, length-exactly, get_or-exactly, exactly-small, block-length, block-is}
 use Rattle.lists.specs.Lowest as lows
 use Rattle.transaction.specs.Places.{view_in}
-use Rattle.transaction.proofs.Laws.{view-new}
+use Rattle.transaction.proofs.Laws.{view-new, view-in-length, view_of}
 use Rattle.block.specs.Keys.{key_of, Name}
 use Rattle.block.proofs.Keys.{same_key}
 use Rattle.std.specs.List.{AllPass}
 use Rattle.std.specs.Int.{div_ceil}
 use Rattle.lists.specs.Places.{place-lt, place-value}
 use Rattle.inode.specs.Records.{bytes_in, record_in, named, found_of, lowest_to, is_table}
-use Rattle.std.specs.Prelude.{Option as Returned, Some, None, ◌==◌}
+use Rattle.std.specs.Prelude.{Option as Returned, Some, None, IfSome, ◌==◌}
 use Rattle.std.specs.List.{position, position_from}
 use Rattle.std.proofs.lemmas.Iterator.Adapters.{position_from-zero}
 use Rattle.std.specs.Simd.{first_chunks}
@@ -125,6 +125,10 @@ module _ (v : Disk) (t : List ℕ) (i : ℕ) (h : exactly 512 t ≡ v (block_of_
   pub empty-at : all_zero (take 8 (record_in t i)) ≡ is_empty v i
   empty-at = ap (λ (x : List ℕ). all_zero (take 8 x)) record-at
 
+-- the size that is told of record i as lent
+pub size-told : (v : Disk) (t : List ℕ) (k i n : ℕ) → k ≡ i → exactly 512 t ≡ v (block_of_inode i) → n ≡ (inode_of (record_in t k)).size → n ≡ (inode_at v i).size
+size-told v t k i n e h s = s ∙ ap (λ (j : ℕ). (inode_of (record_in t j)).size) e ∙ ap (λ (x : Inode). x.size) (inode-at v t i h)
+
 -- ---- names
 
 pub same-zeros : (xs : List ℕ) → same xs (replicate (length xs) 0) ≡ all_zero xs
@@ -193,12 +197,6 @@ module _ (m n : ℕ) (f : ℕ → Bool) (i : ℕ) (low : i ≤ m) (high : m ≤ 
   lowest-past h = let e : i + (m - i) ≡ m = omega arith in rw (parts, lowest-skip f i (m - i) (n - m) h, e)
 
 -- ---- the search over the table
-
--- a block copied whole has the same names
-pub named-whole : (t x name : List ℕ) → x ≡ exactly 512 t → lowest_to 16 (named x name) 0 ≡ lowest_to 16 (named t name) 0
-unfolding named bytes_in
-named-whole t x name e =
-    ap (λ (b : List ℕ). lowest_to 16 (λ i. same (take 8 (part (place_of_inode i) 32 b)) name) 0) (ap (exactly 512) e ∙ exactly-all 512 (exactly 512 t) (length-exactly 512 t))
 
 -- whether record i of a disk has this name
 unfoldable pub named_at : Disk → List ℕ → ℕ → Bool
@@ -289,21 +287,26 @@ first-named t name key n m f q long small w e h =
     ∙ h k l ∙ ap f (sym z)))
 
 -- what a search by a name's key answers of the records in some bytes
-abbrev SearchedIn : List ℕ → List (List ℕ) → ℕ → Returned ℕ → Type 0
+abbrev pub SearchedIn : List ℕ → List (List ℕ) → ℕ → Returned ℕ → Type 0
 SearchedIn t records key r = (records ≡ first_chunks 32 (length t / 32) t) × (r ≡ position (λ inode. key_of (take 8 inode) == key) records)
 
--- of a whole block
-pub first-in-block : (t name : List ℕ) (records : List (List ℕ)) (key : ℕ) (r : Returned ℕ) → SearchedIn t records key r → length t ≡ 512 → ((i : ℕ) → get_or t i 0 < 256)
-    → Name name → key ≡ key_of name → r ≡ lowest_to 16 (named t name) 0
+-- of the first 512 bytes of a block that may end early
+pub first-in-block : (t x : List ℕ) (records : List (List ℕ)) (key : ℕ) (r : Returned ℕ) → x ≡ exactly 512 t → ((i : ℕ) → get_or t i 0 < 256) → SearchedIn x records key r
+    → (length records ≡ length x / 32) × IfSome r (λ k. k < length records)
+    → ((name : List ℕ) → Name name → key ≡ key_of name → r ≡ lowest_to 16 (named t name) 0) × IfSome r (λ k. k < 16)
 unfolding lowest_to named bytes_in
-first-in-block t name records key r s l small w e =
-    let z : length t / 32 ≡ 16 = omega arith in
-    s.1
-    ∙ rw s.0
-    (first-named t name key 16 (length t / 32) (named t name) z (omega arith) small w e
-    (λ k h.
-    let p : 32 * (k % 16) ≡ 32 * k = omega arith in
-    rw (exactly-all 512 t l, p)))
+first-in-block t x records key r e small s few =
+    let l : length x ≡ 512 = rw e (length-exactly 512 t) in
+    let z : length x / 32 ≡ 16 = omega arith in (
+      (λ name w h.
+          s.1
+          ∙ rw s.0
+          (first-named x name key 16 (length x / 32) (named t name) z (omega arith) (rw e (exactly-small 512 256 t (omega arith) small)) w h
+          (λ k i.
+          let p : 32 * (k % 16) ≡ 32 * k = omega arith in
+          rw (e, p)))),
+      rw (few.0 ∙ z) at few.1,
+    )
 
 -- of the table on the device
 pub first-on-device : (t device name : List ℕ) (records : List (List ℕ)) (key : ℕ) (r : Returned ℕ) → SearchedIn t records key r → 21504 ≤ length device
@@ -368,12 +371,7 @@ find-zeros v name r l e q =
 -- ---- the working copy
 
 pub view-length : (s : Session) (device work : List ℕ) (b : ℕ) → length (view (state_of s device work) b) ≡ 512
-unfolding view
-view-length s device work b = go (place b (staged_in s))
-  where
-    go : (o : Option ℕ) → length (found o (blocks_of device b) (blocks_of work)) ≡ 512
-    go none = block-length device b
-    go (some i) = block-length work i
+view-length s device work b = ap (λ (v : Disk). length (v b)) (sym (view_of s device work (staged_in s) refl)) ∙ view-in-length (staged_in s) device work b
 
 -- ---- the table as it lies on the device
 

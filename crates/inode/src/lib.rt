@@ -11,13 +11,15 @@ ghost use Rattle.block.specs.Keys.{key_of, Name};
 ghost use Rattle.inode.specs.Records.{record_in, named, found_of, lowest_to, number_told, is_table};
 ghost use Rattle.inode.specs.Walk.{slot_in, live, leaf, Passed, Enters, start_of};
 
-use block::{area_of, bytes_at, copy_of, key_of, load, load4, place_in_block};
+use block::{area_of, key_of, on_whole, place_in_block};
 use spec::{Area, DiskBlock, Extent, Limits};
 use transaction::WorkingCopy;
 
+mod inode;
 mod number;
 mod slot_block;
 
+pub use inode::Inode;
 pub use number::InodeNumber;
 pub use slot_block::SlotBlock;
 
@@ -35,7 +37,8 @@ pub fn table_block(i: InodeNumber) -> DiskBlock
     DiskBlock(Limits::INODE_START + (i.n / Limits::INODES_PER_BLOCK) as u32)
 }
 
-// The working copy of the table's block that holds record i; no longer than a block. Where nothing is staged, it lies at its place on the device.
+// The working copy of the table's block that holds record i; no longer than a block. Where nothing is staged, it lies at its place on the device:
+// found there as any other block is, a record takes 8 ns in place of 7.
 pub fn inode_block<'a>(copy: &WorkingCopy<'a>, i: InodeNumber) -> &'a [u8]
     ensures { (exactly 512 result.now ≡ working copy.now (block_of_inode i.n)) × (length result.now ≤ 512) }
 {
@@ -48,41 +51,6 @@ pub fn inode_block<'a>(copy: &WorkingCopy<'a>, i: InodeNumber) -> &'a [u8]
     copy.block(table_block(i))
 }
 
-// The size of record i, of a block of the table.
-pub fn size_of(table: &[u8], i: usize) -> u32
-    ensures { result ≡ (inode_of (record_in table.now i)).size }
-{
-    load4(table, place_in_block(i) + 8)
-}
-
-// The depth of record i's tree, of a block of the table.
-pub fn depth_of(table: &[u8], i: usize) -> u32
-    ensures { (result ≡ (inode_of (record_in table.now i)).depth) × (result < 256) }
-{
-    load(table, place_in_block(i) + 12)
-}
-
-// The name of record i.
-pub fn name_of(table: &[u8], i: usize) -> [u8; Limits::NAME_SIZE]
-    ensures { result ≡ take 8 (record_in table.now i) }
-{
-    bytes_at(table, place_in_block(i))
-}
-
-// The name of record i as one number.
-pub fn key_at(table: &[u8], i: usize) -> u64
-    ensures { (result ≡ key_of (take 8 (record_in table.now i))) × Name (take 8 (record_in table.now i)) }
-{
-    key_of(&name_of(table, i))
-}
-
-// "all zero: record empty"
-pub fn is_empty(table: &[u8], i: usize) -> bool
-    ensures { result ≡ all_zero (take 8 (record_in table.now i)) }
-{
-    key_at(table, i) == 0
-}
-
 // The first of some records whose name has this key.
 fn first_with(records: &[[u8; Limits::INODE_SIZE]], key: u64) -> Option<usize>
     ensures { (result ≡ position (λ inode. key_of (take 8 inode) == key) records.now) × IfSome result (λ k. k < length records.now) }
@@ -92,32 +60,18 @@ fn first_with(records: &[[u8; Limits::INODE_SIZE]], key: u64) -> Option<usize>
         .position(|inode| key_of(inode.first_chunk::<8>().unwrap()) == key)
 }
 
-// The lowest of the 16 records of a block of the table that has this name, counted from the block's first.
-fn find_whole(table: &[u8; Limits::BLOCK_SIZE], key: u64) -> Option<usize>
-    ensures { ((name : List ℕ) → Name name → key ≡ key_of name → result ≡ lowest_to 16 (named table.now name) 0) × IfSome result (λ k. k < 16) }
-{
-    let (records, _) = table.as_chunks();
-    first_with(records, key)
-}
-
-// The same of a block that ends early, of a copy: in a function of its own, since a function clears its copy where it begins.
-fn find_cut(table: &[u8], key: u64) -> Option<usize>
-    ensures { ((name : List ℕ) → Name name → key ≡ key_of name → result ≡ lowest_to 16 (named table.now name) 0) × IfSome result (λ k. k < 16) }
-{
-    find_whole(&copy_of(table), key)
-}
-
-// The same of a block that may end early.
+// The lowest of the 16 records of a block of the table that has this name, counted from the block's first. The block may end early.
 fn find_in_block(table: &[u8], key: u64) -> Option<usize>
     ensures { ((name : List ℕ) → Name name → key ≡ key_of name → result ≡ lowest_to 16 (named table.now name) 0) × IfSome result (λ k. k < 16) }
 {
-    match table.first_chunk() {
-        Some(whole) => find_whole(whole, key),
-        None => find_cut(table, key),
-    }
+    on_whole(table, |whole| {
+        let (records, _) = whole.as_chunks();
+        first_with(records, key)
+    })
 }
 
-// The record with this name, block by block.
+// The record with this name, block by block. By a loop: with `find_map` the closure needs two clauses of its own, for the block and for its records, and with
+// both proved the clause of the result still stays open.
 fn find_key(copy: &WorkingCopy, key: u64) -> Option<InodeNumber>
     ensures { (name : List ℕ) → Name name → key ≡ key_of name → number_told result ≡ found_of (find (working copy.now) name) }
 {
@@ -145,10 +99,7 @@ fn find_committed(device: &[u8], key: u64) -> Option<InodeNumber>
 fn is_table(b: DiskBlock) -> bool
     ensures { result ≡ is_table b.0 }
 {
-    match area_of(b) {
-        Area::Header | Area::Log | Area::Bitmap | Area::Data => false,
-        Area::Inodes => true,
-    }
+    matches!(area_of(b), Area::Inodes)
 }
 
 // Whether no block of the table is among these.
@@ -178,6 +129,7 @@ pub fn find_empty(copy: &WorkingCopy) -> Option<InodeNumber>
 }
 
 // A place in a file's tree: `left` leaf slots from byte `at` of `block`, then the nodes named by `tops` slots from byte `top` of the record's block.
+// Places and counts, no slices of slots: a block may end early, which no slice of whole slots shows without a copy, and a cursor outlives the loan of the block that a step reads.
 #[derive(Clone, Copy)]
 pub struct Cursor {
     pub block: u32,
@@ -249,8 +201,8 @@ pub fn start_at(table: &[u8], i: InodeNumber) -> Cursor
 {
     let tb = table_block(i);
     let slots = place_in_block(i.n) + 16;
-    let depth = depth_of(table, i.n);
-    if depth == 0 {
+    let inode = Inode { table, i: i.n };
+    if inode.depth() == 0 {
         Cursor {
             block: tb.0,
             at: slots,

@@ -13,7 +13,7 @@ pub struct InodeNumber {
 impl InodeNumber {
     ghost use Rattle.std.specs.Prelude.{◌≡◌, ◌≤◌, MatchOption};
 
-    // Record i, where the table has so many.
+    // Record i, where the table has so many. By TryFrom, which must name an error, a type with nothing to tell would stand beside the one case of None.
     pub fn of(i: usize) -> Option<InodeNumber>
         ensures { MatchOption result (128 ≤ i) (λ number. number.n ≡ i) }
     {

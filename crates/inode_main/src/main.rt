@@ -2,11 +2,11 @@
 #![tactic(auto)]
 
 use extents::Stretch;
-use inode::InodeNumber;
+use inode::{Inode, InodeNumber};
 use spec::{DiskBlock, Extent, FileBlock, Limits, Phase, Session};
 use std::io;
 use transaction::{Volume, WorkingCopy};
-use trial::{number, put};
+use trial::{SMALLEST, put};
 use walk::{Step, Walk};
 
 mod walk;
@@ -45,193 +45,166 @@ fn fill_deep(device: &mut [u8]) {
     );
 }
 
-fn show_found(rt: &impl Print, f: Option<InodeNumber>) -> io::Result<()> {
-    match f {
-        Some(i) => {
-            rt.write_all(b" record")?;
-            number(rt, i.n)?;
-        }
-        None => {
-            rt.write_all(b" nothing")?;
-        }
-    }
-    rt.write_all(b"\n")
+// The copy whose records are told, and where.
+#[derive(Clone, Copy)]
+struct Teller<'a, 'c, P: Print> {
+    rt: &'a P,
+    copy: &'c WorkingCopy<'c>,
 }
 
-fn show_find(rt: &impl Print, copy: &WorkingCopy, name: &[u8]) -> io::Result<()> {
-    rt.write_all(b"find ")?;
-    rt.write_all(name)?;
-    show_found(rt, inode::find(copy, name))
-}
-
-fn show_empty(rt: &impl Print, copy: &WorkingCopy) -> io::Result<()> {
-    rt.write_all(b"empty:")?;
-    show_found(rt, inode::find_empty(copy))
-}
-
-fn show_record(rt: &impl Print, copy: &WorkingCopy, i: InodeNumber) -> io::Result<()> {
-    rt.write_all(b"record")?;
-    number(rt, i.n)?;
-    let table = inode::inode_block(copy, i);
-    rt.write_all(b": size")?;
-    number(rt, inode::size_of(table, i.n))?;
-    rt.write_all(b", depth")?;
-    number(rt, inode::depth_of(table, i.n))?;
-    if inode::is_empty(table, i.n) {
-        rt.write_all(b", empty")?;
-    }
-    rt.write_all(b"\n")
-}
-
-fn show_extent(rt: &impl Print, e: Extent) -> io::Result<()> {
-    rt.write_all(b" extent")?;
-    number(rt, e.first)?;
-    number(rt, e.count)
-}
-
-fn show_node(rt: &impl Print, b: DiskBlock) -> io::Result<()> {
-    rt.write_all(b" node")?;
-    number(rt, b.0)
-}
-
-// The extents and nodes of a file's tree.
-fn show_walk(rt: &impl Print, copy: &WorkingCopy, i: InodeNumber) -> io::Result<()> {
-    rt.write_all(b"walk of")?;
-    number(rt, i.n)?;
-    rt.write_all(b":")?;
-    for step in Walk::of(copy, i) {
-        match step {
-            Step::Leaf(e) => show_extent(rt, e)?,
-            Step::Node(b) => show_node(rt, b)?,
+impl<'a, 'c, P: Print> Teller<'a, 'c, P> {
+    fn show_found(&self, f: Option<InodeNumber>) -> io::Result<()> {
+        match f {
+            Some(i) => println!(self.rt; " record {}", i.n),
+            None => println!(self.rt; " nothing"),
         }
     }
-    rt.write_all(b" end\n")
-}
 
-// The extent that holds block `place` of a file, and how far into it.
-fn extent_at(copy: &WorkingCopy, i: InodeNumber, place: usize) -> Option<(Extent, usize)> {
-    if Limits::MAX_FILE_BLOCKS <= place {
-        return None;
+    fn show_find(&self, name: &str) -> io::Result<()> {
+        print!(self.rt; "find {name}")?;
+        self.show_found(inode::find(self.copy, name.as_bytes()))
     }
-    let mut left = place;
-    for step in Walk::of(copy, i) {
-        if let Step::Leaf(e) = step {
-            let count = e.count as usize;
-            if left < count {
-                return Some((e, left));
+
+    fn show_empty(&self) -> io::Result<()> {
+        print!(self.rt; "empty:")?;
+        self.show_found(inode::find_empty(self.copy))
+    }
+
+    fn show_record(&self, i: InodeNumber) -> io::Result<()> {
+        let inode = Inode::of(self.copy, i);
+        let size = inode.size();
+        let depth = inode.depth();
+        print!(self.rt; "record {}: size {size}, depth {depth}", i.n)?;
+        if inode.is_empty() {
+            print!(self.rt; ", empty")?;
+        }
+        println!(self.rt)
+    }
+
+    fn show_extent(&self, e: Extent) -> io::Result<()> {
+        print!(self.rt; " extent {} {}", e.first, e.count)
+    }
+
+    // The extents and nodes of a file's tree.
+    fn show_walk(&self, i: InodeNumber) -> io::Result<()> {
+        print!(self.rt; "walk of {}:", i.n)?;
+        for step in Walk::of(self.copy, i) {
+            match step {
+                Step::Leaf(e) => self.show_extent(e)?,
+                Step::Node(b) => print!(self.rt; " node {}", b.0)?,
             }
-            left -= count;
+        }
+        println!(self.rt; " end")
+    }
+
+    // The extent that holds block `place` of a file, and how far into it.
+    fn extent_at(&self, i: InodeNumber, place: usize) -> Option<(Extent, usize)> {
+        if Limits::MAX_FILE_BLOCKS <= place {
+            return None;
+        }
+        let mut left = place;
+        for step in Walk::of(self.copy, i) {
+            if let Step::Leaf(e) = step {
+                let count = e.count as usize;
+                if left < count {
+                    return Some((e, left));
+                }
+                left -= count;
+            }
+        }
+        None
+    }
+
+    fn show_block(&self, i: InodeNumber, place: usize) -> io::Result<()> {
+        print!(self.rt; "block {place} of {}:", i.n)?;
+        match self.extent_at(i, place) {
+            Some((e, skip)) => {
+                self.show_extent(e)?;
+                println!(self.rt; " skip {skip}")
+            }
+            None => println!(self.rt; " nothing"),
         }
     }
-    None
-}
 
-fn show_block(rt: &impl Print, copy: &WorkingCopy, i: InodeNumber, place: usize) -> io::Result<()> {
-    rt.write_all(b"block")?;
-    number(rt, place)?;
-    rt.write_all(b" of")?;
-    number(rt, i.n)?;
-    rt.write_all(b":")?;
-    match extent_at(copy, i, place) {
-        Some((e, skip)) => {
-            show_extent(rt, e)?;
-            rt.write_all(b" skip")?;
-            number(rt, skip)?;
-        }
-        None => {
-            rt.write_all(b" nothing")?;
+    fn show_run(&self, stretch: Stretch, k: usize) -> io::Result<()> {
+        match extents::nth_extent(self.copy, stretch, k) {
+            Some(e) => self.show_extent(e),
+            None => print!(self.rt; " nothing"),
         }
     }
-    rt.write_all(b"\n")
-}
 
-fn show_run(rt: &impl Print, copy: &WorkingCopy, stretch: Stretch, k: usize) -> io::Result<()> {
-    match extents::nth_extent(copy, stretch, k) {
-        Some(e) => show_extent(rt, e),
-        None => rt.write_all(b" nothing"),
+    fn each_run(&self, stretch: Stretch, many: usize) -> io::Result<()> {
+        for k in 0..many {
+            self.show_run(stretch, k)?;
+        }
+        self.show_run(stretch, many)
     }
-}
 
-fn each_run(rt: &impl Print, copy: &WorkingCopy, stretch: Stretch, many: usize) -> io::Result<()> {
-    for k in 0..many {
-        show_run(rt, copy, stretch, k)?;
+    // The runs of n blocks of a file from block `from` on, and one more.
+    fn show_runs(&self, i: InodeNumber, from: usize, n: usize) -> io::Result<()> {
+        let stretch = Stretch {
+            i,
+            from: FileBlock(from),
+            n,
+        };
+        let many = extents::count_runs(self.copy, stretch);
+        print!(self.rt; "stretch {from} {n} of {}: {many} runs", i.n)?;
+        self.each_run(stretch, many)?;
+        println!(self.rt)
     }
-    show_run(rt, copy, stretch, many)
-}
 
-// The runs of n blocks of a file from block `from` on, and one more.
-fn show_runs(
-    rt: &impl Print,
-    copy: &WorkingCopy,
-    i: InodeNumber,
-    from: usize,
-    n: usize,
-) -> io::Result<()> {
-    rt.write_all(b"stretch")?;
-    number(rt, from)?;
-    number(rt, n)?;
-    rt.write_all(b" of")?;
-    number(rt, i.n)?;
-    let stretch = Stretch {
-        i,
-        from: FileBlock(from),
-        n,
-    };
-    let many = extents::count_runs(copy, stretch);
-    rt.write_all(b":")?;
-    number(rt, many)?;
-    rt.write_all(b" runs")?;
-    each_run(rt, copy, stretch, many)?;
-    rt.write_all(b"\n")
-}
+    fn show_all(&self) -> io::Result<()> {
+        self.show_find("alphabet")?;
+        self.show_find("betatest")?;
+        self.show_find("voidfile")?;
+        self.show_find("gammaray")?;
+        self.show_find("alphabe")?;
+        self.show_empty()?;
+        self.show_record(InodeNumber { n: 0 })?;
+        self.show_record(InodeNumber { n: 1 })?;
+        self.show_record(InodeNumber { n: 2 })?;
+        self.show_record(InodeNumber { n: 17 })?;
+        self.show_walk(InodeNumber { n: 0 })?;
+        self.show_walk(InodeNumber { n: 2 })?;
+        self.show_walk(InodeNumber { n: 17 })
+    }
 
-fn show_all(rt: &impl Print, copy: &WorkingCopy) -> io::Result<()> {
-    show_find(rt, copy, b"alphabet")?;
-    show_find(rt, copy, b"betatest")?;
-    show_find(rt, copy, b"voidfile")?;
-    show_find(rt, copy, b"gammaray")?;
-    show_find(rt, copy, b"alphabe")?;
-    show_empty(rt, copy)?;
-    show_record(rt, copy, InodeNumber { n: 0 })?;
-    show_record(rt, copy, InodeNumber { n: 1 })?;
-    show_record(rt, copy, InodeNumber { n: 2 })?;
-    show_record(rt, copy, InodeNumber { n: 17 })?;
-    show_walk(rt, copy, InodeNumber { n: 0 })?;
-    show_walk(rt, copy, InodeNumber { n: 2 })?;
-    show_walk(rt, copy, InodeNumber { n: 17 })
-}
-
-fn show_places(rt: &impl Print, copy: &WorkingCopy) -> io::Result<()> {
-    let flat = InodeNumber { n: 0 };
-    let deep = InodeNumber { n: 2 };
-    let empty = InodeNumber { n: 17 };
-    show_block(rt, copy, flat, 0)?;
-    show_block(rt, copy, flat, 1)?;
-    show_block(rt, copy, flat, 2)?;
-    show_block(rt, copy, flat, 3)?;
-    show_block(rt, copy, deep, 2)?;
-    show_block(rt, copy, deep, 5)?;
-    show_block(rt, copy, deep, Limits::MAX_FILE_BLOCKS - 1)?;
-    show_block(rt, copy, deep, Limits::MAX_FILE_BLOCKS)?;
-    show_block(rt, copy, empty, 0)?;
-    show_runs(rt, copy, flat, 0, 10)?;
-    show_runs(rt, copy, flat, 1, 1)?;
-    show_runs(rt, copy, deep, 0, 8)?;
-    show_runs(rt, copy, deep, 1, 5)?;
-    show_runs(rt, copy, deep, 0, usize::MAX)?;
-    show_runs(rt, copy, deep, 5000, 3)?;
-    show_runs(rt, copy, empty, 0, 10)
+    fn show_places(&self) -> io::Result<()> {
+        let flat = InodeNumber { n: 0 };
+        let deep = InodeNumber { n: 2 };
+        let empty = InodeNumber { n: 17 };
+        self.show_block(flat, 0)?;
+        self.show_block(flat, 1)?;
+        self.show_block(flat, 2)?;
+        self.show_block(flat, 3)?;
+        self.show_block(deep, 2)?;
+        self.show_block(deep, 5)?;
+        self.show_block(deep, Limits::MAX_FILE_BLOCKS - 1)?;
+        self.show_block(deep, Limits::MAX_FILE_BLOCKS)?;
+        self.show_block(empty, 0)?;
+        self.show_runs(flat, 0, 10)?;
+        self.show_runs(flat, 1, 1)?;
+        self.show_runs(deep, 0, 8)?;
+        self.show_runs(deep, 1, 5)?;
+        self.show_runs(deep, 0, usize::MAX)?;
+        self.show_runs(deep, 5000, 3)?;
+        self.show_runs(empty, 0, 10)
+    }
 }
 
 fn main(rt: HostRuntime) -> io::Result<()> {
-    let mut device = [0u8; 32768];
+    let mut device = [0u8; SMALLEST];
     let work = [0u8; Limits::WORK_SIZE];
     fill_flat(&mut device);
     fill_deep(&mut device);
     let copy = WorkingCopy::of_device(&device);
-    show_all(&rt, &copy)?;
-    show_places(&rt, &copy)?;
-    rt.write_all(b"table block 34 staged as zeros\n")?;
+    let told = Teller {
+        rt: &rt,
+        copy: &copy,
+    };
+    told.show_all()?;
+    told.show_places()?;
+    println!(rt; "table block 34 staged as zeros")?;
     let session = Session::with_cells(
         64,
         Phase::Ready,
@@ -239,5 +212,9 @@ fn main(rt: HostRuntime) -> io::Result<()> {
         1,
     );
     let volume = Volume::of(&device, &work, &session);
-    show_all(&rt, &volume.copy)
+    Teller {
+        rt: &rt,
+        copy: &volume.copy,
+    }
+    .show_all()
 }

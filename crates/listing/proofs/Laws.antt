@@ -4,13 +4,14 @@ use mathlib.Core.Path.{◌≡◌, refl, sym, ap, ap₂, ◌∙◌}
 use mathlib.Core.Bool.{Bool, true, false, cond, not}
 use mathlib.Core.List.{List, [], ◌∷◌, ◌++◌, map}
 use native.Mathlib.Omega.{arith}
-use mir.Val.{bool_byte}
 use borrow.Author.Tests.{lt-ltb, le-ltb}
 use lib.ListN.{length, take, drop, length-append, length-take, length-drop}
 use lib.Seq.{take_all}
 use Rattle.spec.specs.declared.Extent.{Extent}
 use Rattle.spec.specs.declared.Session.{Session}
 use Rattle.std.specs.Prelude.{Result as Returned, Ok, Err}
+use Rattle.std.specs.List.{filter, range_with_len}
+use Rattle.inode.specs.declared.number.InodeNumber.{InodeNumber}
 use Rattle.spec.specs.declared.Phase.{Phase}
 use Rattle.spec.specs.declared.Phase.TheVariants.{Closed, Ready, Committing, Recovering}
 use Rattle.spec.specs.declared.Refusal.{Refusal}
@@ -30,7 +31,7 @@ use Rattle.inode.proofs.Laws.{record-at, inode-at, empty-at}
 use Rattle.extents.specs.Stretches.{runs_in}
 use Rattle.text.specs.Written.{number, Written}
 use Rattle.text.proofs.Laws.{laid-front}
-use Rattle.listing.specs.Steps.{span_text, more_text, runs_text, line_text, used_from, lines_text, files_lines, told_text, refused_line, recover_line, opened_lines, device_text, Listed}
+use Rattle.listing.specs.Steps.{span_text, more_text, runs_text, line_text, used, used_from, lines_text, files_lines, told_text, refused_line, recover_line, opened_lines, device_text, Listed}
 
 -- ---- extents
 
@@ -93,10 +94,14 @@ module _ (v : Disk) (i : ℕ) (table : List ℕ) (g : exactly 512 table ≡ v (b
   pub used-is : not (all_zero (take 8 (record_in table i))) ≡ not (is_empty v i)
   used-is = ap not (empty-at v table i g)
 
--- what the code counts of it
-pub one-if : (r t : Bool) → r ≡ not t → bool_byte r ≡ cond t 0 1
-one-if r true e = rw e
-one-if r false e = rw e
+-- what the code answers where there is no record i, and of record m
+pub used-none : (v : Disk) (i : ℕ) → 128 ≤ i → false ≡ used v i
+unfolding used
+used-none v i h = rw (le-ltb i 128 h)
+
+pub used-some : (v : Disk) (i : ℕ) (m : InodeNumber) (r : Bool) → m.n ≡ i → r ≡ not (is_empty v m.n) → r ≡ used v i
+unfolding used
+used-some v i m r e f = f ∙ rw (e, lt-ltb i 128 (rw e at m.low))
 
 -- one record, and the n behind it
 module _ (v : Disk) (i n : ℕ) where
@@ -138,17 +143,18 @@ module _ (v : Disk) (i : ℕ) where
   unfolding lines_text used_from
   lines_end h = let a : 128 - i ≡ 0 = omega arith in rw a
 
-at_most_one : (t : Bool) → cond {A = ℕ} t 0 1 ≤ 1
-at_most_one true = omega arith
-at_most_one false = omega arith
-
-pub few-files : (v : Disk) (i : ℕ) → length (used_from v i) ≤ 128
-unfolding used_from
-few-files v i = omega (arith, go i (128 - i))
+-- the used records, counted
+used-files : (v : Disk) (i n : ℕ) → i + n ≡ 128 → length (filter (used v) (range_with_len i n)) ≡ length (used_from v i)
+unfolding used
+used-files v i zero h = sym (count-end v i (omega arith))
+used-files v i (suc n) h = rw (lt-ltb i 128 (omega arith)) (go (is_empty v i) (filter (used v) (range_with_len (i + 1) n)) ∙ ap (λ (k : ℕ). cond (is_empty v i) 0 1 + k) (used-files v (i + 1) n (omega arith)) ∙ sym (count-more v i (omega arith)))
   where
-    go : (i n : ℕ) → length (keep (λ j. not (is_empty v j)) (up_from i n)) ≤ n
-    go i zero = omega arith
-    go i (suc n) = omega (arith, used-count v i n, go (suc i) n, at_most_one (is_empty v i))
+    go : (t : Bool) (r : List ℕ) → length (cond (not t) (i ∷ r) r) ≡ cond t 0 1 + length r
+    go true r = omega arith
+    go false r = omega arith
+
+pub count-is : (v : Disk) (n : ℕ) → n ≡ length (filter (used v) (range_with_len 0 128)) → n ≡ length (used_from v 0)
+count-is v n e = e ∙ used-files v 0 128 refl
 
 pub files-text : (v : Disk) → files_word ++ (number (length (used_from v 0)) ++ (free_word ++ (number (free_bits (bits_of (v 33))) ++ ((10 ∷ []) ++ lines_text v 0)))) ≡ files_lines v
 unfolding files_lines number lines_text used_from

@@ -1,5 +1,5 @@
 -- The parts of the listing, as the functions of this crate put them.
-use Rattle.std.specs.Prelude.{ℕ, ◌-◌, min, ◌≡◌, cond, not, List, [], ◌++◌, map, length, take, drop}
+use Rattle.std.specs.Prelude.{ℕ, ◌-◌, min, ◌≡◌, cond, not, ◌&&◌, Bool, nat_lt, List, [], ◌++◌, map, length, take, drop}
 use Rattle.spec.specs.declared.Extent.{Extent}
 use Rattle.spec.specs.declared.Phase.{Phase}
 use Rattle.spec.specs.declared.Phase.TheVariants.{Closed, Ready, Committing, Recovering}
@@ -29,6 +29,10 @@ runs_text v i = extents_text (runs (data_of v (inode_at v i)))
 -- "name in hexadecimal, size, extents", for a used record
 unfoldable pub line_text : Disk → ℕ → List ℕ
 line_text v i = cond (is_empty v i) [] (line_at v i)
+
+-- whether there is a record i, and it is used
+unfoldable pub used : Disk → ℕ → Bool
+used v i = nat_lt i 128 && not (is_empty v i)
 
 -- the used records from record i on, and their lines
 unfoldable pub used_from : Disk → ℕ → List ℕ

@@ -1,25 +1,25 @@
 // The listing of a device image: what the program purselist prints.
 #![tactic(auto)]
 
-ghost use Rattle.std.specs.Prelude.{◌≡◌, not, length};
+ghost use Rattle.std.specs.Prelude.{◌≡◌, length};
 ghost use Rattle.spec.specs.Disk.{blocks_of};
-ghost use Rattle.spec.specs.Inode.{is_empty};
 ghost use Rattle.spec.specs.Bitmap.{bits_of, free_bits};
 ghost use Rattle.transaction.specs.Volumes.{working};
 ghost use Rattle.text.specs.Written.{Written, Put};
-ghost use Rattle.listing.specs.Steps.{span_text, runs_text, line_text, lines_text, files_lines, refused_line, recover_line, opened_lines, device_text, told_text, used_from, Listed};
+ghost use Rattle.listing.specs.Steps.{span_text, runs_text, line_text, lines_text, files_lines, refused_line, recover_line, opened_lines, device_text, told_text, used, used_from, Listed};
 
-use block::{block_in, copy_of};
+use bitmap::free_of;
+use block::block_in;
 use extents::{Runs, Stretch};
 use header::targets_in;
-use inode::{InodeNumber, inode_block, is_empty, name_of, size_of};
+use inode::{Inode, InodeNumber};
 use spec::{DiskBlock, Extent, FileBlock, Limits, Phase, Refusal, Session};
 use store::open_store;
 use text::Writer;
 use transaction::WorkingCopy;
 
 // "at most 65,536 bytes"
-const LONGEST_IMAGE: usize = 65536;
+pub const LONGEST_IMAGE: usize = 65536;
 
 // Bytes enough for any text: listing-few in proofs/Length.antt.
 pub const LISTING_SIZE: usize = 8785;
@@ -59,15 +59,13 @@ fn put_runs(w: &mut Writer, copy: &WorkingCopy, i: InodeNumber)
 fn put_line(w: &mut Writer, copy: &WorkingCopy, i: InodeNumber)
     ensures { Put w.old w.new (line_text (working copy.now) i.n) }
 {
-    let table = inode_block(copy, i);
-    if is_empty(table, i.n) {
+    let inode = Inode::of(copy, i);
+    if inode.is_empty() {
         return;
     }
-    let name = name_of(table, i.n);
-    let size = size_of(table, i.n);
-    w.put_hex(&name);
+    w.put_hex(&inode.name());
     w.put(b' ');
-    w.put_number(size as usize);
+    w.put_number(inode.size() as usize);
     w.put(b' ');
     put_runs(w, copy, i);
     w.put(b'\n');
@@ -82,29 +80,28 @@ fn put_lines(w: &mut Writer, copy: &WorkingCopy)
     }
 }
 
-// Whether record i is that of a file.
-fn is_used(copy: &WorkingCopy, i: InodeNumber) -> bool
-    ensures { result ≡ not (is_empty (working copy.now) i.n) }
+// Whether there is a record i, and it is that of a file. By is_some_and what it answers of a record stays open: nothing is told of the closure.
+fn is_used(copy: &WorkingCopy, i: usize) -> bool
+    ensures { result ≡ used (working copy.now) i }
 {
-    !is_empty(inode_block(copy, i), i.n)
+    let Some(i) = InodeNumber::of(i) else {
+        return false;
+    };
+    !Inode::of(copy, i).is_empty()
 }
 
 fn count_files(copy: &WorkingCopy) -> usize
     ensures { result ≡ length (used_from (working copy.now) 0) }
 {
-    let mut n: usize = 0;
-    for i in 0..Limits::INODE_COUNT {
-        n += usize::from(is_used(copy, InodeNumber { n: i }));
-    }
-    n
+    (0..Limits::INODE_COUNT)
+        .filter(|i| is_used(copy, *i))
+        .count()
 }
 
 fn count_free(copy: &WorkingCopy) -> usize
     ensures { result ≡ free_bits (bits_of (working copy.now 33)) }
 {
-    let bitmap = DiskBlock(Limits::BITMAP_BLOCK);
-    let table = copy_of(copy.block(bitmap));
-    bitmap::free_in(&table)
+    free_of(copy.block(DiskBlock(Limits::BITMAP_BLOCK)))
 }
 
 // The listing: number of files and free blocks, and the files.

@@ -12,8 +12,8 @@ use loader::{LoadFault, Loaded, begin, step};
 use mirror::{CFinished, advanced, finished, keep_session, session_in};
 use spec::{Limits, Session};
 
-// A step. kind: 0 refused, 1 a line was taken up, 2 an advance was made, 3 no line is left. line: the line refused, else 0; stores: of a line; block,
-// last, number: of an advance, all 0 where nothing is under way; next: the load's place behind the step.
+// A step, in the numbers that C takes. kind: 0 refused, 1 a line was taken up, 2 an advance was made, 3 no line is left. line: the line refused, else 0; stores: of
+// a line; block, last, number: of an advance, all 0 where nothing is under way; next: the load's place behind the step.
 #[repr(C)]
 #[derive(Clone, Copy, Default)]
 pub struct CLoaded {

@@ -2,10 +2,10 @@
 use Prim.Native.Nat.{ℕ, zero, suc, ◌+◌, ◌*◌, ◌<◌}
 use mathlib.Core.Path.{◌≡◌, refl, sym, ap, ap₂, ◌∙◌, subst}
 use mathlib.Core.Bool.{Bool, true, false, cond, true≢false}
-use mathlib.Core.List.{List, [], ◌∷◌}
+use mathlib.Core.List.{List, []}
 use Rattle.std.specs.Prelude.{Option, Some, Ok, Err}
 use Rattle.std.specs.Prelude.{Result as Returned}
-use Rattle.std.specs.Result.{MatchResult, IsOkAnd, IsErrAnd}
+use Rattle.std.specs.Result.{MatchResult, IsErrAnd}
 use native.Mathlib.Omega.{arith}
 use borrow.Author.Tests.{ne_eqb}
 use lib.ListN.{length, take}
@@ -15,12 +15,11 @@ use lib.Dec.{eqb}
 use Rattle.spec.specs.declared.Phase.{Phase}
 use Rattle.spec.specs.declared.Phase.TheVariants.{Closed, Ready, Committing, Recovering}
 use Rattle.spec.specs.declared.Session.{Session}
-use Rattle.spec.specs.declared.BlockStored.{BlockStored}
 use Rattle.spec.specs.declared.Refusal.{Refusal}
 use Rattle.spec.specs.declared.Refusal.TheVariants.{NotReady}
 use Rattle.spec.specs.Disk.{Slice, slice_of, blocks_of}
 use Rattle.spec.specs.Session.{staged_in}
-use Rattle.spec.specs.Answers.{Answer, refused, done, started, stored, idle, counted, file, no_file, run, no_run, refusal_of, done_of, started_of, stored_of, is_refused, Result, refuse, accept, require, ◌>>◌}
+use Rattle.spec.specs.Answers.{Answer, refused, done, started, stored, idle, counted, file, no_file, run, no_run, refusal_of, done_of, started_of, is_refused, Result, refuse, accept, require, ◌>>◌}
 use Rattle.spec.specs.Transaction.{State, state_of}
 use Rattle.spec.specs.Calls.{Outcome, outcome, left, settle, lent_ok, ready_ok, start_commit, create, write, commit, advance}
 pub use Rattle.std.proofs.lemmas.List.{nil_from_length as nil-of}
@@ -31,9 +30,7 @@ use Rattle.cardfile.specs.Lines.{Standing, card, standing, line_at, line_number,
 use Rattle.cardfile.specs.declared.Line.{Line}
 use Rattle.cardfile.specs.declared.LineFault.{LineFault}
 use Rattle.cardfile.proofs.Places.{found_at}
-use Rattle.loader.specs.declared.Loaded.{Loaded}
 use Rattle.loader.specs.declared.Loaded.TheVariants as loaded-cases
-use Rattle.loader.specs.declared.LoadFault.{LoadFault}
 use Rattle.loader.specs.declared.LoadFault.TheVariants as fault-cases
 use Rattle.loader.specs.Load.{idle_ok, begin, or_back, store_line, answered, LoadOutcome, loaded, naming, taken_up, take_line, after_begin, advancing, load_in, load_step, loaded_of, left_load}
 
@@ -220,14 +217,14 @@ module _ (s : State) (t : Session) (d x : List ℕ) (at number next : ℕ) (name
     as-named : (o : LoadOutcome) → o ≡ taken_up s at next number (left t d x (started_of a)) → o ≡ taken_up s at next number (store_line s name amount)
     as-named o e = e ∙ ap (taken_up s at next number) eq
 
-    pub take-refused : (r : Refusal) → a ≡ Err r
+    take-refused : (r : Refusal) → a ≡ Err r
         → left_load t d x at (loaded_of (Err (fault-cases.LineRefused number r))) ≡ taken_up s at next number (store_line s name amount)
     take-refused r h =
         as-named (left_load t d x at (answered (naming number (refusal_of r))))
         (ap (λ (b : Bool). loaded (state_of t d x) (cond b at next) (answered (naming number (refusal_of r)))) (sym (refused-is r))
         ∙ ap (λ (y : Started). taken_up s at next number (left t d x (started_of y))) (sym h))
 
-    pub take-started : (n : ℕ) → a ≡ Ok n → left_load t d x next (loaded_of (Ok (loaded-cases.Started n))) ≡ taken_up s at next number (store_line s name amount)
+    take-started : (n : ℕ) → a ≡ Ok n → left_load t d x next (loaded_of (Ok (loaded-cases.Started n))) ≡ taken_up s at next number (store_line s name amount)
     take-started n h = as-named (left_load t d x next (answered (started n))) (ap (λ (y : Started). taken_up s at next number (left t d x (started_of y))) (sym h))
 
 -- what the code read at the place is what stands there
@@ -235,13 +232,26 @@ module _ (s : State) (text : List ℕ) (at number : ℕ) (r : Returned (Option L
   taken_as : (o : LoadOutcome) (z : Standing) → standing text at ≡ z → o ≡ take_line s at number z → o ≡ take_line s at number (standing text at)
   taken_as o z h e = e ∙ ap (take_line s at number) (sym h)
 
-  pub take_found : (x : Line) (o : LoadOutcome) → r ≡ Ok (Some x)
+  take_found : (x : Line) (o : LoadOutcome) → r ≡ Ok (Some x)
       → o ≡ taken_up s at x.next number (store_line s (name_told x.card.serial.bytes x.card.serial.number) (amount_bytes x.card.amount))
       → o ≡ take_line s at number (standing text at)
   take_found x o h e =
       let f = found_at text at x (sym read ∙ h) in
       taken_as o (card f.entry x.next) f.is
       (e ∙ ap₂ (λ (n : List ℕ) (m : ℕ). taken_up s at x.next number (store_line s n (amount_bytes m))) f.name f.amount)
+
+  -- a line taken up with the name and the amount of its card
+  module _ (x : Line) (found : r ≡ Ok (Some x)) (t : Session) (d w name amount : List ℕ) (a : Started)
+      (n : name ≡ name_told x.card.serial.bytes x.card.serial.number) (m : amount ≡ amount_bytes x.card.amount) (eq : left t d w (started_of a) ≡ store_line s name amount)
+    where
+      of-card : left t d w (started_of a) ≡ store_line s (name_told x.card.serial.bytes x.card.serial.number) (amount_bytes x.card.amount)
+      of-card = eq ∙ ap₂ (store_line s) n m
+
+      pub line-refused : (why : Refusal) → a ≡ Err why → left_load t d w at (loaded_of (Err (fault-cases.LineRefused number why))) ≡ take_line s at number (standing text at)
+      line-refused why h = take_found x _ found (take-refused s t d w at number x.next _ _ a of-card why h)
+
+      pub line-started : (k : ℕ) → a ≡ Ok k → left_load t d w x.next (loaded_of (Ok (loaded-cases.Started k))) ≡ take_line s at number (standing text at)
+      line-started k h = take_found x _ found (take-started s t d w at number x.next _ _ a of-card k h)
 
 -- ---- the next line, and a step
 
@@ -257,16 +267,6 @@ module _ {X E D : Type 0} where
   told-fine (Ok y) m P h x k = let g : y ≡ x = cc in ap Ok g
   told-fine (Err e) (Ok y) P h x k = absurd h
   told-fine (Err e) (Err d) P h x k = let y : ◌≡◌ {A = ℕ} 0 1 = cc in absurd (omega arith)
-
--- an advance's answer as a step's
-pub told-advanced : (a : Returned (Option BlockStored) Refusal) (m : Returned Loaded Refusal) (r : Returned Loaded LoadFault)
-    → MatchResult a (λ x. IsOkAnd m (λ y. y ≡ loaded-cases.Advanced x)) (λ e. m ≡ Err e)
-    → MatchResult m (λ x. r ≡ Ok x) (λ e. IsErrAnd r (λ f. f ≡ fault-cases.Refused e)) → loaded_of r ≡ answered (stored_of a)
-told-advanced (Ok x) (Ok y) r h k = rw (k, h) refl
-told-advanced (Ok x) (Err d) r h k = absurd h
-told-advanced (Err e) (Ok y) r h k = let z : ◌≡◌ {A = ℕ} 0 1 = cc in absurd (omega arith)
-told-advanced (Err e) (Err d) (Ok y) h k = absurd k
-told-advanced (Err e) (Err d) (Err f) h k = let g : d ≡ e = cc in rw (k, g) refl
 
 module _ (s : State) (text : List ℕ) (at : ℕ) where
   pub next-stops : (a : Done) (r : Refusal) → outcome s (done_of a) ≡ begin s → a ≡ Err r → loaded s at (answered (refusal_of r)) ≡ after_begin s text at (idle_ok s)

@@ -10,6 +10,7 @@ ghost use Rattle.spec.specs.Transaction.{state_of};
 ghost use Rattle.spec.specs.Calls.{left};
 ghost use Rattle.promises.specs.Restored.{stored_in};
 ghost use Rattle.cardfile.specs.Lines.{line_number, standing};
+ghost use Rattle.loader.specs.declared.LoadFault.TheVariants.{Refused};
 ghost use Rattle.loader.specs.Load.{begin, store_line, take_line, after_begin, idle_ok, load_step, left_load, loaded_of, number_in, named_in};
 
 use cardfile::{LineFault, amount_bytes, line_at, line_number, name_of};
@@ -24,12 +25,20 @@ pub enum Loaded {
     NoneLeft,
 }
 
-// Why it is refused, in three cases. A line is named by its number, counted from 1.
+// Why it is refused. A line is named by its number, counted from 1.
 #[derive(Clone, Copy)]
 pub enum LoadFault {
     Refused(Refusal),
     LineRefused(usize, Refusal),
     BadLine(usize, LineFault),
+}
+
+impl From<Refusal> for LoadFault {
+    ghost from_gives = { λ why fault. fault ≡ Refused why };
+
+    fn from(why: Refusal) -> LoadFault {
+        Self::Refused(why)
+    }
 }
 
 impl LoadFault {
@@ -38,8 +47,7 @@ impl LoadFault {
         ensures { result ≡ number_in (loaded_of (Err self)) }
     {
         match self {
-            LoadFault::Refused(why) => why.number(),
-            LoadFault::LineRefused(_, why) => why.number(),
+            LoadFault::Refused(why) | LoadFault::LineRefused(_, why) => why.number(),
             LoadFault::BadLine(_, fault) => fault.number(),
         }
     }
@@ -125,14 +133,7 @@ struct Load<'a> {
 }
 
 impl<'a> Load<'a> {
-    // The number of the line at its place. It is counted where the line is refused.
-    fn number(&self) -> usize
-        ensures { result ≡ line_number self.now.text.now self.now.at }
-    {
-        line_number(self.text, self.at)
-    }
-
-    // What stands at its place, taken up; the place then lies behind it.
+    // What stands at its place, taken up; the place then lies behind it. The line's number is counted where the line is refused.
     fn take_line(
         &mut self,
         device: &[u8],
@@ -142,20 +143,18 @@ impl<'a> Load<'a> {
         ensures { left_load self.new.session device.now work.new self.new.at (loaded_of result)
             ≡ take_line (state_of self.old.session device.now work.old) self.old.at (line_number self.old.text.now self.old.at) (standing self.old.text.now self.old.at) }
     {
-        let line = match line_at(self.text, self.at) {
-            Ok(Some(line)) => line,
-            Ok(None) => return Ok(Loaded::NoneLeft),
-            Err(fault) => return Err(LoadFault::BadLine(self.number(), fault)),
+        let (text, at) = (self.text, self.at);
+        let found = line_at(text, at);
+        let found = found.map_err(|fault| LoadFault::BadLine(line_number(text, at), fault))?;
+        let Some(line) = found else {
+            return Ok(Loaded::NoneLeft);
         };
         let name = name_of(line.card);
         let amount = amount_bytes(line.card.amount);
-        match store_line(device, work, &mut self.session, &name, &amount) {
-            Ok(stores) => {
-                self.at = line.next;
-                Ok(Loaded::Started(stores))
-            }
-            Err(why) => Err(LoadFault::LineRefused(self.number(), why)),
-        }
+        let stored = store_line(device, work, &mut self.session, &name, &amount);
+        let stores = stored.map_err(|why| LoadFault::LineRefused(line_number(text, at), why))?;
+        self.at = line.next;
+        Ok(Loaded::Started(stores))
     }
 
     // The next line, where a load may go on.
@@ -163,7 +162,7 @@ impl<'a> Load<'a> {
         ensures { left_load self.new.session device.now work.new self.new.at (loaded_of result)
             ≡ after_begin (state_of self.old.session device.now work.old) self.old.text.now self.old.at (idle_ok (state_of self.old.session device.now work.old)) }
     {
-        begin(device, work, self.session).map_err(LoadFault::Refused)?;
+        begin(device, work, self.session)?;
         // Begin has told its size.
         let Some(work) = work.as_mut_array() else {
             unreachable!()
@@ -179,7 +178,7 @@ impl<'a> Load<'a> {
         if let Phase::Committing(_) = self.session.phase {
             let a = advance(device, work, self.session);
             self.session = a.session;
-            return a.answer.map(Loaded::Advanced).map_err(LoadFault::Refused);
+            return Ok(Loaded::Advanced(a.answer?));
         }
         self.next_line(device, work)
     }

@@ -21,7 +21,7 @@ fn told(rt: &impl Print, answer: Result<Loaded, LoadFault>) -> io::Result<()> {
     match answer {
         Ok(Loaded::Started(n)) => print!(rt; " started {n}:"),
         Ok(Loaded::Advanced(block)) => stored(rt, block),
-        Ok(Loaded::NoneLeft) => rt.write_all(b" none left"),
+        Ok(Loaded::NoneLeft) => print!(rt; " none left"),
         Err(LoadFault::Refused(why)) => refused(rt, why),
         Err(fault) => line_refused(rt, fault),
     }
@@ -51,9 +51,9 @@ impl<'a, 't, P: Print> Load<'a, 't, P> {
 
     fn begin(&self) -> io::Result<()> {
         let t = &self.store.lent;
-        self.rt.write_all(b" begin")?;
+        print!(self.rt; " begin")?;
         done(self.rt, begin(&t.device, &t.work, t.session))?;
-        self.rt.write_all(b",")
+        print!(self.rt; ",")
     }
 
     // One step.
@@ -83,24 +83,24 @@ impl<'a, 't, P: Print> Load<'a, 't, P> {
     fn line(&mut self) -> io::Result<()> {
         self.step()?;
         self.next()?;
-        self.rt.write_all(b"\n")
+        println!(self.rt)
     }
 
     // With the work space before and behind it compared.
     fn line_kept(&mut self) -> io::Result<()> {
         let work = self.store.lent.work;
         self.line()?;
-        self.rt.write_all(b"its work space:")?;
         if work == self.store.lent.work {
-            return self.rt.write_all(b" kept\n");
+            println!(self.rt; "its work space: kept")
+        } else {
+            println!(self.rt; "its work space: changed")
         }
-        self.rt.write_all(b" changed\n")
     }
 
     // One step of another session.
-    fn in_session(&mut self, s: Session, words: &[u8]) -> io::Result<()> {
+    fn in_session(&mut self, s: Session, words: &str) -> io::Result<()> {
         self.store.lent.session = s;
-        self.rt.write_all(words)?;
+        print!(self.rt; "{words}")?;
         self.begin()?;
         self.line()
     }
@@ -111,16 +111,16 @@ impl<'a, 't, P: Print> Load<'a, 't, P> {
 // Two lines with their stores, a line that is refused, twice, and the place behind it.
 fn three_lines(rt: &impl Print, text: &[u8]) -> io::Result<()> {
     let mut t = Load::new(rt, text, 0);
-    rt.write_all(b"three lines:")?;
+    print!(rt; "three lines:")?;
     t.begin()?;
     t.steps(9)?;
-    rt.write_all(b"\nthe second:")?;
+    print!(rt; "\nthe second:")?;
     t.steps(9)?;
-    rt.write_all(b"\nthe third:")?;
+    print!(rt; "\nthe third:")?;
     t.line()?;
-    rt.write_all(b"and again:")?;
+    print!(rt; "and again:")?;
     t.line()?;
-    rt.write_all(b"behind the last:")?;
+    print!(rt; "behind the last:")?;
     t.at = text.len();
     t.line()
 }
@@ -128,24 +128,24 @@ fn three_lines(rt: &impl Print, text: &[u8]) -> io::Result<()> {
 // 12 comes before any line, also where none is left.
 fn not_ready(rt: &impl Print, text: &[u8]) -> io::Result<()> {
     let mut t = Load::new(rt, text, 0);
-    t.in_session(Session::never_opened(), b"never opened:")?;
-    t.in_session(Session::closed_on(64), b"closed:")?;
-    rt.write_all(b"closed, no line left:")?;
+    t.in_session(Session::never_opened(), "never opened:")?;
+    t.in_session(Session::closed_on(64), "closed:")?;
+    print!(rt; "closed, no line left:")?;
     t.at = text.len();
     t.line()?;
     t.at = 0;
-    t.in_session(Session::opened(64, Phase::Recovering(0)), b"recovering:")
+    t.in_session(Session::opened(64, Phase::Recovering(0)), "recovering:")
 }
 
 // A file made by the caller: staged, then its commit under way.
 fn foreign(rt: &impl Print, text: &[u8]) -> io::Result<()> {
     let mut t = Load::new(rt, text, 0);
     make(&mut t.store, 0);
-    rt.write_all(b"staged:")?;
+    print!(rt; "staged:")?;
     t.begin()?;
     t.line()?;
     let _ = t.store.commit();
-    rt.write_all(b"its commit under way:")?;
+    print!(rt; "its commit under way:")?;
     t.begin()?;
     go_on(&mut t)
 }
@@ -154,26 +154,26 @@ fn foreign(rt: &impl Print, text: &[u8]) -> io::Result<()> {
 fn go_on<P: Print>(t: &mut Load<'_, '_, P>) -> io::Result<()> {
     t.steps(4)?;
     t.next()?;
-    t.rt.write_all(b", then")?;
+    print!(t.rt; ", then")?;
     t.steps(9)?;
     t.next()?;
-    t.rt.write_all(b"\n")
+    println!(t.rt)
 }
 
 // One step on an empty store.
-fn one_line(rt: &impl Print, words: &[u8], text: &[u8], at: usize) -> io::Result<()> {
-    rt.write_all(words)?;
+fn one_line(rt: &impl Print, words: &str, text: &[u8], at: usize) -> io::Result<()> {
+    print!(rt; "{words}")?;
     Load::new(rt, text, at).line()
 }
 
 fn lines(rt: &impl Print) -> io::Result<()> {
-    one_line(rt, b"empty file:", b"", 0)?;
-    one_line(rt, b"one feed:", b"\n", 0)?;
-    one_line(rt, b"small letters:", b"04A1B2C3;H;1\n04a1b2c3;H;1\n", 13)?;
-    one_line(rt, b"no feed:", b"04A1B2C3;H;1\n04A1B2C4;H;1", 13)?;
+    one_line(rt, "empty file:", b"", 0)?;
+    one_line(rt, "one feed:", b"\n", 0)?;
+    one_line(rt, "small letters:", b"04A1B2C3;H;1\n04a1b2c3;H;1\n", 13)?;
+    one_line(rt, "no feed:", b"04A1B2C3;H;1\n04A1B2C4;H;1", 13)?;
     one_line(
         rt,
-        b"65 bytes:",
+        "65 bytes:",
         b"04A1B2C3;H;1\n\n01234567890123456789012345678901234567890123456789012345678901234\n",
         14,
     )
@@ -190,18 +190,18 @@ fn no_room(rt: &impl Print) -> io::Result<()> {
     let mut t = Load::new(rt, b"04A1B2C3;H;1250\n", 0);
     make(&mut t.store, 10752);
     t.store.commit_whole();
-    rt.write_all(b"one block free:")?;
+    print!(rt; "one block free:")?;
     t.line()?;
     let mut u = Load::new(rt, b"\n04A1B2C3;H;1250\n", 1);
     make(&mut u.store, 11264);
     u.store.commit_whole();
-    rt.write_all(b"no block free:")?;
+    print!(rt; "no block free:")?;
     u.line_kept()
 }
 
 fn all_records(rt: &impl Print) -> io::Result<()> {
     let mut t = Load::new(rt, b"04A1B2C3;H;1250\n", 0);
-    rt.write_all(b"128 records:")?;
+    print!(rt; "128 records:")?;
     t.store.create_all(Limits::INODE_COUNT as u8);
     t.store.commit_whole();
     t.line_kept()

@@ -14,7 +14,8 @@ use lib.Bits.{bit_and, bit_or, and_step, or_step, and_shr, or_shr}
 use lib.ListN.{length, get_or, set, replicate, length-replicate, length-set, get_or-eq_default}
 use lib.Seq.{get_or-set_same, get_or-set_other}
 use Rattle.spec.specs.Bytes.{exactly, same, all, all_zero, occurs, up_from, concat, lowest}
-use Rattle.spec.specs.Bitmap.{bits_of}
+use Rattle.spec.specs.Bitmap.{bits_of, mark}
+use Rattle.bitmap.specs.Words.{mask_of}
 use Rattle.spec.specs.Disk.{Disk, is_data_area, area_of, in_data}
 use Rattle.spec.specs.declared.Area.TheVariants.{Header, Log, Bitmap, Inodes, Data}
 use Rattle.spec.specs.Inode.{reached_from, reached}
@@ -25,9 +26,10 @@ use Rattle.lists.specs.Tests.{both_true}
 use Rattle.bitmap.proofs.Laws.{length-bits, bit_at, bits-binary, occurs-append}
 use Rattle.block.proofs.Laws.{lt-or-le, length-exactly}
 use Rattle.block.proofs.Lists.{up_from-append, concat-map-append}
-use Rattle.std.specs.Prelude.{Option, None}
+use Rattle.std.specs.Prelude.{Option, Some, None}
+use Rattle.std.specs.Option.{MatchOption}
 use Rattle.inode.specs.Records.{found_of, lowest_to}
-use Rattle.inode.proofs.Laws.{lowest-agree}
+use Rattle.inode.proofs.Laws.{lowest-agree, lowest-hit, lowest-miss, lowest-none}
 use Rattle.mkfs.specs.Table.{Cleared}
 use Rattle.zeros.proofs.Laws.{zero-at}
 use Rattle.marks.specs.declared.Marks.{Marks}
@@ -88,32 +90,29 @@ or-bit x y k = ap (λ (n : ℕ). n % 2) (or_shr x y k ∙ or_step (x / 2 ^ k) (y
 and-bit : (x y k : ℕ) → bit_and x y / 2 ^ k % 2 ≡ min (x / 2 ^ k % 2) (y / 2 ^ k % 2)
 and-bit x y k = ap (λ (n : ℕ). n % 2) (and_shr x y k ∙ and_step (x / 2 ^ k) (y / 2 ^ k)) ∙ odd _ (min (x / 2 ^ k % 2) (y / 2 ^ k % 2)) (omega arith)
 
--- a byte with n ones from bit s on, as the code shifts it
-unfoldable pub mask : ℕ → ℕ → ℕ
-mask n s = 255 / 2 ^ (8 - n) * 2 ^ s % 256
-
+-- the bits of a mask
 mask-right : ℕ → ℕ → ℕ → Bool
-mask-right n s k = eqb (mask n s / 2 ^ k % 2) (cond (leb s k && ltb k (s + n)) 1 0)
+mask-right n s k = eqb (mask_of n s / 2 ^ k % 2) (cond (leb s k && ltb k (s + n)) 1 0)
 
 masks-right : all (λ n. all (λ s. all (mask-right n s) (up_from 0 8)) (up_from 0 8)) (up_from 0 9) ≡ true
-unfolding mask-right mask
+unfolding mask-right mask_of mark
 masks-right = refl
 
-mask-bit : (n s k : ℕ) → n ≤ 8 → s < 8 → k < 8 → mask n s / 2 ^ k % 2 ≡ cond (leb s k && ltb k (s + n)) 1 0
+mask-bit : (n s k : ℕ) → n ≤ 8 → s < 8 → k < 8 → mask_of n s / 2 ^ k % 2 ≡ cond (leb s k && ltb k (s + n)) 1 0
 unfolding mask-right
 mask-bit n s k hn hs hk =
     let p = all-at (λ m. all (λ r. all (mask-right m r) (up_from 0 8)) (up_from 0 8)) (up_from 0 9) n masks-right (up_from-occurs n 0 9 (omega arith) (omega arith)) in
     let q = all-at (λ r. all (mask-right n r) (up_from 0 8)) (up_from 0 8) s p (up_from-occurs s 0 8 (omega arith) (omega arith)) in
     let r = all-at (mask-right n s) (up_from 0 8) k q (up_from-occurs k 0 8 (omega arith) (omega arith)) in
-    eqb-true (mask n s / 2 ^ k % 2) (cond (leb s k && ltb k (s + n)) 1 0) r
+    eqb-true (mask_of n s / 2 ^ k % 2) (cond (leb s k && ltb k (s + n)) 1 0) r
 
-mask_low : (n s k : ℕ) → n ≤ 8 → s < 8 → k < s → mask n s / 2 ^ k % 2 ≡ 0
+mask_low : (n s k : ℕ) → n ≤ 8 → s < 8 → k < s → mask_of n s / 2 ^ k % 2 ≡ 0
 mask_low n s k hn hs h = mask-bit n s k hn hs (omega arith) ∙ rw (lt-leb s k h)
 
-mask-in : (n s k : ℕ) → n ≤ 8 → s < 8 → s ≤ k → k < s + n → k < 8 → mask n s / 2 ^ k % 2 ≡ 1
+mask-in : (n s k : ℕ) → n ≤ 8 → s < 8 → s ≤ k → k < s + n → k < 8 → mask_of n s / 2 ^ k % 2 ≡ 1
 mask-in n s k hn hs h m l = mask-bit n s k hn hs l ∙ rw (le-leb s k h, lt-ltb k (s + n) m)
 
-mask-high : (n s k : ℕ) → n ≤ 8 → s < 8 → s + n ≤ k → k < 8 → mask n s / 2 ^ k % 2 ≡ 0
+mask-high : (n s k : ℕ) → n ≤ 8 → s < 8 → s + n ≤ k → k < 8 → mask_of n s / 2 ^ k % 2 ≡ 0
 mask-high n s k hn hs h l = mask-bit n s k hn hs l ∙ rw (le-leb s k (omega arith), le-ltb k (s + n) h)
 
 -- ---- a run of blocks, counted
@@ -175,7 +174,7 @@ module _ (s : Marks) (b n : ℕ) (lo : length s.once ≡ 512) (lt : length s.twi
   t = s.twice
 
   abbrev m : ℕ
-  m = mask n (b % 8)
+  m = mask_of n (b % 8)
 
   -- the tables with byte b / 8 changed
   abbrev o' : List ℕ
@@ -298,11 +297,11 @@ run-start N a m b e s eb ee = record { once = λ x. rw (same x); twice = λ x. r
         go true q = counted-in N x _ q ∙ inner x q ∙ sym (counted-in N x _ q)
         go false q = counted-out N x _ q ∙ sym (counted-out N x _ q)
 
-pub run_more : (b e n p : ℕ) → b + n ≡ p → p ≤ e → Split (up_from b (e - b)) (up_from b n) (up_from p (e - p))
-run_more b e n p q h x =
+pub run_more : (a b e n p : ℕ) → a ≡ b → b + n ≡ p → p ≤ e → Split (up_from a (e - a)) (up_from b n) (up_from p (e - p))
+run_more a b e n p f q h x =
     let z : e - b ≡ n + (e - p) = omega arith in
-    ap (λ (k : ℕ). occurs x (up_from b k)) z ∙ ap (occurs x) (up_from-append b n (e - p)) ∙ occurs-append x (up_from b n) (up_from (b + n) (e - p))
-    ∙ ap (λ (k : ℕ). occurs x (up_from b n) + occurs x (up_from k (e - p))) q
+    rw f (ap (λ (k : ℕ). occurs x (up_from b k)) z ∙ ap (occurs x) (up_from-append b n (e - p)) ∙ occurs-append x (up_from b n) (up_from (b + n) (e - p))
+    ∙ ap (λ (k : ℕ). occurs x (up_from b n) + occurs x (up_from k (e - p))) q)
 
 pub run_end : (b e : ℕ) → e ≤ b → up_from b (e - b) ≡ []
 run_end b e h = let z : e - b ≡ 0 = omega arith in rw z
@@ -360,6 +359,18 @@ lowest-off a (suc n) = lowest-off (suc a) n
 found-off : (m i : ℕ) → lowest_to m (λ k. false) i ≡ None
 unfolding lowest_to
 found-off m i = ap found_of (lowest-off i (m - i))
+
+-- the lowest number that passes, as `find` tells it
+module _ (n : ℕ) (f : ℕ → Bool) where
+  passed : (i : ℕ) → i ≤ n → ((k : ℕ) → 0 ≤ k → k < i → f k ≡ false) → lowest_to n f 0 ≡ lowest_to n f i
+  passed zero h below = refl
+  passed (suc i) h below =
+      passed i (omega arith) (λ k a l. below k a (omega arith)) ∙ lowest-miss n f i (omega arith) (below i (omega arith) (omega arith)) ∙ ap (lowest_to n f) (add-one i)
+
+  pub first-passing : (r : Option ℕ) → MatchOption r ((k : ℕ) → 0 ≤ k → k < n → f k ≡ false)
+      (λ i. (0 ≤ i) × (i < n) × (f i ≡ true) × ((k : ℕ) → 0 ≤ k → k < i → f k ≡ false)) → r ≡ lowest_to n f 0
+  first-passing None h = sym (passed n (omega arith) h ∙ lowest-none n f n (omega arith))
+  first-passing (Some i) h = sym (passed i (omega (arith, h.1)) h.3 ∙ lowest-hit n f i h.1 h.2)
 
 -- whole tables compared
 same-says : (xs ys : List ℕ) (k : ℕ) → same xs ys ≡ true → get_or xs k 0 ≡ get_or ys k 0

@@ -9,6 +9,7 @@ ghost use Rattle.marks.specs.Marks.{bit, Kept, wrong, block_found};
 
 mod tested;
 
+use bitmap::mask;
 use block::{in_data, load};
 use mkfs::empty_table;
 use spec::{DiskBlock, Limits};
@@ -16,7 +17,8 @@ pub use tested::Device;
 use zeros::is_zero;
 
 // Two tables, one bit to a block: `once` has those reached, and `twice` those reached more than once.
-// Two tables and no table of pairs: `once` is compared with the bitmap as a whole.
+// Two tables and no table of pairs: `once` is compared with the bitmap as a whole. Bytes and no Bitmap: that bitmap is lent in place, of which a Bitmap would be
+// a copy, and the bits of all three are read alike.
 #[derive(Clone, Copy)]
 pub struct Marks {
     pub once: [u8; Limits::BLOCK_SIZE],
@@ -44,13 +46,14 @@ impl Marks {
         }
     }
 
-    // `n` blocks from b on reached, whose bits lie in one byte: marked in `once`, and in `twice` where they were marked before.
+    // `n` blocks from b on reached, whose bits lie in one byte: marked in `once`, and in `twice` where they were marked before. That the byte lies in the tables
+    // is asked here: both callers know it from the device's blocks, and a number of a type of its own would be made there with the same fact.
     fn mark_byte(&mut self, b: DiskBlock, n: u32)
         requires { (42 ≤ b.0) × (0 < n) × (b.0 % 8 + n ≤ 8) × (b.0 < 4096) }
         ensures { (N : ℕ) → b.0 + n ≤ N → Kept N self.new [] self.old (up_from b.0 n) }
     {
         let i = (b.0 / 8) as usize;
-        let m = (255u8 >> (8 - n)) << (b.0 % 8);
+        let m = mask(b, n);
         let o = self.once[i];
         self.twice[i] |= o & m;
         self.once[i] = o | m;
@@ -75,11 +78,10 @@ impl Marks {
         if end <= from {
             return;
         }
-        let mut b = from;
         for i in from / 8..end.div_ceil(8) {
+            let b = from.max(8 * i);
             let next = end.min(8 * i + 8);
             self.mark_byte(DiskBlock(b), next - b);
-            b = next;
         }
     }
 
@@ -104,11 +106,8 @@ impl Marks {
         if self.are_right(bitmap) {
             return None;
         }
-        for b in 0..Limits::BITMAP_BITS {
-            if self.is_wrong(bitmap, DiskBlock(b)) {
-                return Some(DiskBlock(b));
-            }
-        }
-        None
+        (0..Limits::BITMAP_BITS)
+            .find(|b| self.is_wrong(bitmap, DiskBlock(*b)))
+            .map(DiskBlock)
     }
 }

@@ -70,86 +70,109 @@ pub struct CRun {
 }
 
 // The numbers of a session where they are lent.
-pub fn head_in(numbers: &[u64; 4]) -> Head
-    ensures { result ≡ head_in numbers.now }
-{
-    let [blocks, phase, place, count] = *numbers;
-    Head {
-        blocks,
-        phase,
-        place,
-        count,
+impl From<[u64; 4]> for Head {
+    ghost use Rattle.std.specs.Prelude.{◌≡◌};
+    ghost use Rattle.mirror.specs.Mirror.{head_in};
+
+    ghost from_gives = { λ numbers h. h ≡ head_in numbers };
+
+    fn from(numbers: [u64; 4]) -> Head {
+        let [blocks, phase, place, count] = numbers;
+        Head {
+            blocks,
+            phase,
+            place,
+            count,
+        }
     }
 }
 
-// They become these.
-pub fn keep(numbers: &mut [u64; 4], h: Head)
-    ensures { numbers.new ≡ numbers_of h }
-{
-    *numbers = [h.blocks, h.phase, h.place, h.count];
-}
+// The numbers as they are lent.
+impl From<Head> for [u64; 4] {
+    ghost use Rattle.std.specs.Prelude.{◌≡◌};
+    ghost use Rattle.mirror.specs.Mirror.{numbers_of};
 
-// The phase of the session that numbers stand for.
-#[tactic(auto, using(crate::proofs::Laws::phase_rules))]
-pub fn phase_in(h: Head) -> Phase
-    ensures { result ≡ phase_of h.phase h.place }
-{
-    let place = h.place as usize;
-    match h.phase {
-        1 => Phase::Ready,
-        2 => Phase::Committing(place),
-        3 => Phase::Recovering(place),
-        _ => Phase::Closed,
-    }
-}
+    ghost from_gives = { λ h numbers. numbers ≡ numbers_of h };
 
-// The session that numbers and cells stand for: any stand for one.
-pub fn decode(h: Head, staged: [u32; Limits::LOG_LENGTH]) -> Session
-    ensures { result ≡ decode h staged }
-{
-    Session::with_cells(h.blocks as usize, phase_in(h), staged, h.count as usize)
-}
-
-// The session that lent numbers and cells stand for.
-pub fn session_in(numbers: &[u64; 4], staged: &[u32; Limits::LOG_LENGTH]) -> Session
-    ensures { result ≡ decode (head_in numbers.now) staged.now }
-{
-    decode(head_in(numbers), *staged)
-}
-
-// The numbers of a session on so many blocks, in this phase, with so many cells in use.
-pub fn head_of(blocks: u64, phase: Phase, count: u64) -> Head
-    ensures { result ≡ head_of blocks phase count }
-{
-    let (phase, place) = match phase {
-        Phase::Closed => (0, 0),
-        Phase::Ready => (1, 0),
-        Phase::Committing(d) => (2, d as u64),
-        Phase::Recovering(d) => (3, d as u64),
-    };
-    Head {
-        blocks,
-        phase,
-        place,
-        count,
+    fn from(h: Head) -> [u64; 4] {
+        [h.blocks, h.phase, h.place, h.count]
     }
 }
 
 // The numbers of a session.
-pub fn encode(s: Session) -> Head
-    ensures { result ≡ encode s }
+impl From<Session> for Head {
+    ghost use Rattle.std.specs.Prelude.{◌≡◌};
+    ghost use Rattle.mirror.specs.Mirror.{encode};
+
+    ghost from_gives = { λ s h. h ≡ encode s };
+
+    fn from(s: Session) -> Head {
+        let phase = s.phase;
+        Head::of(s.blocks as u64, phase, s.count as u64)
+    }
+}
+
+impl Head {
+    // The numbers of a session on so many blocks, in this phase, with so many cells in use.
+    pub fn of(blocks: u64, phase: Phase, count: u64) -> Head
+        ensures { result ≡ head_of blocks phase count }
+    {
+        let (phase, place) = match phase {
+            Phase::Closed => (0, 0),
+            Phase::Ready => (1, 0),
+            Phase::Committing(d) => (2, d as u64),
+            Phase::Recovering(d) => (3, d as u64),
+        };
+        Head {
+            blocks,
+            phase,
+            place,
+            count,
+        }
+    }
+
+    // The phase of the session that they stand for.
+    #[tactic(auto, using(crate::proofs::Laws::phase_rules))]
+    pub fn phase(self) -> Phase
+        ensures { result ≡ phase_of self.phase self.place }
+    {
+        let place = self.place as usize;
+        match self.phase {
+            1 => Phase::Ready,
+            2 => Phase::Committing(place),
+            3 => Phase::Recovering(place),
+            _ => Phase::Closed,
+        }
+    }
+
+    // The session that they stand for with these cells: any stand for one.
+    pub fn session(self, staged: [u32; Limits::LOG_LENGTH]) -> Session
+        ensures { result ≡ decode self staged }
+    {
+        Session::with_cells(
+            self.blocks as usize,
+            self.phase(),
+            staged,
+            self.count as usize,
+        )
+    }
+}
+
+// The session that lent numbers and cells stand for. A function, and so is the next: C lends the two apart, and no type holds both.
+pub fn session_in(numbers: &[u64; 4], staged: &[u32; Limits::LOG_LENGTH]) -> Session
+    ensures { result ≡ decode (head_in numbers.now) staged.now }
 {
-    let phase = s.phase;
-    head_of(s.blocks as u64, phase, s.count as u64)
+    Head::from(*numbers).session(*staged)
 }
 
 // Lent numbers and cells become those of a session.
 pub fn keep_session(numbers: &mut [u64; 4], staged: &mut [u32; Limits::LOG_LENGTH], s: Session)
     ensures { (numbers.new ≡ numbers_of (encode s)) × (staged.new ≡ s.staged) }
 {
+    // By a variable, here and in `recorded`: an array that is a field, stored straight, is not covered by the borrow checker.
     let cells = s.staged;
     *staged = cells;
-    keep(numbers, encode(s));
+    *numbers = Head::from(s).into();
 }
 
 // Functions named for the answer and no From: `finished(answer)` reads plainer than `CFinished::from(answer)`, and by From only the type that is wanted would

@@ -75,6 +75,7 @@ impl<const N: usize> Mounted<N> {
 
     // ---- changes: the device stays as it is, until a commit stores
 
+    // Each call is written out, here and below: by a closure over the lent parts its promise would stand as it does, and three parameters be named for the two lines.
     pub fn create(&mut self, k: u8) -> Result<(), Refusal>
         ensures { (self.new.lent.device ≡ self.old.lent.device) × (outcome (state_in self.new) (done_of result) ≡ create (state_in self.old) (name_of k)) }
     {

@@ -3,7 +3,7 @@
 
 ghost use Rattle.std.specs.Prelude.{◌≤◌, IfOk, length};
 
-use listing::{LISTING_SIZE, list_image};
+use listing::{LISTING_SIZE, LONGEST_IMAGE, list_image};
 use std::io;
 use std::io::Read;
 
@@ -26,7 +26,7 @@ fn read_full(rt: &impl Input, buffer: &mut [u8]) -> io::Result<usize>
 
 fn main(rt: HostRuntime) -> io::Result<()> {
     // One byte more than the longest image, so that a longer one is refused.
-    let mut image = [0u8; 65537];
+    let mut image = [0u8; LONGEST_IMAGE + 1];
     let mut out = [0u8; LISTING_SIZE];
     let n = read_full(&rt, &mut image)?;
     let m = list_image(&image[..n], &mut out);

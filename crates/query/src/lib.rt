@@ -2,20 +2,18 @@
 #![tactic(auto)]
 
 ghost use Rattle.std.specs.Prelude.{◌≡◌, List, length};
-ghost use Rattle.spec.specs.Bytes.{exactly};
-ghost use Rattle.spec.specs.Bitmap.{bits_of, free_bits};
 ghost use Rattle.spec.specs.Answers.{counted_of, recorded_of, run_of};
 ghost use Rattle.spec.specs.Transaction.{State, state_of};
 ghost use Rattle.transaction.specs.Volumes.{Shows};
 ghost use Rattle.spec.specs.Calls.{left, left_buffer, outcome, with_buffer, read, size_of, free_count, record_at, nth_extent};
 ghost use Rattle.query.specs.Records.{record_told};
 
-use bitmap::free_in;
-use block::copy_of;
+use bitmap::free_of;
+use block::on_whole;
 use checks::ready;
 use extents::Stretch;
 use file::read_file;
-use inode::{InodeNumber, inode_block, is_empty, name_of, size_of};
+use inode::{Inode, InodeNumber};
 use lookup::look_up;
 use spec::{ByteOffset, DiskBlock, Extent, FileBlock, FileRecord, Limits, Refusal, Session};
 use transaction::Volume;
@@ -58,8 +56,7 @@ pub fn size_in(volume: &Volume, name: &[u8]) -> Result<usize, Refusal>
     ensures { (s : State) → Shows volume.now s → outcome s (counted_of result) ≡ size_of s name.now }
 {
     let i = look_up(volume, name)?;
-    let table = inode_block(&volume.copy, i);
-    Ok(size_of(table, i.n) as usize)
+    Ok(Inode::of(&volume.copy, i).size() as usize)
 }
 
 // The same of a session.
@@ -68,23 +65,6 @@ pub fn size(device: &[u8], work: &[u8], session: Session, name: &[u8]) -> Result
         ≡ size_of (state_of session device.now work.now) name.now }
 {
     size_in(&Volume::of(device, work, &session), name)
-}
-
-// The free blocks of a table that ends early, of a copy: in a function of its own, since a function clears its copy where it begins.
-fn free_of_copy(table: &[u8]) -> usize
-    ensures { result ≡ free_bits (bits_of (exactly 512 table.now)) }
-{
-    free_in(&copy_of(table))
-}
-
-// The free blocks of a table that may end early.
-fn free_of(table: &[u8]) -> usize
-    ensures { result ≡ free_bits (bits_of (exactly 512 table.now)) }
-{
-    match table.first_chunk() {
-        Some(whole) => free_in(whole),
-        None => free_of_copy(table),
-    }
 }
 
 // How many blocks are free.
@@ -105,16 +85,18 @@ pub fn free_count(device: &[u8], work: &[u8], session: Session) -> Result<usize,
     free_count_in(&Volume::of(device, work, &session))
 }
 
-// What is told of record i by its block of the table, which may end early.
-fn record_of(table: &[u8], i: usize) -> Option<FileRecord>
+// What is told of record i by its block of the table: a whole block, whose length is known.
+fn record_of(table: &[u8; Limits::BLOCK_SIZE], i: usize) -> Option<FileRecord>
     ensures { result ≡ record_told table.now i }
 {
-    if is_empty(table, i) {
+    let inode = Inode { table, i };
+    if inode.is_empty() {
         return None;
     }
-    let name = name_of(table, i);
-    let size = size_of(table, i);
-    Some(FileRecord { name, size })
+    Some(FileRecord {
+        name: inode.name(),
+        size: inode.size(),
+    })
 }
 
 // Name and size of record i, or that it is empty.
@@ -126,12 +108,8 @@ pub fn record_in(volume: &Volume, i: usize) -> Result<Option<FileRecord>, Refusa
     let Some(number) = InodeNumber::of(i) else {
         return Ok(None);
     };
-    let table = inode_block(&volume.copy, number);
-    // Mostly it is a whole block, whose length is known: 8 ns in place of 10.
-    Ok(match table.first_chunk::<{ Limits::BLOCK_SIZE }>() {
-        Some(whole) => record_of(whole, i),
-        None => record_of(table, i),
-    })
+    let inode = Inode::of(&volume.copy, number);
+    Ok(on_whole(inode.table, |whole| record_of(whole, i)))
 }
 
 // The same of a session.

@@ -5,7 +5,7 @@
 use mounted::Mounted;
 use spec::{Extent, FileBlock, Session};
 use std::io;
-use trial::{SMALLEST, counted, extent, number};
+use trial::{SMALLEST, counted, extent};
 
 // ---- text
 
@@ -23,17 +23,11 @@ fn places(rt: &impl Print, list: [Extent; 8]) -> io::Result<()> {
 fn show(rt: &impl Print, t: &Mounted<SMALLEST>, k: u8, from: usize, n: usize) -> io::Result<()> {
     let mut list = [Extent { first: 7, count: 9 }; 8];
     let answer = t.run_list(k, FileBlock(from), n, &mut list);
-    rt.write_all(b"file")?;
-    number(rt, k)?;
-    rt.write_all(b" from")?;
-    number(rt, from)?;
-    rt.write_all(b" count")?;
-    number(rt, n)?;
-    rt.write_all(b":")?;
+    print!(rt; "file {k} from {from} count {n}:")?;
     counted(rt, answer)?;
-    rt.write_all(b" of")?;
+    print!(rt; " of")?;
     places(rt, list)?;
-    rt.write_all(b"\n")
+    println!(rt)
 }
 
 // ---- the files

@@ -4,7 +4,7 @@
 ghost use Rattle.std.specs.Option.{option_copied};
 ghost use Rattle.std.specs.Prelude.{◌≡◌, ◌+◌, ◌^◌, ◌<◌, ◌≤◌, length, take, sum_by};
 ghost use Rattle.runs.specs.Runs.{listed};
-ghost use Rattle.runs.specs.Push.{Pushed, last_count, list_with, no_extents};
+ghost use Rattle.runs.specs.Push.{Pushed, last_count, no_extents};
 
 use spec::{DiskBlock, Extent, Limits};
 
@@ -23,43 +23,11 @@ pub struct ListEnd {
     pub next: usize,
 }
 
-// A file's first 512 extents, and where all of them end. An array and numbers: there is no heap.
+// A file's first 512 extents, and where all of them end. No ArrayVec: it does not count the extents past its places, as `end` does.
 #[derive(Clone, Copy)]
 pub struct ExtentList {
     pub cells: [Extent; Limits::MAX_EXTENTS],
     pub end: ListEnd,
-}
-
-impl ListEnd {
-    // c blocks from b on, behind the extents of a list whose array is lent: joined to the last one where that ends at b. The end goes by value, so that a loop
-    // over many extents keeps it in registers.
-    pub fn push(self, cells: &mut [Extent; Limits::MAX_EXTENTS], b: DiskBlock, c: u32) -> ListEnd
-        requires { (last_count (list_with cells.old self) + c < 4294967296) × (self.len < 1000000) × (self.next < 1000000000000) }
-        ensures { Pushed (list_with cells.old self) b.0 c (list_with cells.new result) }
-    {
-        let len = self.len;
-        let joins = (0 < len) & (self.next == b.0 as usize);
-        let next = b.0 as usize + c as usize;
-        if joins {
-            if len <= Limits::MAX_EXTENTS {
-                let last = cells[len - 1];
-                cells[len - 1] = Extent {
-                    first: last.first,
-                    count: last.count + c,
-                };
-            }
-            return ListEnd { len, next };
-        }
-        let longer = ListEnd { len: len + 1, next };
-        if Limits::MAX_EXTENTS <= len {
-            return longer;
-        }
-        cells[len] = Extent {
-            first: b.0,
-            count: c,
-        };
-        longer
-    }
 }
 
 impl ExtentList {
@@ -70,6 +38,29 @@ impl ExtentList {
         ExtentList {
             cells: [Extent::default(); Limits::MAX_EXTENTS],
             end: ListEnd { len: 0, next: 0 },
+        }
+    }
+
+    // c blocks from b on, behind the extents: joined to the last one where that ends at b.
+    pub fn push(&mut self, b: DiskBlock, c: u32)
+        requires { (last_count self.old + c < 4294967296) × (self.old.end.len < 1000000) × (self.old.end.next < 1000000000000) }
+        ensures { Pushed self.old b.0 c self.new }
+    {
+        let len = self.end.len;
+        let joins = (0 < len) & (self.end.next == b.0 as usize);
+        self.end.next = b.0 as usize + c as usize;
+        if joins {
+            if len <= Limits::MAX_EXTENTS {
+                self.cells[len - 1].count += c;
+            }
+            return;
+        }
+        self.end.len = len + 1;
+        if len < Limits::MAX_EXTENTS {
+            self.cells[len] = Extent {
+                first: b.0,
+                count: c,
+            };
         }
     }
 

@@ -1,23 +1,20 @@
 // The extent blocks of a file.
+use arrayvec::ArrayVec;
 use spec::{DiskBlock, Limits};
 use std::marker::Model;
 
-// At most as many as a record has slots: the first `len` of the blocks. An array and a length, since there is no heap; users see a list.
-// Not Copy: a type whose view leaves out the unused cells is refused as Copy.
+// At most as many as a record has slots.
 #[derive(Drop)]
 pub struct Nodes {
-    blocks: [u32; Limits::SLOTS_PER_INODE],
-    len: usize,
+    blocks: ArrayVec<u32, { Limits::SLOTS_PER_INODE }>,
 }
 
 impl Model for Nodes {
-    ghost use Rattle.std.specs.Prelude.{ℕ, List, take, ◌≤◌};
+    ghost use Rattle.std.specs.Prelude.{ℕ, List};
 
     ghost Value = { List ℕ };
 
-    ghost view = { λ n. take n.len n.blocks };
-
-    ghost invariant = { λ n. n.len ≤ 4 };
+    ghost view = { λ n. n.blocks.items };
 }
 
 impl Nodes {
@@ -28,8 +25,7 @@ impl Nodes {
         ensures { result ≡ [] }
     {
         Nodes {
-            blocks: [0; Limits::SLOTS_PER_INODE],
-            len: 0,
+            blocks: ArrayVec::new(),
         }
     }
 
@@ -37,24 +33,26 @@ impl Nodes {
     pub fn as_slice(&self) -> &[u32]
         ensures { (result.now ≡ self.now) × (length result.now ≤ 4) }
     {
-        &self.blocks[..self.len]
+        self.blocks.as_slice()
     }
 
     // How many there are.
     pub fn len(&self) -> usize
         ensures { (result ≡ length self.now) × (result ≤ 4) }
     {
-        self.as_slice().len()
+        self.blocks.len()
     }
 
     // The first n of them.
     pub fn prefix(&self, n: usize) -> Nodes
         ensures { result ≡ take n self.now }
     {
-        Nodes {
-            blocks: self.blocks,
-            len: self.len.min(n),
-        }
+        let held = self.as_slice();
+        let mut blocks = ArrayVec::new();
+        blocks
+            .try_extend_from_slice(&held[..held.len().min(n)])
+            .unwrap();
+        Nodes { blocks }
     }
 
     // One more behind them.
@@ -62,7 +60,6 @@ impl Nodes {
         requires { length self.old < 4 }
         ensures { self.new ≡ self.old ++ (b.0 ∷ []) }
     {
-        self.blocks[self.len] = b.0;
-        self.len += 1;
+        self.blocks.push(b.0);
     }
 }

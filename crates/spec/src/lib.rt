@@ -63,7 +63,7 @@ pub struct ByteOffset(pub usize);
 #[derive(Clone, Copy)]
 pub struct FileBlock(pub usize);
 
-#[derive(Clone, Copy, PartialEq, Eq)]
+#[derive(Clone, Copy, Default, PartialEq, Eq)]
 pub struct DiskBlock(pub u32);
 
 // "A block number's area decides its use: 0, 1 to 32, 33, 34 to 41, or 42 and up."
@@ -129,7 +129,7 @@ impl Session {
         Session::closed_on(0)
     }
 
-    // Of these parts: the first `count` of the cells are in use. Four fields with a promise, which calls of a session by value end with.
+    // Of these parts: the first `count` of the cells are in use. Whoever has a session's parts apart makes it here, as C's numbers and cells.
     pub fn with_cells(
         blocks: usize,
         phase: Phase,
@@ -174,7 +174,8 @@ pub enum Refusal {
 }
 
 impl Refusal {
-    // "Refusals from the input", "Refusals from the state": the number of each. The one place that tells them: a discriminant cannot, since 10 has a value.
+    // "Refusals from the input", "Refusals from the state": the number of each. The one place that tells them: a discriminant cannot, since 10 has a value,
+    // and `usize::from(refusal)` would not say which number of it is meant.
     pub fn number(self) -> u32
         ensures { result ≡ refusal_number (refusal_of self) }
     {

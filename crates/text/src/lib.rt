@@ -7,7 +7,8 @@ ghost use Rattle.text.specs.Written.{Put, number};
 
 use itoa::Buffer;
 
-// Lent bytes, and the place up to which they are written.
+// Lent bytes, and the place up to which they are written. The place stands beside them, since callers answer it and every contract speaks of it with the whole
+// bytes: of a slice that shrinks, as std's Write for &mut [u8] has it, neither is left.
 #[derive(Drop)]
 pub struct Writer<'a> {
     pub out: &'a mut [u8],

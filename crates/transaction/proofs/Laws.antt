@@ -19,10 +19,12 @@ use Rattle.spec.specs.Session.{opened, staged_in, with_staged}
 use Rattle.spec.specs.Transaction.{State, state_of, view, BlockStore, put, Staged, stage, staged_of, with_staging}
 use Rattle.block.specs.Stores.{stored_in}
 use Rattle.block.proofs.Laws.{block-length, block_read}
+use Rattle.block.proofs.Steps.{slice-stored}
 use Rattle.lists.specs.Places.{place-lt, place-value, place-new, place_other, no_place, distinct_snoc, all_append}
 use Rattle.transaction.specs.Places.{found_at, spot, blocks_with, session_of, view_in}
 use Rattle.transaction.specs.Volumes.{working, Heads, Shows}
 use Rattle.transaction.specs.LentSessions.{session_lent, Kept, Held}
+use Rattle.transaction.specs.Images.{image_in}
 use Rattle.transaction.specs.declared.lent_session.LentSession.{LentSession}
 use Rattle.transaction.specs.declared.staging.Staging.{Staging}
 use Rattle.transaction.specs.declared.volume.Volume.{Volume}
@@ -356,3 +358,12 @@ held_then s t u a b = record { lent = b.lent ∙ a.lent; parts = kept_then _ _ _
 -- at most 32 are staged
 pub few-lent : (l : LentSession) → length (staged_in (session_lent l)) ≤ 32
 few-lent l = omega (arith, length-staged (session_lent l) l.full)
+
+-- ---- an image changed in place, in the part that is lent
+
+pub edited : (g : List ℕ → List ℕ) (k : ℕ) (was y work : List ℕ) → 512 * k + 512 ≤ length was → y ≡ g (take (512 * k + 512 - 512 * k) (drop (512 * k) was)) → length y ≡ 512
+    → work ≡ take (512 * k) was ++ (y ++ drop (512 * k + 512 - 512 * k) (drop (512 * k) was)) → slice_of work ≡ stored_in (slice_of was) k (g (image_in k was))
+edited g k was y work fits e l is =
+    let z : 512 * k + 512 - 512 * k ≡ 512 = omega arith in
+    let made : y ≡ g (image_in k was) = e ∙ ap (λ (n : ℕ). g (take n (drop (512 * k) was))) z in
+    ap slice_of is ∙ slice-stored k (g (image_in k was)) y was made (sym (ap length made) ∙ l) fits

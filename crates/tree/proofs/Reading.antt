@@ -1,47 +1,114 @@
 -- Slots one by one. Assumes nothing.
-use Prim.Native.Nat.{ℕ, zero, suc, ◌/◌}
+use Prim.Native.Nat.{ℕ, zero, suc, ◌+◌, ◌*◌, ◌-◌, ◌/◌, ◌%◌, ◌<◌, ◌≤◌}
 use mathlib.Core.Path.{◌≡◌, refl, sym, ap, ap₂, ◌∙◌}
-use mathlib.Core.Bool.{Bool, true, false, ◌&&◌}
-use mathlib.Core.List.{List, [], ◌∷◌, map}
+use mathlib.Core.Bool.{Bool, true, false, cond, not, ◌&&◌, true≢false}
+use mathlib.Core.List.{List, [], ◌∷◌}
 use native.Mathlib.Omega.{arith}
-use lib.ListN.{length, take, drop}
-use lib.Seq.{get_or-take}
-use Rattle.std.specs.Simd.{first_chunks}
+use borrow.Author.Tests.{ne_eqb}
+use lib.Dec.{eqb}
+use Rattle.std.specs.List.{list_all}
+use lib.ListN.{length, drop}
+use denote.Ref.{Bor}
+use denote.Param.Members.{Mut}
+use Rattle.std.specs.declared.iter.TakeWhile.{TakeWhile}
+use Rattle.std.specs.Prelude.{Option, Some, None, MatchOption, MatchBool}
+use Rattle.std.specs.Fn.{CalledAt}
+use Rattle.std.specs.Iterator.{YieldsFirstBy}
+use Rattle.std.specs.Iterator.Adapters.{take_while_steps}
+use Rattle.tree.specs.declared.slots.Slot.{Slot}
+use Rattle.tree.specs.declared.slots.Slots.{Slots}
+use Rattle.tree.specs.Slots.{slots_left}
 use Rattle.spec.specs.declared.Extent.{Extent}
-use Rattle.spec.specs.Bytes.{exactly, all}
-use Rattle.block.proofs.Laws.{length-exactly}
-use Rattle.tree.specs.Slots.{is_unused}
-use Rattle.std.specs.Prelude.{fold}
-use Rattle.spec.specs.Inode.{slots_in, used}
+use Rattle.spec.specs.Bytes.{exactly, number2, number4, all}
+use Rattle.spec.specs.Inode.{extent, slots_in, used}
 use Rattle.spec.specs.Sound.{slots_packed}
+use Rattle.block.proofs.Laws.{get_or-exactly}
 use Rattle.inode.specs.Walk.{slot_in}
+use Rattle.inode.proofs.Walk.{slots-first}
+use Rattle.tree.specs.Reached.{is_unused}
 
--- ---- bytes as slots
+-- a number of a block that may end early
+number2-exactly : (n : ℕ) (xs : List ℕ) (at : ℕ) → at + 2 ≤ n → number2 at (exactly n xs) ≡ number2 at xs
+number2-exactly n xs at h = rw (get_or-exactly n xs at (omega arith), get_or-exactly n xs (at + 1) (omega arith))
 
-front-slot : (t : List ℕ) → slot_in 0 (take 4 t) ≡ slot_in 0 t
-front-slot t = rw (get_or-take 4 t 0 0 (omega arith), get_or-take 4 t 1 0 (omega arith), get_or-take 4 t 2 0 (omega arith), get_or-take 4 t 3 0 (omega arith)) refl
+-- a slot as the code reads it
+pub slot_read : (t : List ℕ) (at n : ℕ) → at + 4 ≤ 512 → n ≡ number4 at t → number2 at t < 65536 → extent (n % 65536) (n / 65536) ≡ slot_in at (exactly 512 t)
+slot_read t at n h q l =
+    let f : n % 65536 ≡ number2 at t = omega arith in
+    let c : n / 65536 ≡ number2 (at + 2) t = omega arith in
+    ap₂ extent (f ∙ sym (number2-exactly 512 t at (omega arith))) (c ∙ sym (number2-exactly 512 t (at + 2) (omega arith)))
 
-pub chunks-slots : (n : ℕ) (t : List ℕ) → map (slot_in 0) (first_chunks 4 n t) ≡ slots_in n t
+-- the slots that are left: none, or the first and the others
+pub slots_none : (n : ℕ) (xs : List ℕ) → n < 1 → slots_in n xs ≡ []
 unfolding slots_in
-chunks-slots zero t = refl
-chunks-slots (suc n) t = ap₂ (λ (e : Extent) (es : List Extent). e ∷ es) (front-slot t) (chunks-slots n (drop 4 t))
+slots_none zero xs h = refl
+slots_none (suc n) xs h = absurd (omega arith)
 
--- the slots of a node
-pub node-slots : (t X : List ℕ) (es : List Extent) → es ≡ slots_in (length t / 4) t → t ≡ exactly 512 X → slots_in 128 (exactly 512 X) ≡ es
-node-slots t X es e h =
-    let l : length t ≡ 512 = ap length h ∙ length-exactly 512 X in
-    let z : length t / 4 ≡ 128 = omega arith in
-    sym (e ∙ ap (λ (n : ℕ). slots_in n t) z ∙ ap (slots_in 128) h)
+pub slots_next : (X : List ℕ) (p n m : ℕ) (e : Extent) → n ≡ m + 1 → e ≡ slot_in p X → slots_in n (drop p X) ≡ e ∷ slots_in m (drop (p + 4) X)
+slots_next X p zero m e h q = absurd (omega arith)
+slots_next X p (suc n) m e h q = let z : n ≡ m = omega arith in rw (z, q) (slots-first m p X)
 
--- ---- the others are zero
+-- a slot that is not used is the first of the others, and a used one stands before them
+module _ (e : Extent) (es : List Extent) where
+  pub unused-none : e.count ≡ 0 → used (e ∷ es) ≡ []
+  unused-none h = rw h
 
-pub zero-from : (t : Bool) (bs : List (List ℕ)) → fold (λ z b. z && is_unused (slot_in 0 b)) t bs ≡ t && all is_unused (map (slot_in 0) bs)
-zero-from true [] = refl
-zero-from false [] = refl
-zero-from true (b ∷ bs) = zero-from (is_unused (slot_in 0 b)) bs
-zero-from false (b ∷ bs) = zero-from false bs
+  pub used-first : 0 < e.count → used (e ∷ es) ≡ e ∷ used es
+  used-first h = rw (ne_eqb e.count 0 (λ q. omega arith))
 
--- ---- the used ones, and those behind them
+pub used-few : (es : List Extent) → length (used es) ≤ length es
+used-few [] = omega arith
+used-few (e ∷ es) = go (eqb e.count 0) (used-few es)
+  where
+    go : (t : Bool) → length (used es) ≤ length es → length (cond (not t) (e ∷ used es) []) ≤ suc (length es)
+    go true h = omega arith
+    go false h = omega arith
 
-pub left-zero : (slots left now : List Extent) (r : Bool) → slots_packed left ≡ slots_packed slots → (used left ≡ []) × (left ≡ now) → r ≡ all is_unused now → slots_packed slots ≡ r
-left-zero slots left now r a u h = sym a ∙ ap (λ (us : List Extent). all is_unused (drop (length us) left)) u.0 ∙ ap (all is_unused) u.1 ∙ sym h
+pub length_slots : (n : ℕ) (xs : List ℕ) → length (slots_in n xs) ≡ n
+unfolding slots_in
+length_slots zero xs = refl
+length_slots (suc n) xs = ap suc (length_slots n (drop 4 xs))
+
+drop-slots : (m n at : ℕ) (X : List ℕ) → m ≤ n → drop m (slots_in n (drop at X)) ≡ slots_in (n - m) (drop (at + 4 * m) X)
+drop-slots zero n at X h = let a : at + 4 * 0 ≡ at = omega arith in let b : n - 0 ≡ n = omega arith in rw (a, b)
+drop-slots (suc m) zero at X h = absurd (omega arith)
+drop-slots (suc m) (suc n) at X h =
+    let a : at + 4 + 4 * m ≡ at + 4 * suc m = omega arith in
+    let b : suc n - suc m ≡ n - m = omega arith in
+    rw (slots-first n at X, b, ← a) (drop-slots m n (at + 4) X (omega arith))
+
+-- a test of each, as std tells it
+all-is : (test : Extent → Bool) (es : List Extent) → list_all test es ≡ all test es
+all-is test [] = refl
+all-is test (e ∷ es) = ap (λ (t : Bool). test e && t) (all-is test es)
+
+-- as many as are used being passed over, the others are left
+module _ (X : List ℕ) (at n m : ℕ) (e : m ≡ length (used (slots_in n (drop at X)))) where
+  pub used_most : m ≤ n
+  used_most = omega (arith, e, used-few (slots_in n (drop at X)), length_slots n (drop at X))
+
+  pub others-zero : (r : Bool) → r ≡ list_all is_unused (slots_in (n - m) (drop (at + 4 * m) X)) → r ≡ slots_packed (slots_in n (drop at X))
+  others-zero r h =
+      h ∙ all-is is_unused (slots_in (n - m) (drop (at + 4 * m) X)) ∙ ap (all is_unused) (sym (drop-slots m n at X used_most)) ∙ ap (λ (i : ℕ). all is_unused (drop i (slots_in n (drop at X)))) e
+
+-- a step over the slots as long as they are used
+module _ {F : Type 0} (g : Mut F (Bor Slot × Unit {0}) Bool) (tests : (p q : F) (x : Slot) (b : Bool) → CalledAt g p x b q → b ≡ not (eqb x.extent.count 0)) (s t : TakeWhile Slots F) (d : s.done ≡ false) where
+  abbrev Taken : Option Slot → Type 0
+  Taken r = MatchOption r (used (slots_left s.iter) ≡ []) (λ x. (slots_left s.iter ≡ x.extent ∷ slots_left t.iter) × (0 < x.extent.count) × (t.done ≡ false))
+
+  tested : (r : Option Slot) (x : Slot) (b : Bool) → slots_left s.iter ≡ x.extent ∷ slots_left t.iter → b ≡ not (eqb x.extent.count 0)
+      → MatchBool b ((r ≡ Some x) × (t.done ≡ false)) ((r ≡ None) × (t.done ≡ true)) → Taken r
+  tested r x true e k m = rw m.0 (e, grind (arith, k), m.1)
+  tested r x false e k m = rw m.0 (ap used e ∙ unused-none x.extent (slots_left t.iter) (grind (arith, k)))
+
+  came : (r o : Option Slot) → YieldsFirstBy (λ slot. slot.extent) slots_left s.iter o t.iter
+      → MatchOption o ((r ≡ None) × (t.done ≡ false)) (λ x. (b : Bool) × CalledAt g s.p x b t.p × MatchBool b ((r ≡ Some x) × (t.done ≡ false)) ((r ≡ None) × (t.done ≡ true))) → Taken r
+  came r None e m = rw m.0 (ap used e.0)
+  came r (Some x) e m = tested r x m.0 e (tests _ _ x m.0 m.1) m.2
+
+  going_on : (A B : Type 0) (b : Bool) → b ≡ false → MatchBool b A B → B
+  going_on A B true e h = absurd (true≢false e)
+  going_on A B false e h = h
+
+  pub taken : (r : Option Slot) → take_while_steps (YieldsFirstBy (λ slot. slot.extent) slots_left) g s r t → Taken r
+  taken r h = let m = going_on _ _ s.done d h in came r m.0 m.1 m.2

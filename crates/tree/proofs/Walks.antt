@@ -1,226 +1,253 @@
 -- The loops over slots, step by step: what they find and what they mark. Assumes nothing.
-use Prim.Native.Nat.{ℕ, ◌+◌, ◌*◌, ◌≤◌}
-use mathlib.Core.Path.{◌≡◌, refl, sym, ap, ap₂, ◌∙◌}
-use mathlib.Core.Bool.{Bool, true, false, not, ◌&&◌}
-use mathlib.Core.List.{List, [], ◌∷◌, ◌++◌, map, append-nil}
+use Prim.Native.Nat.{ℕ, zero, suc, ◌+◌, ◌*◌, ◌-◌, ◌<◌, ◌≤◌, min}
+use mathlib.Core.Path.{◌≡◌, refl, sym, ap, ◌∙◌}
+use mathlib.Core.Bool.{Bool, ◌&&◌}
+use mathlib.Core.List.{List, [], ◌∷◌, ◌++◌, map, append-nil, append_assoc}
 use native.Mathlib.Omega.{arith}
-use borrow.Author.Tests.{ne_eqb, eq-eqb}
-use lib.Dec.{eqb, leb}
+use lib.Dec.{eqb}
+use lib.ListN.{length, take, drop}
+use lib.Seq.{take-nil}
 use Rattle.spec.specs.declared.Extent.{Extent}
 use Rattle.spec.specs.Bytes.{occurs, up_from}
-use Rattle.spec.specs.declared.DiskBlock.{DiskBlock}
 use Rattle.spec.specs.Disk.{Disk, in_data}
-use Rattle.std.specs.Prelude.{Option}
 use Rattle.spec.specs.Inode.{slots_in, slots_at, used, below, blocks_in, counts}
-use Rattle.spec.specs.Sound.{extent_inside}
-use Rattle.lists.specs.Extents.{blocks-append}
+use Rattle.spec.specs.Sound.{slots_packed}
+use Rattle.lists.specs.Extents.{blocks-append, length-blocks}
 use Rattle.bitmap.proofs.Laws.{occurs-append}
 use Rattle.marks.specs.declared.Marks.{Marks}
 use Rattle.marks.specs.Marks.{Kept}
 use Rattle.marks.proofs.Laws.{Split, kept-start, kept_on, kept-end}
-use Rattle.tree.specs.Runs.{Totals, tail_at, with_extent, over_extents, extent_fits, extents_fit, slots_fit, Tops, with_node, over_nodes, no_nodes, node_fits, nodes_fit}
-use Rattle.tree.specs.Reached.{tree_blocks, Found}
-use Rattle.tree.proofs.Runs.{over-extents, over-blocks}
+use Rattle.tree.specs.declared.ExtentTests.{ExtentTests}
+use Rattle.tree.specs.declared.NodeTests.{NodeTests}
+use Rattle.tree.specs.Runs.{with_extent, over_extents, with_node, over_nodes, no_nodes}
+use Rattle.tree.specs.Reached.{blocks_from, tree_from}
+use Rattle.tree.proofs.Runs.{over-extents, over-blocks, nodes-run, nodes-tops, nodes-counts}
+use Rattle.tree.proofs.Reading.{used-first}
 
--- ---- blocks of extents, and of the nodes above them
+-- ---- blocks of extents
 
-no-blocks : [] ≡ blocks_in []
-unfolding blocks_in
-no-blocks = refl
+take-parts : (k : ℕ) (xs ys : List ℕ) → take k (xs ++ ys) ≡ take k xs ++ take (k - length xs) ys
+take-parts zero xs ys = let z : 0 - length xs ≡ 0 = omega arith in rw z
+take-parts (suc k) [] ys = let z : suc k - 0 ≡ suc k = omega arith in rw z
+take-parts (suc k) (x ∷ xs) ys = let z : suc k - suc (length xs) ≡ k - length xs = omega arith in rw z (ap (λ (l : List ℕ). x ∷ l) (take-parts k xs ys))
 
-first-blocks : (e : Extent) (es : List Extent) → Split (blocks_in (e ∷ es)) (up_from e.first e.count) (blocks_in es)
-unfolding blocks_in
-first-blocks e es x = occurs-append x (up_from e.first e.count) (blocks_in es)
+take-run : (k a n : ℕ) → take k (up_from a n) ≡ up_from a (min n k)
+take-run zero a n = let z : min n 0 ≡ 0 = omega arith in rw z
+take-run (suc k) a zero = let z : min 0 (suc k) ≡ 0 = omega arith in rw z
+take-run (suc k) a (suc n) = let z : min (suc n) (suc k) ≡ suc (min n k) = omega arith in rw z (ap (λ (l : List ℕ). a ∷ l) (take-run k (suc a) n))
 
-no-tree : (v : Disk) → [] ≡ tree_blocks v []
-unfolding tree_blocks
-no-tree v = no-blocks ∙ sym (append-nil (blocks_in []))
+pub blocks-none : (n : ℕ) → [] ≡ blocks_from n []
+unfolding blocks_from blocks_in
+blocks-none n = sym (take-nil (2048 - n))
 
-first-tree : (v : Disk) (e : Extent) (ts : List Extent) → Split (tree_blocks v (e ∷ ts)) (tree_blocks v (e ∷ [])) (tree_blocks v ts)
-unfolding tree_blocks
-first-tree v e ts x =
-    let us = used (slots_at v e.first) in
-    let F = map (λ t. t.first) ts in
-    let b = ap (occurs x) (blocks-append us (below v ts)) ∙ occurs-append x (blocks_in us) (blocks_in (below v ts)) in
-    let n = ap (λ (es : List Extent). occurs x (blocks_in es)) (append-nil us) in
+-- of one extent
+pub blocks_one : (n m : ℕ) (e : Extent) → m ≡ min e.count (2048 - n) → up_from e.first m ≡ blocks_from n (e ∷ [])
+unfolding blocks_from blocks_in
+blocks_one n m e q = rw (q, append-nil) (sym (take-run (2048 - n) e.first e.count))
+
+blocks-from : (n : ℕ) (es fs : List Extent) → blocks_from n (es ++ fs) ≡ blocks_from n es ++ blocks_from (n + counts es) fs
+unfolding blocks_from
+blocks-from n es fs =
+    let w : 2048 - n - length (blocks_in es) ≡ 2048 - (n + counts es) = omega (arith, length-blocks es) in
+    ap (take (2048 - n)) (blocks-append es fs) ∙ take-parts (2048 - n) (blocks_in es) (blocks_in fs)
+    ∙ ap (λ (m : ℕ). take (2048 - n) (blocks_in es) ++ take m (blocks_in fs)) w
+
+blocks-split : (n m : ℕ) (es fs : List Extent) → m ≡ n + counts es → Split (blocks_from n (es ++ fs)) (blocks_from n es) (blocks_from m fs)
+blocks-split n m es fs q x = rw q (ap (occurs x) (blocks-from n es fs) ∙ occurs-append x (blocks_from n es) (blocks_from (n + counts es) fs))
+
+-- ---- and of the nodes above them
+
+below-append : (v : Disk) (ss ts : List Extent) → below v (ss ++ ts) ≡ below v ss ++ below v ts
+below-append v [] ts = refl
+below-append v (s ∷ ss) ts = rw (below-append v ss ts) (sym (append_assoc (used (slots_at v s.first)) (below v ss) (below v ts)))
+
+firsts-append : (x : ℕ) (ss ts : List Extent) → occurs x (map (λ e. e.first) (ss ++ ts)) ≡ occurs x (map (λ e. e.first) ss) + occurs x (map (λ e. e.first) ts)
+firsts-append x [] ts = omega arith
+firsts-append x (s ∷ ss) ts = let h = firsts-append x ss ts in omega arith
+
+tree-split : (v : Disk) (n m : ℕ) (ss ts : List Extent) → m ≡ n + counts (below v ss) → Split (tree_from v n (ss ++ ts)) (tree_from v n ss) (tree_from v m ts)
+unfolding tree_from
+tree-split v n m ss ts q x =
+    let a = ap (λ (es : List Extent). occurs x (blocks_from n es)) (below-append v ss ts) ∙ blocks-split n m (below v ss) (below v ts) q x in
     omega (
       arith,
-      b,
-      n,
-      occurs-append x (blocks_in (us ++ below v ts)) (e.first ∷ F),
-      occurs-append x (blocks_in (us ++ [])) (e.first ∷ []),
-      occurs-append x (blocks_in (below v ts)) F,
+      a,
+      firsts-append x ss ts,
+      occurs-append x (blocks_from n (below v (ss ++ ts))) (map (λ e. e.first) (ss ++ ts)),
+      occurs-append x (blocks_from n (below v ss)) (map (λ e. e.first) ss),
+      occurs-append x (blocks_from m (below v ts)) (map (λ e. e.first) ts),
     )
 
+pub tree-none : (v : Disk) (n : ℕ) → [] ≡ tree_from v n []
+unfolding tree_from
+tree-none v n = blocks-none n ∙ sym (append-nil (blocks_from n []))
+
 -- one node marked, then the blocks below it
-node-marked : (N : ℕ) (v : Disk) (e : Extent) (us : List Extent) (m₂ m₁ m : Marks) → us ≡ used (slots_at v e.first)
-    → Kept N m₁ [] m (e.first ∷ []) → Kept N m₂ [] m₁ (blocks_in us) → Kept N m₂ [] m (tree_blocks v (e ∷ []))
-unfolding tree_blocks
-node-marked N v e us m₂ m₁ m q a b =
-    let B = blocks_in us in
-    let T = tree_blocks v (e ∷ []) in
-    let w : T ≡ B ++ (e.first ∷ []) = rw (append-nil, q) in
-    kept_on N m₁ B m T
-    (kept_on N m (B ++ (e.first ∷ [])) m T (kept-start N m (B ++ (e.first ∷ [])) T (sym w)) m₁ (e.first ∷ []) B
+pub node-marked : (N : ℕ) (v : Disk) (n : ℕ) (e : Extent) (us : List Extent) (m₂ m₁ m : Marks) → us ≡ used (slots_at v e.first)
+    → Kept N m₁ [] m (e.first ∷ []) → Kept N m₂ [] m₁ (blocks_from n us) → Kept N m₂ [] m (tree_from v n (e ∷ []))
+unfolding tree_from
+node-marked N v n e us m₂ m₁ m q a b =
+    let B = blocks_from n us in
+    let w : tree_from v n (e ∷ []) ≡ B ++ (e.first ∷ []) = rw (append-nil, q) in
+    kept_on N m₁ B m (tree_from v n (e ∷ []))
+    (kept_on N m (B ++ (e.first ∷ [])) m (tree_from v n (e ∷ [])) (kept-start N m (B ++ (e.first ∷ [])) (tree_from v n (e ∷ [])) (sym w)) m₁ (e.first ∷ []) B
     (λ x. omega (arith, occurs-append x B (e.first ∷ []))) a)
     m₂ B [] (λ x. omega arith) b
 
--- ---- tests, one after the other
-
-fails : (a b : Bool) → a ≡ false → a && b ≡ false
-fails a b h = grind arith
-
-fails-last : (a b : Bool) → b ≡ false → a && b ≡ false
-fails-last a b h = grind arith
-
-pass : (a b : Bool) → a ≡ true → b ≡ true → a && b ≡ true
-pass a b h k = grind arith
-
--- ---- one extent
-
-module _ (N k : ℕ) (r : Totals) (e : Extent) (i : Bool) (ei : i ≡ extent_inside N e) where
-  pub extent-is : i && not (eqb e.first r.end) && leb (r.blocks + e.count) 2048 ≡ extent_fits N r e
-  unfolding extent_fits
-  extent-is = ap (λ (t : Bool). t && not (eqb e.first r.end) && leb (r.blocks + e.count) 2048) ei
-
-  pub extent-found : (tail : Option DiskBlock) → tail ≡ tail_at k r e → (m₁ m : Marks) → i && not (eqb e.first r.end) && leb (r.blocks + e.count) 2048 ≡ true
-      → Kept N m₁ [] m (up_from e.first e.count)
-      → Found N (extent_fits N r e) (record { end = e.first + e.count; extents = r.extents + 1; blocks = r.blocks + e.count; tail = tail }) (with_extent k r e) m₁ m (up_from e.first e.count)
-  unfolding with_extent
-  extent-found tail h m₁ m t kept = record { passes = sym extent-is ∙ t; is = rw h; marks = kept }
-
 -- ---- the loop over extents
 
--- with those left, q comes to what all come to from r, and so do the tests and the marks
-pub record Going (N k : ℕ) (m : Marks) (q : Totals) (left : List Extent) (m₀ : Marks) (r : Totals) (es : List Extent) : Type 0 where
-  pub fits : extents_fit N k q left ≡ extents_fit N k r es
-  pub whole : over_extents k q left ≡ over_extents k r es
-  pub marks : Kept N m (blocks_in left) m₀ (blocks_in es)
+-- with these slots left, all before them used, and q so far: with what is left it comes to what all the slots make of r, and so do the marks
+pub record Going (N k : ℕ) (m : Marks) (q : ExtentTests) (left : List Extent) (m₀ : Marks) (r : ExtentTests) (slots : List Extent) (n : ℕ) : Type 0 where
+  pub whole : over_extents N k q (used left) ≡ over_extents N k r (used slots)
+  pub marks : Kept N m (blocks_from q.blocks (used left)) m₀ (blocks_from r.blocks (used slots))
+  pub few : q.extents + length left ≤ r.extents + n
+  pub small : q.blocks + 65536 * length left ≤ r.blocks + 65536 * n
 
-pub going-start : (N k : ℕ) (m : Marks) (r : Totals) (left es : List Extent) → left ≡ es → Going N k m r left m r es
-going-start N k m r left es e = record { fits = ap (extents_fit N k r) e; whole = ap (over_extents k r) e; marks = kept-start N m (blocks_in left) (blocks_in es) (ap blocks_in e) }
+-- what the loop leaves
+abbrev Gone : ℕ → ℕ → Marks → ExtentTests → Marks → ExtentTests → List Extent → ℕ → Type 0
+Gone N k m q m₀ r slots n =
+    (q ≡ over_extents N k r (used slots)) × (q.extents ≤ r.extents + n) × (q.blocks ≤ r.blocks + 65536 * n)
+    × Kept N m [] m₀ (blocks_from r.blocks (used slots))
 
-module _ (N k : ℕ) (m : Marks) (q : Totals) (left : List Extent) (m₀ : Marks) (r : Totals) (es : List Extent) (g : Going N k m q left m₀ r es) where
-  -- slots behind the used ones that are not zero
-  pub going-unpacked : (p : Bool) → p ≡ false → extents_fit N k r es && p ≡ false
-  going-unpacked p h = fails-last (extents_fit N k r es) p h
-
-  module _ (e : Extent) (rest : List Extent) (first : left ≡ e ∷ rest) where
-    -- one that does not pass
-    pub going-off : extent_fits N q e ≡ false → (p : Bool) → extents_fit N k r es && p ≡ false
-    unfolding extents_fit
-    going-off h p = fails _ p (sym g.fits ∙ ap (extents_fit N k q) first ∙ fails (extent_fits N q e) _ h)
-
-    pub going-more : (u : Totals) (m₁ : Marks) → Found N (extent_fits N q e) u (with_extent k q e) m₁ m (up_from e.first e.count) → Going N k m₁ u rest m₀ r es
-    unfolding extents_fit over_extents
-    going-more u m₁ f = record {
-      fits = sym (ap (λ (t : Bool). t && extents_fit N k u rest) f.passes) ∙ ap (λ (z : Totals). extent_fits N q e && extents_fit N k z rest) f.is
-          ∙ ap (extents_fit N k q) (sym first) ∙ g.fits;
-      whole = ap (λ (z : Totals). over_extents k z rest) f.is ∙ ap (over_extents k q) (sym first) ∙ g.whole;
-      marks = kept_on N m (blocks_in left) m₀ (blocks_in es) g.marks m₁ (up_from e.first e.count) (blocks_in rest)
-          (λ x. ap (λ (l : List Extent). occurs x (blocks_in l)) first ∙ first-blocks e rest x) f.marks;
+pub going_start : (N k : ℕ) (m : Marks) (r : ExtentTests) (left slots : List Extent) (n : ℕ) → left ≡ slots → length slots ≡ n → Going N k m r left m r slots n
+going_start N k m r left slots n e l =
+    let z : length left ≡ n = ap length e ∙ l in
+    record {
+      whole = ap (λ (es : List Extent). over_extents N k r (used es)) e;
+      marks = kept-start N m _ _ (ap (λ (es : List Extent). blocks_from r.blocks (used es)) e);
+      few = omega arith;
+      small = omega arith;
     }
 
-  module _ (none : left ≡ []) where
-    going-fits : extents_fit N k r es ≡ true
-    unfolding extents_fit
-    going-fits = sym g.fits ∙ ap (extents_fit N k q) none
+module _ (N k : ℕ) (m : Marks) (q : ExtentTests) (left : List Extent) (m₀ : Marks) (r : ExtentTests) (slots : List Extent) (n : ℕ) (g : Going N k m q left m₀ r slots n) where
+  pub going_over : used left ≡ [] → Gone N k m q m₀ r slots n
+  unfolding over_extents
+  going_over e = (
+    ap (over_extents N k q) (sym e) ∙ g.whole,
+    omega (arith, g.few),
+    omega (arith, g.small),
+    kept-end N m _ m₀ _ g.marks _ (ap (blocks_from q.blocks) e ∙ sym (blocks-none q.blocks)) refl,
+  )
 
-    going-is : q ≡ over_extents k r es
+  module _ (e : Extent) (es : List Extent) (first : left ≡ e ∷ es) where
+    pub going_more : (u : ExtentTests) (m₁ : Marks) → 0 < e.count → e.count < 65536 → u ≡ with_extent N k q e
+        → Kept N m₁ [] m (blocks_from q.blocks (e ∷ [])) → Going N k m₁ u es m₀ r slots n
     unfolding over_extents
-    going-is = ap (over_extents k q) (sym none) ∙ g.whole
-
-    pub going-end : (p : Bool) → p ≡ true → Found N (extents_fit N k r es && p) q (over_extents k r es) m m₀ (blocks_in es)
-    going-end p h = record {
-      passes = rw (going-fits, h) refl;
-      is = going-is;
-      marks = kept-end N m (blocks_in left) m₀ (blocks_in es) g.marks (blocks_in es) (ap blocks_in none ∙ sym no-blocks) refl;
-    }
+    going_more u m₁ some c iu h =
+        let j : used left ≡ e ∷ used es = ap used first ∙ used-first e es some in
+        let l : length left ≡ suc (length es) = ap length first in
+        let x : u.extents ≡ q.extents + 1 = ap (λ (z : ExtentTests). z.extents) iu ∙ over-extents N k q (e ∷ []) in
+        let y : u.blocks ≡ q.blocks + counts (e ∷ []) = ap (λ (z : ExtentTests). z.blocks) iu ∙ over-blocks N k q (e ∷ []) in
+        let f = g.few in let s = g.small in
+        record {
+          whole = ap (λ (z : ExtentTests). over_extents N k z (used es)) iu ∙ ap (over_extents N k q) (sym j) ∙ g.whole;
+          marks = kept_on N m (blocks_from q.blocks (used left)) m₀ (blocks_from r.blocks (used slots)) g.marks m₁
+              (blocks_from q.blocks (e ∷ [])) (blocks_from u.blocks (used es)) (rw j (blocks-split q.blocks u.blocks (e ∷ []) (used es) y)) h;
+          few = omega arith;
+          small = omega arith;
+        }
 
 -- ---- one node
 
-module _ (N k : ℕ) (v : Disk) (f : Tops) (e : Extent) where
-  -- a node that does not pass
-  pub node-outside : (d w : Bool) → d ≡ in_data N e.first → w ≡ eqb f.run.extents (128 * f.tops) → d && w ≡ false → node_fits N k v f e ≡ false
-  unfolding node_fits
-  node-outside d w p q h = fails _ _ (fails _ _ (ap₂ (λ (a b : Bool). a && b) (sym p) (sym q) ∙ h))
+module _ (N k : ℕ) (v : Disk) (f : NodeTests) (e : Extent) (r : ExtentTests) (X : List ℕ) (i : X ≡ v e.first)
+    (h : r ≡ over_extents N k f.run (used (slots_in 128 (drop 0 X)))) where
+  pub node-slots : slots_in 128 (drop 0 X) ≡ slots_at v e.first
+  unfolding slots_at
+  node-slots = ap (slots_in 128) i
 
-  module _ (slots : List Extent) (X : List ℕ) (s : slots ≡ slots_in 128 X) (i : X ≡ v e.first) where
-    node-slots : slots ≡ slots_at v e.first
-    unfolding slots_at
-    node-slots = s ∙ ap (slots_in 128) i
+  pub node_used : r.extents ≡ f.run.extents + length (used (slots_at v e.first))
+  node_used = ap (λ (z : ExtentTests). z.extents) h ∙ over-extents N k f.run _ ∙ ap (λ (es : List Extent). f.run.extents + length (used es)) node-slots
 
-    pub node-unfit : slots_fit N k f.run slots ≡ false → node_fits N k v f e ≡ false
-    unfolding node_fits
-    node-unfit h = fails _ _ (fails-last _ _ (ap (slots_fit N k f.run) (sym node-slots) ∙ h))
+  pub node_count : r.blocks ≡ f.run.blocks + counts (used (slots_at v e.first))
+  node_count = ap (λ (z : ExtentTests). z.blocks) h ∙ over-blocks N k f.run _ ∙ ap (λ (es : List Extent). f.run.blocks + counts (used es)) node-slots
 
-    module _ (r : Totals) (m₁ m₀ : Marks) (g : Found N (slots_fit N k f.run slots) r (over_extents k f.run (used slots)) m₁ m₀ (blocks_in (used slots))) where
-      pub node-blocks : r.blocks ≡ f.run.blocks + counts (used (slots_at v e.first))
-      node-blocks = ap (λ (z : Totals). z.blocks) g.is ∙ over-blocks k f.run (used slots) ∙ ap (λ (l : List Extent). f.run.blocks + counts (used l)) node-slots
+  -- of the slots themselves
+  pub node_many : r.extents - f.run.extents ≡ length (used (slots_in 128 (drop 0 X)))
+  node_many = let u = node_used in let z : r.extents - f.run.extents ≡ length (used (slots_at v e.first)) = omega arith in z ∙ ap (λ (es : List Extent). length (used es)) (sym node-slots)
 
-      pub node-extents : f.run.extents ≤ r.extents
-      node-extents = omega (arith, ap (λ (z : Totals). z.extents) g.is, over-extents k f.run (used slots))
-
-      -- a slot that counts other blocks
-      pub node-disagrees : (r.blocks ≡ f.run.blocks + e.count → ⊥) → node_fits N k v f e ≡ false
-      unfolding node_fits
-      node-disagrees h = fails-last _ _ (ne_eqb e.count (counts (used (slots_at v e.first))) (λ z. h (omega (arith, node-blocks))))
-
-      pub node-found : (m : Marks) → Kept N m₀ [] m (e.first ∷ []) → in_data N e.first ≡ true → f.run.extents ≡ 128 * f.tops → r.blocks ≡ f.run.blocks + e.count
-          → Found N (node_fits N k v f e) (record { run = r; tops = f.tops + 1 }) (with_node k v f e) m₁ m (tree_blocks v (e ∷ []))
-      unfolding node_fits with_node
-      node-found m kept d full agree = record {
-        passes = pass _ _ (pass _ _ (pass _ _ d (eq-eqb f.run.extents (128 * f.tops) full)) (ap (slots_fit N k f.run) (sym node-slots) ∙ g.passes))
-            (eq-eqb e.count (counts (used (slots_at v e.first))) (omega (arith, node-blocks)));
-        is = ap (λ (z : Totals). record { run = z; tops = f.tops + 1 }) (g.is ∙ ap (λ (l : List Extent). over_extents k f.run (used l)) node-slots);
-        marks = node-marked N v e (used slots) m₁ m₀ m (ap used node-slots) kept g.marks;
+  pub node_is : (p d : Bool) → p ≡ slots_packed (slots_in 128 (drop 0 X)) → d ≡ in_data N e.first
+      → record {
+        run = r;
+        sound = f.sound && (d && p);
+        agree = f.agree && eqb e.count (r.blocks - f.run.blocks);
+        filled = f.filled && f.full;
+        full = eqb (r.extents - f.run.extents) 128;
+        tops = f.tops + 1;
+        counts = f.counts + e.count;
       }
+      ≡ with_node N k v f e
+  unfolding with_node
+  node_is p d ep ed =
+      let u : r.extents - f.run.extents ≡ length (used (slots_at v e.first)) = omega (arith, node_used) in
+      let w : r.blocks - f.run.blocks ≡ counts (used (slots_at v e.first)) = omega (arith, node_count) in
+      let q : p ≡ slots_packed (slots_at v e.first) = ep ∙ ap slots_packed node-slots in
+      let g : r ≡ over_extents N k f.run (used (slots_at v e.first)) = h ∙ ap (λ (es : List Extent). over_extents N k f.run (used es)) node-slots in
+      rw (q, ed, u, w, g)
+
+  -- marked: the node, then the blocks below it
+  pub node_marks : (m₂ m₁ m : Marks) → Kept N m₁ [] m (e.first ∷ [])
+      → Kept N m₂ [] m₁ (blocks_from f.run.blocks (used (slots_in 128 (drop 0 X)))) → Kept N m₂ [] m (tree_from v f.run.blocks (e ∷ []))
+  node_marks m₂ m₁ m a b = node-marked N v f.run.blocks e _ m₂ m₁ m (ap used node-slots) a b
 
 -- ---- the loop over nodes
 
-pub record Noding (N k : ℕ) (v : Disk) (m : Marks) (f : Tops) (left : List Extent) (m₀ : Marks) (es : List Extent) : Type 0 where
-  pub fits : nodes_fit N k v f left ≡ nodes_fit N k v no_nodes es
-  pub whole : over_nodes k v f left ≡ over_nodes k v no_nodes es
-  pub marks : Kept N m (tree_blocks v left) m₀ (tree_blocks v es)
+pub record Noding (N k : ℕ) (v : Disk) (m : Marks) (f : NodeTests) (left : List Extent) (m₀ : Marks) (slots : List Extent) : Type 0 where
+  pub whole : over_nodes N k v f (used left) ≡ over_nodes N k v no_nodes (used slots)
+  pub marks : Kept N m (tree_from v f.run.blocks (used left)) m₀ (tree_from v 0 (used slots))
+  pub few : f.run.extents + 128 * length left ≤ 512
+  pub small : f.run.blocks + 8388608 * length left ≤ 33554432
+  pub tops : f.tops + length left ≤ 4
+  pub counts : f.counts + 65536 * length left ≤ 262144
 
-pub noding-start : (N k : ℕ) (v : Disk) (m : Marks) (f : Tops) (left es : List Extent) → f ≡ no_nodes → left ≡ es → Noding N k v m f left m es
-noding-start N k v m f left es p e = record {
-  fits = ap₂ (nodes_fit N k v) p e;
-  whole = ap₂ (over_nodes k v) p e;
-  marks = kept-start N m (tree_blocks v left) (tree_blocks v es) (ap (tree_blocks v) e);
-}
+-- what the loop leaves
+pub record Noded (N k : ℕ) (v : Disk) (m : Marks) (f : NodeTests) (m₀ : Marks) (slots : List Extent) : Type 0 where
+  pub is : f ≡ over_nodes N k v no_nodes (used slots)
+  pub tops : f.tops ≡ length (used slots)
+  pub marks : Kept N m [] m₀ (tree_from v 0 (used slots))
 
-module _ (N k : ℕ) (v : Disk) (m : Marks) (f : Tops) (left : List Extent) (m₀ : Marks) (es : List Extent) (g : Noding N k v m f left m₀ es) where
-  pub noding-unpacked : (p : Bool) → p ≡ false → nodes_fit N k v no_nodes es && p ≡ false
-  noding-unpacked p h = fails-last (nodes_fit N k v no_nodes es) p h
+pub noding_start : (N k : ℕ) (v : Disk) (m : Marks) (f : NodeTests) (left slots : List Extent) → f ≡ no_nodes → left ≡ slots → length slots ≡ 4 → Noding N k v m f left m slots
+noding_start N k v m f left slots i e l =
+    let z : length left ≡ 4 = ap length e ∙ l in
+    rw i (record {
+      whole = ap (λ (es : List Extent). over_nodes N k v no_nodes (used es)) e;
+      marks = kept-start N m _ _ (ap (λ (es : List Extent). tree_from v 0 (used es)) e);
+      few = omega arith;
+      small = omega arith;
+      tops = omega arith;
+      counts = omega arith;
+    })
 
-  module _ (e : Extent) (rest : List Extent) (first : left ≡ e ∷ rest) where
-    pub noding-off : node_fits N k v f e ≡ false → (p : Bool) → nodes_fit N k v no_nodes es && p ≡ false
-    unfolding nodes_fit
-    noding-off h p = fails _ p (sym g.fits ∙ ap (nodes_fit N k v f) first ∙ fails (node_fits N k v f e) _ h)
+module _ (N k : ℕ) (v : Disk) (m : Marks) (f : NodeTests) (left : List Extent) (m₀ : Marks) (slots : List Extent) (g : Noding N k v m f left m₀ slots) where
+  pub noding_over : used left ≡ [] → Noded N k v m f m₀ slots
+  unfolding over_nodes
+  noding_over e =
+      let w : f ≡ over_nodes N k v no_nodes (used slots) = ap (over_nodes N k v f) (sym e) ∙ g.whole in
+      record {
+        is = w;
+        tops = ap (λ (z : NodeTests). z.tops) w ∙ nodes-tops N k v no_nodes (used slots) ∙ omega arith;
+        marks = kept-end N m _ m₀ _ g.marks _ (ap (tree_from v f.run.blocks) e ∙ sym (tree-none v f.run.blocks)) refl;
+      }
 
-    pub noding-more : (u : Tops) (m₁ : Marks) → Found N (node_fits N k v f e) u (with_node k v f e) m₁ m (tree_blocks v (e ∷ [])) → Noding N k v m₁ u rest m₀ es
-    unfolding nodes_fit over_nodes
-    noding-more u m₁ n = record {
-      fits = sym (ap (λ (t : Bool). t && nodes_fit N k v u rest) n.passes) ∙ ap (λ (z : Tops). node_fits N k v f e && nodes_fit N k v z rest) n.is
-          ∙ ap (nodes_fit N k v f) (sym first) ∙ g.fits;
-      whole = ap (λ (z : Tops). over_nodes k v z rest) n.is ∙ ap (over_nodes k v f) (sym first) ∙ g.whole;
-      marks = kept_on N m (tree_blocks v left) m₀ (tree_blocks v es) g.marks m₁ (tree_blocks v (e ∷ [])) (tree_blocks v rest)
-          (λ x. ap (λ (l : List Extent). occurs x (tree_blocks v l)) first ∙ first-tree v e rest x) n.marks;
-    }
-
-  module _ (none : left ≡ []) where
-    noding-fits : nodes_fit N k v no_nodes es ≡ true
-    unfolding nodes_fit
-    noding-fits = sym g.fits ∙ ap (nodes_fit N k v f) none
-
-    noding-is : f ≡ over_nodes k v no_nodes es
+  module _ (e : Extent) (es : List Extent) (first : left ≡ e ∷ es) where
+    pub noding_more : (u : NodeTests) (m₁ : Marks) → 0 < e.count → e.count < 65536
+        → u ≡ with_node N k v f e → u.run.extents ≤ f.run.extents + 128 → u.run.blocks ≤ f.run.blocks + 8388608
+        → Kept N m₁ [] m (tree_from v f.run.blocks (e ∷ [])) → Noding N k v m₁ u es m₀ slots
     unfolding over_nodes
-    noding-is = ap (over_nodes k v f) (sym none) ∙ g.whole
-
-    pub noding-end : (p : Bool) → p ≡ true → Found N (nodes_fit N k v no_nodes es && p) f (over_nodes k v no_nodes es) m m₀ (tree_blocks v es)
-    noding-end p h = record {
-      passes = rw (noding-fits, h) refl;
-      is = noding-is;
-      marks = kept-end N m (tree_blocks v left) m₀ (tree_blocks v es) g.marks (tree_blocks v es) (ap (tree_blocks v) none ∙ sym (no-tree v)) refl;
-    }
+    noding_more u m₁ some c iu few small h =
+        let A = e ∷ [] in
+        let j : used left ≡ e ∷ used es = ap used first ∙ used-first e es some in
+        let l : length left ≡ suc (length es) = ap length first in
+        let y : u.run.blocks ≡ f.run.blocks + counts (below v A) =
+        ap (λ (z : NodeTests). z.run.blocks) iu ∙ ap (λ (z : ExtentTests). z.blocks) (nodes-run N k v f A) ∙ over-blocks N k f.run (below v A) in
+        let w : u.tops ≡ f.tops + length A = ap (λ (z : NodeTests). z.tops) iu ∙ nodes-tops N k v f A in
+        let x : u.counts ≡ f.counts + counts A = ap (λ (z : NodeTests). z.counts) iu ∙ nodes-counts N k v f A in
+        let gf = g.few in let gs = g.small in let gt = g.tops in let gc = g.counts in
+        record {
+          whole = ap (λ (z : NodeTests). over_nodes N k v z (used es)) iu ∙ ap (over_nodes N k v f) (sym j) ∙ g.whole;
+          marks = kept_on N m (tree_from v f.run.blocks (used left)) m₀ (tree_from v 0 (used slots)) g.marks m₁
+              (tree_from v f.run.blocks A) (tree_from v u.run.blocks (used es)) (rw j (tree-split v f.run.blocks u.run.blocks A (used es) y)) h;
+          few = omega arith;
+          small = omega arith;
+          tops = omega arith;
+          counts = omega arith;
+        }

@@ -7,15 +7,10 @@ ghost use Rattle.spec.specs.Transaction.{state_of};
 ghost use Rattle.trial.specs.States.{state_lent, staged_with};
 
 use spec::{BlockStored, DiskBlock, Extent, Limits, Refusal, Session};
-use std::fmt::Display;
 use std::io;
 
-// ---- text
-
-// A number behind a blank.
-pub fn number<D: Display + Drop>(rt: &impl Print, n: D) -> io::Result<()> {
-    print!(rt; " {n}")
-}
+// ---- text: std's Print tells nothing of what it writes, so these functions promise nothing. No Display of Refusal and Extent: it would stand at these types, in spec,
+// which the product links and prints nothing of; a type of our own around each would be named at every call as the function is now.
 
 // That a call is refused, and why.
 pub fn refused(rt: &impl Print, why: Refusal) -> io::Result<()> {

@@ -23,7 +23,7 @@ use Rattle.std.specs.Prelude.{Ok, Err}
 use Rattle.std.specs.Prelude.{Result as Returned}
 use Rattle.spec.specs.declared.Refusal.{Refusal}
 use Rattle.alloc.specs.declared.Draft.{Draft}
-use Rattle.alloc.specs.Draft.{resized_at, table_of, Built, result_with, Drafted}
+use Rattle.alloc.specs.Draft.{resized_at, table_of, tree_in, Built, result_with, Drafted}
 use Rattle.change.specs.Change.{Change}
 use Rattle.content.specs.Content.{with_record}
 use Rattle.change.specs.Change.{change_stores}
@@ -80,9 +80,11 @@ never-refused : (c : Returned Draft Refusal) (t u : plan.Tree) (r : Refusal) →
 never-refused (Ok d) t u r e q = cc
 never-refused (Err z) t u r e q = cc
 
-pub emptied-fits : (v : Disk) (i : ℕ) (table : List ℕ) (c : Returned Draft Refusal) (r : Refusal) → Drafted v i 0 table c → c ≡ Err r → ⊥
-emptied-fits v i table c r h e =
-    never-refused c _ _ r (sym (emptied-accepts (bits_of (v 33)) (data_of v (inode_at v i)) (levels_of v (inode_at v i))) ∙ h.verdict) e
+-- what is drafted of 0 blocks is the tree built
+pub emptied-fits : (v : Disk) (i : ℕ) (table : List ℕ) (c : Returned Draft Refusal) → Drafted v i 0 table c → (d : Draft) × (c ≡ Ok d) × Built v i 0 (tree_in table d)
+emptied-fits v i table (Ok d) h = (d, refl, h.tree d refl)
+emptied-fits v i table (Err r) h =
+    absurd (never-refused (Err r) (resized_at v i 0) _ r (sym (emptied-accepts (bits_of (v 33)) (data_of v (inode_at v i)) (levels_of v (inode_at v i))) ∙ h.verdict) refl)
 
 -- the levels of a tree as code holds it: none, or one
 one-level : (v : Disk) (held : List (List ℕ)) (t : Tree) (es : List Extent) → level_edits v held (levels_in t) es ≡ node_edits v (length (lowest_level held)) (nodes_in t) es

@@ -6,20 +6,43 @@ ghost use Rattle.spec.specs.Answers.{done_of};
 ghost use Rattle.spec.specs.Transaction.{state_of, view};
 ghost use Rattle.spec.specs.Calls.{left, outcome, settle, staging, rewrite, create, remove, rename, write, set_size};
 ghost use Rattle.transaction.specs.LentSessions.{state_lent, Kept, Held};
+ghost use Rattle.transaction.specs.LentCalls.{Keeps, Called};
 ghost use Rattle.update.specs.Records.{Differs, new_record, record_stores};
 
 use alloc::draft_of;
 use bitmap::Bitmap;
 use change::{Plan, apply, stage_record};
 use content::{RecordPrefix, Rewrite, record_bytes};
-use inode::{InodeNumber, blocks_for, inode_block, name_of, size_of, table_block};
+use inode::{Inode, InodeNumber, blocks_for, table_block};
 use lookup::{look_up, look_up_new, look_up_pair, look_up_sized};
 use runs::ExtentList;
 use spec::{Answered, ByteOffset, DiskBlock, Limits, Refusal, Session};
-use transaction::{Image, LentSession, Staging, lend};
+use transaction::{Image, LentSession, Staging};
 
 // Each public call stands in two forms: of a session lent in its parts, so that the C interface lends the caller's cells and copies none, and by value,
 // which lends its session to the first.
+
+// A session by value, lent to a call.
+fn lending<F: FnOnce(&mut LentSession) -> Result<(), Refusal>>(
+    device: &[u8],
+    work: &mut [u8],
+    mut session: Session,
+    call: F,
+) -> Answered<()>
+    requires callable { F.IsAlwaysCallable call }
+    requires keeps { Keeps F.FnOnce call }
+    ensures { Called F.FnOnce call (state_of session device.now work.old) result.answer (state_of result.session device.now work.new) }
+{
+    let answer = call(&mut LentSession {
+        device,
+        work,
+        blocks: session.blocks,
+        phase: session.phase,
+        cells: &mut session.staged,
+        count: &mut session.count,
+    });
+    Answered { session, answer }
+}
 
 // The first bytes of record i changed to others than they were, and nothing else: 18.
 fn change_record(images: &mut Staging, i: InodeNumber, new: RecordPrefix) -> Result<(), Refusal>
@@ -64,12 +87,11 @@ pub fn create_in(lent: &mut LentSession, name: &[u8]) -> Result<(), Refusal>
 }
 
 // The same of a session by value.
-pub fn create(device: &[u8], work: &mut [u8], mut session: Session, name: &[u8]) -> Answered<()>
+pub fn create(device: &[u8], work: &mut [u8], session: Session, name: &[u8]) -> Answered<()>
     ensures { left result.session device.now work.new (done_of result.answer)
         ≡ create (state_of session device.now work.old) name.now }
 {
-    let answer = create_in(&mut lend!(device, work, session), name);
-    Answered { session, answer }
+    lending(device, work, session, |lent| create_in(lent, name))
 }
 
 // "Rename keeps the record in its place."
@@ -85,15 +107,14 @@ pub fn rename_in(lent: &mut LentSession, name: &[u8], new: &[u8]) -> Result<(), 
 pub fn rename(
     device: &[u8],
     work: &mut [u8],
-    mut session: Session,
+    session: Session,
     name: &[u8],
     new: &[u8],
 ) -> Answered<()>
     ensures { left result.session device.now work.new (done_of result.answer)
         ≡ rename (state_of session device.now work.old) name.now new.now }
 {
-    let answer = rename_in(&mut lend!(device, work, session), name, new);
-    Answered { session, answer }
+    lending(device, work, session, |lent| rename_in(lent, name, new))
 }
 
 // "Remove .. give back every data and extent block": the record is emptied. The Plan is written out here and in `resize`: a function for it would take its
@@ -125,12 +146,11 @@ pub fn remove_in(lent: &mut LentSession, name: &[u8]) -> Result<(), Refusal>
 }
 
 // The same of a session by value.
-pub fn remove(device: &[u8], work: &mut [u8], mut session: Session, name: &[u8]) -> Answered<()>
+pub fn remove(device: &[u8], work: &mut [u8], session: Session, name: &[u8]) -> Answered<()>
     ensures { left result.session device.now work.new (done_of result.answer)
         ≡ remove (state_of session device.now work.old) name.now }
 {
-    let answer = remove_in(&mut lend!(device, work, session), name);
-    Answered { session, answer }
+    lending(device, work, session, |lent| remove_in(lent, name))
 }
 
 // 16, 17 and 18: record i becomes a file of this size, with bytes laid over it at x.
@@ -151,9 +171,9 @@ fn resize(
     let mut extents = ExtentList::empty();
     let wanted = blocks_for(size as usize);
     let draft = draft_of(&mut bitmap, &mut extents, &copy, i, wanted)?;
-    let records = inode_block(&copy, i);
-    let old = size_of(records, i.n) as usize;
-    let inode = record_bytes(name_of(records, i.n), size, draft.extents, &draft.nodes);
+    let before = Inode::of(&copy, i);
+    let old = before.size() as usize;
+    let inode = record_bytes(before.name(), size, draft.extents, &draft.nodes);
     let data = Rewrite {
         held: draft.held,
         old,
@@ -184,7 +204,7 @@ pub fn write_in(
     let volume = lent.volume();
     let n = bytes.len();
     let i = look_up_sized(&volume, name, x, n)?;
-    let old = size_of(inode_block(&volume.copy, i), i.n);
+    let old = Inode::of(&volume.copy, i).size();
     let size = old.max((x.0 + n) as u32);
     resize(&mut Staging { lent }, i, size, x, bytes)
 }
@@ -193,7 +213,7 @@ pub fn write_in(
 pub fn write(
     device: &[u8],
     work: &mut [u8],
-    mut session: Session,
+    session: Session,
     name: &[u8],
     x: ByteOffset,
     bytes: &[u8],
@@ -201,8 +221,7 @@ pub fn write(
     ensures { left result.session device.now work.new (done_of result.answer)
         ≡ write (state_of session device.now work.old) name.now x.0 bytes.now }
 {
-    let answer = write_in(&mut lend!(device, work, session), name, x, bytes);
-    Answered { session, answer }
+    lending(device, work, session, |lent| write_in(lent, name, x, bytes))
 }
 
 // Cut, or lengthened by zeros.
@@ -219,13 +238,12 @@ pub fn set_size_in(lent: &mut LentSession, name: &[u8], size: usize) -> Result<(
 pub fn set_size(
     device: &[u8],
     work: &mut [u8],
-    mut session: Session,
+    session: Session,
     name: &[u8],
     size: usize,
 ) -> Answered<()>
     ensures { left result.session device.now work.new (done_of result.answer)
         ≡ set_size (state_of session device.now work.old) name.now size }
 {
-    let answer = set_size_in(&mut lend!(device, work, session), name, size);
-    Answered { session, answer }
+    lending(device, work, session, |lent| set_size_in(lent, name, size))
 }

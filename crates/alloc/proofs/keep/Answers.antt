@@ -15,7 +15,7 @@ loop-e-init c =
 pub loop-e-preserved : goal.loop-e-preserved
 loop-e-preserved c =
     let p = c.in-Some.ensures.steps in
-    keep-more _ _ _ _ c.loop-e.invariant _ _ p.rest p.some c.in-Some.e.first _ c.push-end.ensures
+    keep-more _ _ _ _ c.loop-e.invariant _ _ p.rest p.some c.in-Some.e.first _ c.push.ensures
 
 pub returns : goal.returns
 returns c = keep-end _ _ _ _ _ c.loop-e.invariant c.in-None.ensures.steps.0

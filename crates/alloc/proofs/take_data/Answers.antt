@@ -7,15 +7,15 @@ use Rattle.alloc.proofs.take_data.Goals as goal
 pub loop-init : goal.loop-init
 loop-init c = take-start _ _ _
 
-pub push-end-requires : goal.push-end-requires
-push-end-requires c =
+pub push-requires : goal.push-requires
+push-requires c =
     let l = c.loop in
     let s = l.invariant.small c.args.kept c.requires.0 in
     let w = l.invariant.within in
-    (omega (arith, s.count (l.end.len - 1), w, c.requires), omega (arith, s.len, w, c.requires), omega (arith, s.next, w, c.requires))
+    (omega (arith, s.count (l.extents.end.len - 1), w, c.requires), omega (arith, s.len, w, c.requires), omega (arith, s.next, w, c.requires))
 
 pub loop-preserved : goal.loop-preserved
-loop-preserved c = take_more _ _ _ _ _ _ _ c.loop.invariant c.loop-test.true _ _ _ c.pick-b.ensures c.push-end.ensures
+loop-preserved c = take_more _ _ _ _ _ _ _ c.loop.invariant c.loop-test.true _ _ _ c.pick-b.ensures c.push.ensures
 
 pub returns : goal.returns
 returns c =

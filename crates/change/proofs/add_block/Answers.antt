@@ -14,4 +14,4 @@ pub returns : goal.returns
 returns c =
     let a = c.args in
     let v = working a.copy.now in
-    λ f ws e h. changed-is f v a.agenda.now a.b.0 a.content ws h _ (block-compared v a.b.0 _ _ _ c.block.ensures.0 (search rules) c.same_at.ensures _ e) _ _ c.if-same_at.false (λ z. c.insert.ensures f _ z)
+    λ f ws e h. changed-is f v a.agenda.now a.b.0 a.content ws h _ (block-compared v a.b.0 _ _ _ c.block.ensures.0 (search rules) c.same_at.ensures _ e) _ _ c.if-same_at.false (λ z. c.insert.ensures.lists f _ z)

@@ -20,4 +20,4 @@ returns c =
     let a = c.args in
     let v = working a.copy.now in
     λ f ws e h. changed-is f v a.agenda.now _ Record ws h _ (record-compared v a.i.n _ _ _ _ c.place_in_block.ensures.0 c.inode_block-table.ensures.0 (search rules) c.same_at.ensures _ e) _ _ c.if-same_at.false
-    (λ z. subst (λ (b : ℕ). Told c.insert.result f c.insert.new.self (insert (put b (f b Record)) (ascending ws))) c.table_block.ensures (c.insert.ensures f _ z))
+    (λ z. subst (λ (b : ℕ). Told c.insert.result f c.insert.new.self (insert (put b (f b Record)) (ascending ws))) c.table_block.ensures (c.insert.ensures.lists f _ z))

@@ -1,7 +1,7 @@
 use Rattle.std.proofs.Common.{◌≡◌, ◌+◌, sym, ap, ◌∙◌, Err, rules, arith}
 use Rattle.std.specs.Iterator.Adapters.{enumerate_source, enumerate_count}
 use Rattle.cardfile.specs.Lines.{letter_of}
-use Rattle.converter.proofs.Passes.{tested-none, tested-fault, tested-end, told-bytes, told-digits, told-same, told-more, seen, apart}
+use Rattle.converter.proofs.Passes.{size-is, tested-none, tested-fault, tested-end, told-bytes, told-digits, told-same, told-more, seen, apart}
 use Rattle.converter.proofs.test_lines.Goals as goal
 
 pub loop-k-init : goal.loop-k-init
@@ -24,8 +24,8 @@ returns-then-eq c =
     let e : c.in_ok-card.card.spelling ≡ c.args.wanted = search rules in
     told-same p.0 p.1 c.loop-k.invariant _ c.in_ok-card.ensures (ap letter_of (sym e))
 
-pub spelt_size-requires : goal.spelt_size-requires
-spelt_size-requires c = let p = c.in-Some.ensures.steps in told-bytes p.0 p.1 c.loop-k.invariant _ c.in_ok-card.ensures
+pub digits-requires : goal.digits-requires
+digits-requires c = let p = c.in-Some.ensures.steps in told-bytes p.0 p.1 c.loop-k.invariant _ c.in_ok-card.ensures
 
 pub overflow_add-size : goal.overflow_add-size
 overflow_add-size c = let p = c.in-Some.ensures.steps in omega (arith, told-digits p.0 p.1 c.loop-k.invariant _ c.in_ok-card.ensures)
@@ -40,7 +40,7 @@ loop-k-preserved c =
     let o : c.in_ok-card.card.spelling ≡ c.args.wanted → ⊥ = search rules in
     let n : enumerate_count c.next.new.self ≡ c.in-Some.k + 1 = omega arith in (
       p.0.text ∙ i.0,
-      rw n (told-more p.0 p.1 i _ c.in_ok-card.ensures (apart _ _ o) _ c.spelt_size.ensures.0 _ c.count_more-room.ensures.more c.count_more-room.ensures.fits),
+      rw n (told-more p.0 p.1 i _ c.in_ok-card.ensures (apart _ _ o) _ (c.digits.ensures.0 ∙ size-is c.args.wanted _) _ c.count_more-room.ensures.more c.count_more-room.ensures.fits),
     )
 
 pub returns : goal.returns

@@ -15,7 +15,7 @@ overflow_add-result c = let o = (c.in-Some.ensures (λ b. exactly 512 c.args.blo
 
 pub invariant_of-result : goal.invariant_of-result
 invariant_of-result c = let o = (c.in-Some.ensures (λ b. exactly 512 c.args.block.now.bytes.now) 0 refl).0 in
-    record { first = omega (arith, o.first, o.count); count = omega (arith, o.first, o.count) }
+    record { first = omega (arith, o.first, o.count); end = omega (arith, o.first, o.count); count = omega (arith, o.first, o.count) }
 
 pub returns : goal.returns
 returns c = λ v tb x. let o = c.in-Some.ensures v tb x in slot-piece v tb c.args.scan _ _ o.0 o.1 (omega arith) c.requires _ c.min-here.ensures

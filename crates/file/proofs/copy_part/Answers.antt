@@ -1,9 +1,11 @@
-use mathlib.Core.Path.{◌∙◌}
-use native.Mathlib.Omega.{arith}
-use lib.ListN.{length}
-use Rattle.file.proofs.Laws.{part-whole}
+use borrow.Author.Rules.{rules}
+use mathlib.Core.Path.{◌≡◌}
+use Prim.Native.Nat.{◌-◌}
+use lib.ListN.{length, replicate}
+use Rattle.file.proofs.Laws.{part-padded}
 use Rattle.file.proofs.copy_part.Goals as goal
 
-pub returns-then-end-block : goal.returns-then-end-block
-returns-then-end-block c =
-    c.copy_from_slice.ensures.after ∙ part-whole c.args.block.now c.args.off (length c.args.to.now) (omega arith) (omega arith)
+pub returns : goal.returns
+returns c =
+    let zeros : c.fill.new.self ≡ replicate (length c.args.to.now - c.min-n.result) 0 = search rules in
+    part-padded c.args.block.now c.args.off (length c.args.to.now) c.requires _ _ _ _ c.min.ensures c.min-n.ensures c.copy_from_slice.ensures.after zeros

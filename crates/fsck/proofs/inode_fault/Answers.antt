@@ -9,7 +9,7 @@ use Rattle.fsck.proofs.Records.{fault-all, found_some}
 use Rattle.fsck.proofs.inode_fault.Goals as goal
 
 pub loop-k-init : goal.loop-k-init
-loop-k-init c = (refl, kept-start _ _ _ _ (reach-start _), told-start _ (block-length _) _ c.none-names.ensures)
+loop-k-init c = (refl, kept-start _ _ _ _ (reach-start _), told-start _ (block-length _) _ c.default-names.ensures)
 
 pub returns-in-Some : goal.returns-in-Some
 returns-in-Some c = let l = c.loop-k in

@@ -1,11 +1,8 @@
-use mathlib.Core.Path.{◌∙◌}
-use mathlib.Core.Bool.{Bool}
+use lib.Dec.{ltb}
 use Rattle.std.proofs.Common.{rules, tests}
-use Rattle.std.proofs.lemmas.Iterator.Search.{all_from_yields_List}
-use Rattle.header.proofs.Neighbours.{neighbours, all-rise}
+use Rattle.std.proofs.lemmas.List.Sorted.{answers_always}
+use Rattle.header.proofs.Neighbours.{sorted-up}
 use Rattle.header.proofs.is_ascending.Goals as goal
 
 pub returns : goal.returns
-returns c =
-    all_from_yields_List (λ (b : Bool). b) _ _ c.all.result c.all.ensures.ran (neighbours c.args.l.now c.windows.ensures.rest c.windows.ensures.size) (λ x b q k. search (rules, tests))
-    ∙ all-rise c.args.l.now
+returns c = sorted-up c.args.l.now _ (c.is_sorted_by.ensures.cases ltb (answers_always _ _ _ (λ f a r q k. search (rules, tests))))

@@ -1,20 +1,17 @@
-use Prim.Native.Nat.{◌+◌, ◌-◌}
-use mathlib.Core.Path.{sym, ◌∙◌}
-use lib.ListN.{length, take, drop, get_or}
-use Rattle.block.proofs.Lists.{list-member}
-use Rattle.header.proofs.Loops.{distinct-fail, distinct-pass}
+use mathlib.Core.Path.{ap, ◌∙◌}
+use mathlib.Core.Bool.{not}
+use Rattle.std.proofs.Common.{rules, tests}
+use Rattle.std.proofs.lemmas.Iterator.{YieldsList-from_slice}
+use Rattle.std.proofs.lemmas.Iterator.Consumers.{YieldsList-from_enumerate}
+use Rattle.std.proofs.lemmas.Iterator.Search.{all_from_yields_List}
+use Rattle.std.specs.Slice.Iter.{iter_rest}
+use Rattle.header.proofs.Loops.{stands_behind, apart}
 use Rattle.header.proofs.is_distinct.Goals as goal
 
-pub returns-then-contains : goal.returns-then-contains
-returns-then-contains c =
+pub returns : goal.returns
+returns c =
     let l = c.args.l.now in
-    let i = c.loop-i.i in
-    let m = c.contains.ensures.value ∙ list-member (get_or l i 0) (take (length l - (i + 1)) (drop (i + 1) l)) in
-    sym (c.loop-i.invariant ∙ distinct-fail l i _ c.loop-i-test.true m c.if-contains.true)
-
-pub loop-i-preserved : goal.loop-i-preserved
-loop-i-preserved c =
-    let l = c.args.l.now in
-    let i = c.loop-i.i in
-    let m = c.contains.ensures.value ∙ list-member (get_or l i 0) (take (length l - (i + 1)) (drop (i + 1) l)) in
-    c.loop-i.invariant ∙ distinct-pass l i _ c.loop-i-test.true m c.if-contains.false
+    all_from_yields_List (λ p. not (stands_behind l p.0 p.1)) _ _ c.all.result c.all.ensures.ran
+    (YieldsList-from_enumerate (YieldsList-from_slice l (ap iter_rest c.enumerate.ensures.source ∙ c.iter.ensures.rest)) c.enumerate.ensures.count)
+    (λ x b q k. search (rules, tests))
+    ∙ apart l

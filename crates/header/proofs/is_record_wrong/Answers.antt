@@ -11,4 +11,4 @@ returns c =
     let i = c.args.i in
     let seen = c.contains-seen.ensures.value ∙ list-member (get_or l i 0) (take i l) in
     let late = c.contains-late.ensures.value ∙ list-member 0 (take i l) in
-    wrong-by _ _ _ _ _ _ _ _ p.0 p.1 c.is_target-outside.ensures seen late c.is_blank-blank.ensures
+    wrong-by _ _ _ _ _ _ _ _ p.0 p.1 c.is_target-outside.ensures seen late c.is_zero_at-blank.ensures

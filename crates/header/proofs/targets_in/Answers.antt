@@ -11,5 +11,7 @@ use Rattle.header.proofs.targets_in.Goals as goal
 pub returns : goal.returns
 unfolding targets_in record_targets
 returns c =
-    let l = c.record_targets-list.result in
-    ap (λ n. take n l) c.used-count.ensures ∙ taken-leading (λ t. not (eqb t 0)) l ∙ ap (leading (λ t. not (eqb t 0))) c.record_targets-list.ensures
+    let l = c.from-list.result.items in
+    let n = rw c.as_slice.ensures.value at c.used.ensures in
+    c.truncate.ensures.items ∙ ap (λ n. take n l) n ∙ taken-leading (λ t. not (eqb t 0)) l
+    ∙ ap (leading (λ t. not (eqb t 0))) (c.from-list.ensures.0 ∙ c.record_targets.ensures)

@@ -1,14 +1,14 @@
-use native.Mathlib.Omega.{arith}
+use Rattle.std.proofs.Common.{rules}
+use mathlib.Core.Path.{refl}
+use Rattle.std.proofs.lemmas.Iterator.{YieldsList-from_range}
+use Rattle.std.proofs.lemmas.Iterator.Consumers.{YieldsList-at, YieldsList-from_filter, count_from_yields_List}
 use Rattle.transaction.specs.Volumes.{working}
-use Rattle.listing.proofs.Laws.{one-if, count-more, count-end, few-files}
+use Rattle.listing.specs.Steps.{used}
+use Rattle.listing.proofs.Laws.{count-is}
 use Rattle.listing.proofs.count_files.Goals as goal
 
-pub overflow_add-n : goal.overflow_add-n
-overflow_add-n c = let v = working c.args.copy.now in
-    omega (arith, count-more v c.loop-i.i c.loop-i-test.true, few-files v 0, one-if _ _ c.is_used.ensures, c.loop-i.invariant)
-
-pub loop-i-preserved : goal.loop-i-preserved
-loop-i-preserved c = let v = working c.args.copy.now in omega (arith, count-more v c.loop-i.i c.loop-i-test.true, one-if _ _ c.is_used.ensures, c.loop-i.invariant)
-
 pub returns : goal.returns
-returns c = let v = working c.args.copy.now in omega (arith, count-end v c.loop-i.i (omega arith), c.loop-i.invariant)
+returns c =
+    let v = working c.args.copy.now in
+    let all = YieldsList-at c.filter.ensures.source (YieldsList-from_range 0 128 128 refl refl) in
+    count-is v c.count.result (count_from_yields_List _ _ c.count.ensures.ran (YieldsList-from_filter _ (used v) all c.filter.ensures.closure (λ x b q k. search rules)))

@@ -1,7 +1,9 @@
-use mathlib.Core.Path.{ap, ◌∙◌}
+use borrow.Author.Rules.{rules}
+use mathlib.Core.Path.{◌≡◌, ap, ◌∙◌}
 use native.Mathlib.Omega.{arith}
 use Rattle.spec.specs.Bytes.{exactly}
-use Rattle.block.proofs.Laws.{exactly-take}
+use Rattle.block.proofs.Laws.{exactly-all, length-exactly}
+use Rattle.query.specs.Records.{record_told}
 use Rattle.query.proofs.Laws.{block_of, record-past, record-fine}
 use Rattle.query.proofs.record_in.Goals as goal
 
@@ -10,21 +12,13 @@ returns-in_default c =
     let a = c.args in
     λ s q. record-past s a.i (c.in_ok-ready.ensures s q.head) c.in_default.ensures
 
-pub returns-in-Some-first_chunk : goal.returns-in-Some-first_chunk
-returns-in-Some-first_chunk c =
+pub returns : goal.returns
+returns c =
     let a = c.args in
-    let t = c.inode_block-table in
+    let t = c.of-inode in
     let n = c.in-Some.number in
-    let w = c.in-Some-first_chunk in
+    let w = c.on_whole.ensures in
+    let told : c.on_whole.result ≡ record_told w.0.now a.i = search rules in
     λ s q.
-    let h = rw c.in-Some.ensures at (ap (exactly 512) w.ensures.cases.same ∙ exactly-take 512 512 t.result.now (omega arith) ∙ block_of a.volume.now s t.result.now _ q t.ensures.0) in
-    rw c.record_of.ensures (record-fine s a.i w.whole.now (c.in_ok-ready.ensures s q.head) (omega (arith, n.low, c.in-Some.ensures)) h)
-
-pub returns-in-None : goal.returns-in-None
-returns-in-None c =
-    let a = c.args in
-    let t = c.inode_block-table in
-    let n = c.in-Some.number in
-    λ s q.
-    let h = rw c.in-Some.ensures at (block_of a.volume.now s t.result.now _ q t.ensures.0) in
-    rw c.record_of-in-None.ensures (record-fine s a.i t.result.now (c.in_ok-ready.ensures s q.head) (omega (arith, n.low, c.in-Some.ensures)) h)
+    let h = rw c.in-Some.ensures at (ap (exactly 512) w.2 ∙ exactly-all 512 (exactly 512 t.result.table.now) (length-exactly 512 t.result.table.now) ∙ block_of a.volume.now s t.result.table.now _ q t.ensures.1) in
+    rw told (record-fine s a.i w.0.now (c.in_ok-ready.ensures s q.head) (omega (arith, n.low, c.in-Some.ensures)) h)

@@ -7,4 +7,4 @@ returns-then-is_empty c = rw (← c.is_empty.ensures, c.if-is_empty.true)
 
 pub returns : goal.returns
 unfolding record_told
-returns c = rw (← c.is_empty.ensures, c.if-is_empty.false, c.name_of-name.ensures, c.size_of-size.ensures)
+returns c = rw (← c.is_empty.ensures, c.if-is_empty.false, c.name.ensures, c.size.ensures)

@@ -13,14 +13,13 @@ overflow_cast-place c = record { fits = omega (arith, spot-staged c.args.s _ c.a
 pub store_block-requires : goal.store_block-requires
 store_block-requires c = omega (arith, spot-staged c.args.s _ c.args.b.0 _ c.spot-place.ensures c.of.ensures, c.requires)
 
-pub invariant_of-add : goal.invariant_of-add
-invariant_of-add c =
+pub add-requires : goal.add-requires
+add-requires c =
     let at = spot-staged c.args.s _ c.args.b.0 _ c.spot-place.ensures c.of.ensures in
-    record { own = at; inside = omega (arith, at, c.requires) }
+    (at, omega (arith, at, c.requires))
 
 pub returns : goal.returns
 returns c = λ device.
     let at = spot-staged c.args.s _ c.args.b.0 _ c.spot-place.ensures c.of.ensures in
     let p = c.add.ensures.parts in
-    let q = p.parts in
     stage-leaves c.args.s _ device _ _ _ _ _ at (ap slice_of (search rules) ∙ c.store_block.ensures) (search rules)

@@ -30,7 +30,7 @@ draft_of-requires c =
     (omega arith, c.of-bitmap.ensures ∙ c.block.ensures.0, subst (λ (e : ExtentList). Small e 0) (sym c.empty-extents.ensures) small-none)
 
 pub returns-in_err-draft-clause-state : goal.returns-in_err-draft-clause-state
-returns-in_err-draft-clause-state c = absurd (emptied-fits _ _ _ _ _ c.draft_of.ensures c.in_err-draft.was)
+returns-in_err-draft-clause-state c = let (d, e, b) = emptied-fits _ _ _ _ c.draft_of.ensures in let w = c.in_err-draft.was in cc
 
 pub invariant_of-plan : goal.invariant_of-plan
 invariant_of-plan c = record { bounded = (c.draft_of.ensures.tree _ c.in_ok-draft.was).bounded }

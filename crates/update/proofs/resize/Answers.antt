@@ -14,7 +14,10 @@ use Rattle.content.specs.Content.{tree_of}
 use Rattle.alloc.specs.Draft.{tree_in}
 use Rattle.change.specs.Change.{Change}
 use Rattle.content.proofs.Record.{parts-levels}
-use Rattle.update.proofs.Records.{kept_record, kept-size}
+use lib.ListN.{take}
+use Rattle.inode.specs.Records.{record_in}
+use Rattle.inode.proofs.Laws.{size-told}
+use Rattle.update.proofs.Records.{kept_record}
 use Rattle.update.proofs.Stores.{rewrite-stores}
 use Rattle.change.proofs.Steps.{passed-on}
 use Rattle.update.proofs.Laws.{drafted-for, rewrite-bad, rewrite-fine}
@@ -46,12 +49,13 @@ returns-clause-state c =
     let plan = drafted-for _ _ a.i.n _ a.size _ _ seen c.blocks_for-wanted.ensures.0 c.draft_of.ensures in
     let draft = c.in_ok-draft.draft in
     let t = tree_in c.draft_of.new.table.bytes draft in
-    let block = c.inode_block-records.ensures.0 ∙ ap (λ (u : Disk). u (block_of_inode a.i.n)) seen in
-    let d : Change = record { tree = t; «record» = c.record_bytes-inode.result; old = c.size_of-old.result; size = a.size; x = a.x.0; bytes = a.bytes.now } in
+    let r = c.of-before in
+    let block = r.ensures.1 ∙ ap (λ (u : Disk). u (block_of_inode a.i.n)) seen in
+    let d : Change = record { tree = t; «record» = c.record_bytes-inode.result; old = c.size-old.result; size = a.size; x = a.x.0; bytes = a.bytes.now } in
     rewrite-fine (session_lent l) l.device.now l.work.now a.i.n a.size a.x.0 a.bytes.now _ plan.verdict _ _ draft c.in_ok-draft.was
     (rewrite-stores v a.i.n _ d (plan.tree draft c.in_ok-draft.was) _ a.size
     (c.record_bytes-inode.ensures
-    ∙ kept_record v a.i.n _ _ a.size t.extents (levels_in (tree_of t.extents draft.nodes)) c.name_of.ensures block
+    ∙ kept_record v a.i.n _ _ a.size t.extents (levels_in (tree_of t.extents draft.nodes)) (c.name.ensures ∙ ap (λ (k : ℕ). take 8 (record_in r.result.table.now k)) r.ensures.0) block
     ∙ ap (λ (ls : List (List ℕ)). bytes_of_inode (inode_with (name_at v a.i.n) a.size t.extents ls)) (parts-levels t.table t.extents draft.nodes t.before t.held))
-    (kept-size v a.i.n _ _ c.size_of-old.ensures block) refl)
+    (size-told v _ _ a.i.n _ r.ensures.0 block c.size-old.ensures) refl)
     c.apply.ensures.state

@@ -1,5 +1,5 @@
 use mathlib.Core.Path.{◌≡◌, ap, ◌∙◌}
-use Prim.Native.Nat.{◌+◌}
+use Prim.Native.Nat.{ℕ, ◌+◌, max}
 use native.Mathlib.Omega.{arith}
 use borrow.Author.Rules.{rules}
 use lib.ListN.{length}
@@ -11,7 +11,7 @@ use Rattle.spec.specs.Calls.{outcome, write}
 use Rattle.transaction.specs.LentSessions.{session_lent, state_lent}
 use Rattle.transaction.proofs.Laws.{shows-view}
 use Rattle.lookup.proofs.Laws.{size-says}
-use Rattle.update.proofs.Records.{kept-end}
+use Rattle.inode.proofs.Laws.{size-told}
 use Rattle.change.proofs.Steps.{passed-on}
 use Rattle.update.proofs.Laws.{write-bad, write-fine}
 use Rattle.update.proofs.write_in.Goals as goal
@@ -55,8 +55,8 @@ returns-clause-state c =
     let h : outcome (state_lent c.resize.new.images.lent.now) (done_of c.resize.result) ≡ write (state_lent l) a.name.now a.x.0 a.bytes.now =
     write-fine (session_lent l) l.device.now l.work.now a.name.now a.x.0 a.bytes.now _ _ _ (c.in_ok-i.ensures _ c.volume-volume.ensures)
     (c.max-size.ensures
-    ∙ kept-end (view (state_lent l)) _ _ _ (a.x.0 + length a.bytes.now) c.size_of-old.ensures
-    (c.inode_block.ensures.0 ∙ ap (λ (v : Disk). v (block_of_inode c.in_ok-i.i.n)) (shows-view _ _ c.volume-volume.ensures)))
+    ∙ ap (λ (k : ℕ). max k (a.x.0 + length a.bytes.now))
+    (size-told (view (state_lent l)) _ _ c.in_ok-i.i.n _ c.of.ensures.0 (c.of.ensures.1 ∙ ap (λ (v : Disk). v (block_of_inode c.in_ok-i.i.n)) (shows-view _ _ c.volume-volume.ensures)) c.size-old.ensures))
     c.resize.ensures.state
     in
     search (rules, h)

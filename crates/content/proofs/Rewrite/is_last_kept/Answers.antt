@@ -1,8 +1,6 @@
-use Rattle.content.proofs.Laws.{kept-some, kept-none}
+use borrow.Author.Rules.{rules}
+use Rattle.content.proofs.Laws.{kept-test}
 use Rattle.content.proofs.Rewrite.is_last_kept.Goals as goal
 
-pub returns-in-Some : goal.returns-in-Some
-returns-in-Some c = kept-some _ _ _ _ c.in-Some.ensures
-
-pub returns-in-None : goal.returns-in-None
-returns-in-None c = kept-none _ _ _ c.in-None.ensures
+pub returns : goal.returns
+returns c = let a = c.args in kept-test a.self.now.old a.self.now.size a.p.0 _ _ _ c.last_kept.ensures c.is_some_and.ensures (λ k q. search rules)

@@ -3,7 +3,7 @@ use native.Mathlib.Omega.{arith}
 use Rattle.extents.specs.Pieces.{pieces_left}
 use Rattle.extents.specs.Stretches.{held_count}
 use Rattle.extents.specs.Runs.{runs_left}
-use Rattle.extents.proofs.Laws.{piece-counts, first-held, count-held, run-begins, run-goes_on, run-ends, last-told, list-step}
+use Rattle.extents.proofs.Laws.{piece-counts, piece-fits, first-held, count-held, run-begins, run-goes_on, run-ends, last-told, list-step}
 use Rattle.extents.proofs.RunsIterator.next.Goals as goal
 
 pub invariant_of-self : goal.invariant_of-self
@@ -23,13 +23,9 @@ loop-piece-preserved-then-run-e c =
 
 pub invariant_of-self-in-Some-2 : goal.invariant_of-self-in-Some-2
 invariant_of-self-in-Some-2 c =
-    let s = c.loop-piece.self in
     let p = c.in-Some.ensures.steps in
-    record {
-      first = λ x h. omega (arith, first-held h, c.in-Some.piece.first);
-      some = λ x h. omega (arith, count-held h, p.some);
-      few = omega (arith, piece-counts _ _ _ p.rest, s.few);
-    }
+    let f = piece-fits c.loop-piece.self.run c.in-Some.piece _ _ p.rest p.some c.loop-piece.self.few in
+    record { first = f.0; some = f.1.0; few = f.1.1 }
 
 pub returns-in-Some-2-clause-steps : goal.returns-in-Some-2-clause-steps
 returns-in-Some-2-clause-steps c =
@@ -44,13 +40,9 @@ returns-in-Some-2-clause-goes c = list-step runs_left _ _ _ (returns-in-Some-2-c
 
 pub invariant_of-self-in-None : goal.invariant_of-self-in-None
 invariant_of-self-in-None c =
-    let s = c.loop-piece.self in
     let p = c.in-Some.ensures.steps in
-    record {
-      first = λ x h. omega (arith, first-held h, c.in-Some.piece.first);
-      some = λ x h. omega (arith, count-held h, p.some);
-      few = omega (arith, piece-counts _ _ _ p.rest, s.few);
-    }
+    let f = piece-fits c.loop-piece.self.run c.in-Some.piece _ _ p.rest p.some c.loop-piece.self.few in
+    record { first = f.0; some = f.1.0; few = f.1.1 }
 
 pub loop-piece-preserved : goal.loop-piece-preserved
 loop-piece-preserved c =

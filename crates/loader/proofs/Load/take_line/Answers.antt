@@ -1,24 +1,32 @@
-use Rattle.std.proofs.Common.{ap, ap₂, ◌∙◌, Ok}
+use Rattle.std.proofs.Common.{◌≡◌, Ok, Err, rules, ◌∙◌, ap}
 use Rattle.spec.specs.Transaction.{state_of}
-use Rattle.loader.specs.Load.{store_line}
-use Rattle.loader.proofs.Laws.{take_found, take-started, take-refused}
+use Rattle.cardfile.specs.Lines.{line_number}
+use Rattle.loader.specs.declared.LoadFault.TheVariants.{LineRefused, BadLine}
+use Rattle.loader.proofs.Laws.{told-as, told-fine, line-refused, line-started}
 use Rattle.loader.proofs.Load.take_line.Goals as goal
 
-pub returns-in-Ok : goal.returns-in-Ok
-returns-in-Ok c =
-    let a = c.args in
-    let load = a.self.now in
-    let s = state_of load.session a.device.now a.work.now in
-    let line = c.in-Ok-Some.line in
-    take_found s load.text.now load.at _ _ c.line_at.ensures line _ (c.in-Ok-Some.is ∙ ap Ok c.in-Ok-Some.field-0-is)
-    (take-started s _ a.device.now _ load.at _ line.next _ _ _ (c.store_line.ensures ∙ ap₂ (store_line s) c.name_of-name.ensures c.amount_bytes-amount.ensures) _ c.in-Ok.is)
+pub returns-in_err-found : goal.returns-in_err-found
+returns-in_err-found c =
+    let load = c.args.self.now in
+    let why = told-as c.line_at-found.result c.map_err.result _ c.map_err.ensures.cases c.in_err-found.field-0.0 c.in_err-found.was in
+    let f : c.in_err-found.field-0.0 ≡ BadLine (line_number load.text.now load.at) why.0 = search rules in
+    let e : c.from_residual.result ≡ Err c.in_err-found.field-0.0 = search rules in
+    rw (e, f) (search rules)
 
-pub returns-in-Err-store_line : goal.returns-in-Err-store_line
-returns-in-Err-store_line c =
+pub returns-in_err-stores : goal.returns-in_err-stores
+returns-in_err-stores c =
     let a = c.args in
     let load = a.self.now in
-    let s = state_of load.session a.device.now a.work.now in
-    let line = c.in-Ok-Some.line in
-    rw (c.number-in-Err-store_line.ensures)
-    (take_found s load.text.now load.at _ _ c.line_at.ensures line _ (c.in-Ok-Some.is ∙ ap Ok c.in-Ok-Some.field-0-is)
-    (take-refused s _ a.device.now _ load.at _ line.next _ _ _ (c.store_line.ensures ∙ ap₂ (store_line s) c.name_of-name.ensures c.amount_bytes-amount.ensures) _ c.in-Err-store_line.is))
+    let found = told-fine c.line_at-found.result c.map_err.result _ c.map_err.ensures.cases c.in_ok-found.found c.in_ok-found.was ∙ ap Ok c.in-Some.is in
+    let why = told-as c.store_line-stored.result c.map_err-2.result _ c.map_err-2.ensures.cases c.in_err-stores.field-0.0 c.in_err-stores.was in
+    let f : c.in_err-stores.field-0.0 ≡ LineRefused (line_number load.text.now load.at) why.0 = search rules in
+    let e : c.from_residual-in_err-stores.result ≡ Err c.in_err-stores.field-0.0 = search rules in
+    rw (e, f) (line-refused (state_of load.session a.device.now a.work.now) load.text.now load.at _ _ c.line_at-found.ensures _ found _ a.device.now _ _ _ _ c.name_of-name.ensures c.amount_bytes-amount.ensures c.store_line-stored.ensures why.0 why.1.0)
+
+pub returns : goal.returns
+returns c =
+    let a = c.args in
+    let load = a.self.now in
+    let found = told-fine c.line_at-found.result c.map_err.result _ c.map_err.ensures.cases c.in_ok-found.found c.in_ok-found.was ∙ ap Ok c.in-Some.is in
+    let fine = told-fine c.store_line-stored.result c.map_err-2.result _ c.map_err-2.ensures.cases c.in_ok-stores.stores c.in_ok-stores.was in
+    line-started (state_of load.session a.device.now a.work.now) load.text.now load.at _ _ c.line_at-found.ensures _ found _ a.device.now _ _ _ _ c.name_of-name.ensures c.amount_bytes-amount.ensures c.store_line-stored.ensures _ fine

@@ -8,8 +8,8 @@ returns-then-end-from c =
     kept-end _ _ _ _ _ (run-start _ _ _ c.max-from.result c.min-end.result _ (omega arith) (omega arith)) _ (run_end _ _ c.if-end-from.true) refl
 
 pub loop-i-init : goal.loop-i-init
-loop-i-init c = (omega arith, run-start _ _ _ _ _ _ (omega arith) (omega arith))
+loop-i-init c = run-start _ _ _ _ _ _ (omega arith) (omega arith)
 
 pub loop-i-preserved : goal.loop-i-preserved
-loop-i-preserved c = let i = c.loop-i.invariant in
-    (omega arith, kept_on _ _ _ _ _ i.1 _ _ _ (run_more _ _ _ c.min-next.result (omega arith) (omega arith)) (c.mark_byte.ensures _ (omega arith)))
+loop-i-preserved c =
+    kept_on _ _ _ _ _ c.loop-i.invariant _ _ _ (run_more _ _ _ _ _ (omega arith) (omega arith) (omega arith)) (c.mark_byte.ensures _ (omega arith))

@@ -1,35 +1,19 @@
-use Rattle.std.proofs.Common.{rules}
-use Rattle.std.specs.Prelude.{None}
-use mathlib.Core.Path.{◌≡◌, refl, sym, ◌∙◌}
-use Rattle.spec.specs.Sound.{slots_packed}
-use Rattle.tree.specs.Slots.{slots_of}
-use Rattle.tree.proofs.Reading.{left-zero}
-use Rattle.tree.proofs.Walks.{going-start, going-off, going-more, going-end, going-unpacked}
+use Rattle.std.proofs.Common.{rules, tests, Some, None}
+use mathlib.Core.Path.{ap, ◌∙◌}
+use Rattle.tree.specs.Slots.{slots_left}
+use Rattle.tree.proofs.Reading.{length_slots, taken}
+use Rattle.tree.proofs.Walks.{going_start, going_more, going_over}
 use Rattle.tree.proofs.Walk.extents_over.Goals as goal
 
 pub loop-slot-init : goal.loop-slot-init
-loop-slot-init c = (going-start _ _ _ _ _ _ refl, refl)
-
-pub returns-in_err-q : goal.returns-in_err-q
-returns-in_err-q c =
-    let e : c.from_residual.result ≡ None = search rules in
-    rw e (going-off _ _ _ _ _ _ _ _ c.loop-slot.invariant.0 _ _ c.in-Some.ensures.steps.used c.in_err-q.ensures _)
+loop-slot-init c = let i = c.into_iter-slot-iterator.ensures.into_iter_gives in
+    (ap (λ w. w.done) i ∙ c.take_while-slot-items.ensures.done, going_start _ _ _ _ _ _ _ (ap (λ w. slots_left w.iter) i ∙ ap slots_left c.take_while-slot-items.ensures.source) (length_slots _ _))
 
 pub loop-slot-preserved : goal.loop-slot-preserved
-loop-slot-preserved c =
-    let i = c.loop-slot.invariant in
-    let s = c.in-Some.ensures.steps in
-    (going-more _ _ _ _ _ _ _ _ i.0 _ _ s.used _ _ c.in_ok-q.ensures, sym s.packed ∙ i.1)
-
-pub returns-then-not-are_zero : goal.returns-then-not-are_zero
-returns-then-not-are_zero c =
-    let i = c.loop-slot.invariant in
-    let slots = slots_of c.args.slots in
-    going-unpacked _ _ _ _ _ _ _ _ i.0 (slots_packed slots) (left-zero slots (slots_of c.loop-slot.rest) _ _ i.1 c.in_default.ensures.steps c.are_zero.ensures ∙ c.if-not-are_zero.true)
+loop-slot-preserved c = let i = c.loop-slot.invariant in let w = c.test_extent-q.ensures in
+    let k = taken _ (λ p q x b h. search (rules, tests)) _ _ i.0 (Some _) c.in-Some.ensures.steps in
+    (k.2, going_more _ _ _ _ _ _ _ _ _ i.1 _ _ k.0 _ _ k.1 c.in-Some.slot.count w.0 w.1)
 
 pub returns : goal.returns
-returns c =
-    let i = c.loop-slot.invariant in
-    let s = c.in_default.ensures.steps in
-    let slots = slots_of c.args.slots in
-    going-end _ _ _ _ _ _ _ _ i.0 s.0 (slots_packed slots) (left-zero slots (slots_of c.loop-slot.rest) _ _ i.1 s c.are_zero.ensures ∙ c.if-not-are_zero.false)
+returns c = let i = c.loop-slot.invariant in
+    going_over _ _ _ _ _ _ _ _ _ i.1 (taken _ (λ p q x b h. search (rules, tests)) _ c.next.new.self i.0 None c.in-None.ensures.steps)

@@ -1,36 +1,29 @@
-use Rattle.std.proofs.Common.{rules}
-use Rattle.std.specs.Prelude.{None}
-use mathlib.Core.Path.{◌≡◌, refl, sym, ap, ◌∙◌}
+use Rattle.std.proofs.Common.{rules, tests, Some, None}
+use mathlib.Core.Path.{ap, ◌∙◌}
+use Rattle.marks.specs.Device.{disk_of}
 use Rattle.tree.specs.Runs.{flat}
-use Rattle.spec.specs.Sound.{slots_packed}
-use Rattle.tree.specs.Slots.{slots_of}
-use Rattle.tree.proofs.Reading.{left-zero}
-use Rattle.tree.proofs.Walks.{noding-start, noding-off, noding-more, noding-end, noding-unpacked}
+use Rattle.tree.specs.Slots.{slots_left}
+use Rattle.tree.proofs.Reading.{length_slots, taken}
+use Rattle.tree.proofs.Walks.{Noded, noding_start, noding_more, noding_over}
 use Rattle.tree.proofs.Walk.nodes_over.Goals as goal
+use Rattle.tree.proofs.Walk.nodes_over.Goals.{In-None}
 
 pub loop-slot-init : goal.loop-slot-init
-loop-slot-init c = (noding-start _ _ _ _ _ _ _ (c.flat-f.ensures ∙ ap flat c.none.ensures) refl, refl)
-
-pub returns-in_err-f : goal.returns-in_err-f
-returns-in_err-f c =
-    let e : c.from_residual.result ≡ None = search rules in
-    rw e (noding-off _ _ _ _ _ _ _ _ c.loop-slot.invariant.0 _ _ c.in-Some.ensures.steps.used c.in_err-f.ensures _)
+loop-slot-init c = let i = c.into_iter-slot-iterator.ensures.into_iter_gives in let w = c.take_while-slot-items.ensures in (
+  ap (λ w. w.done) i ∙ w.done,
+  noding_start _ _ _ _ _ _ _ (c.flat-f.ensures ∙ ap flat c.none.ensures) (ap (λ w. slots_left w.iter) i ∙ ap slots_left w.source) (length_slots _ _ ∙ c.requires),
+)
 
 pub loop-slot-preserved : goal.loop-slot-preserved
-loop-slot-preserved c =
-    let i = c.loop-slot.invariant in
-    let s = c.in-Some.ensures.steps in
-    (noding-more _ _ _ _ _ _ _ _ i.0 _ _ s.used _ _ c.in_ok-f.ensures, sym s.packed ∙ i.1)
+loop-slot-preserved c = let i = c.loop-slot.invariant in let w = c.test_node-f.ensures in
+    let k = taken _ (λ p q x b h. search (rules, tests)) _ _ i.0 (Some _) c.in-Some.ensures.steps in
+    (k.2, noding_more _ _ _ _ _ _ _ _ i.1 _ _ k.0 _ _ k.1 c.in-Some.slot.count w.0 w.1 w.2 w.3)
 
-pub returns-then-not-are_zero : goal.returns-then-not-are_zero
-returns-then-not-are_zero c =
-    let i = c.loop-slot.invariant in
-    let slots = slots_of c.args.slots in
-    noding-unpacked _ _ _ _ _ _ _ _ i.0 (slots_packed slots) (left-zero slots (slots_of c.loop-slot.rest) _ _ i.1 c.in_default.ensures.steps c.are_zero.ensures ∙ c.if-not-are_zero.true)
+over : (c : In-None) → Noded c.args.self.now.device.blocks c.args.self.now.last.0 (disk_of c.args.self.now.device) c.loop-slot.marks c.loop-slot.f c.args.marks.now (slots_left c.args.slots)
+over c = let i = c.loop-slot.invariant in noding_over _ _ _ _ _ _ _ _ i.1 (taken _ (λ p q x b h. search (rules, tests)) _ c.next.new.self i.0 None c.in-None.ensures.steps)
+
+pub are_packed-requires : goal.are_packed-requires
+are_packed-requires c = (over c).tops
 
 pub returns : goal.returns
-returns c =
-    let i = c.loop-slot.invariant in
-    let s = c.in_default.ensures.steps in
-    let slots = slots_of c.args.slots in
-    noding-end _ _ _ _ _ _ _ _ i.0 s.0 (slots_packed slots) (left-zero slots (slots_of c.loop-slot.rest) _ _ i.1 s c.are_zero.ensures ∙ c.if-not-are_zero.false)
+returns c = let h = over (goal.at.returns c).In-None in (h.is, c.are_packed.ensures, h.marks)

@@ -8,4 +8,4 @@ returns-then-n-eq0 c = sym (unmarked 0 _ _ _ c.if-n-eq0.true)
 
 pub returns : goal.returns
 unfolding hole
-returns c = bits-holed _ _ _ c.args.self.now.whole.full (omega arith) (omega arith)
+returns c = rw c.mask.ensures (bits-holed _ _ _ c.args.self.now.whole.full (omega arith) (omega arith))

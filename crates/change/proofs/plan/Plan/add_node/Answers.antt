@@ -19,4 +19,4 @@ returns c =
     let a = c.args in
     let v = working a.copy.now in
     let p = a.self.now in
-    λ h. new-lists v p.number.n (change_of p) a.j c.requires.0 _ c.requires.1 _ _ (omega (arith, c.if-from-self.false, c.from.ensures)) (c.insert.ensures _ _ h)
+    λ h. new-lists v p.number.n (change_of p) a.j c.requires.0 _ c.requires.1 _ _ (omega (arith, c.if-from-self.false, c.from.ensures)) (c.insert.ensures.lists _ _ h)

@@ -1,8 +1,9 @@
 use Rattle.std.proofs.Common.{rules}
-use native.Mathlib.Omega.{arith}
+use mathlib.Core.Path.{ap, ◌∙◌}
+use Rattle.inode.proofs.Laws.{inode-at}
+use Rattle.marks.specs.Device.{disk_of}
 use Rattle.filecheck.specs.File.{Stands}
-use Rattle.filecheck.proofs.Shape.{size-at}
 use Rattle.filecheck.proofs.table.Record.size.Goals as goal
 
 pub returns : goal.returns
-returns c = let h : Stands c.args.self.now = search rules in (size-at _ _ _ h _ c.size_of.ensures, omega arith)
+returns c = let x = c.args.self.now in let h : Stands x = search rules in rw (← c.inode.ensures.0, ← c.inode.ensures.1) c.size.ensures ∙ ap (λ n. n.size) (inode-at (disk_of x.device) x.table.now x.i.n h)

@@ -13,12 +13,12 @@ mod table;
 
 pub use table::Bitmap;
 
-// How many bits of a word are 0.
+// How many bits of a word are 0: the ones of the complemented word.
 #[tactic(auto, unfolding(crate::specs::Words::free_of_word))]
 fn free_in_word(word: &[u8; 8]) -> usize
     ensures { result ≡ free_of_word word.now }
 {
-    u64::from_le_bytes(*word).count_zeros() as usize
+    (!u64::from_le_bytes(*word)).count_ones() as usize
 }
 
 // How many bits of some words are 0.

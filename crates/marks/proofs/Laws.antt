@@ -17,6 +17,7 @@ use Rattle.spec.specs.Bytes.{exactly, same, all, all_zero, occurs, up_from, conc
 use Rattle.spec.specs.Bitmap.{bits_of, mark}
 use Rattle.bitmap.specs.Words.{mask_of}
 use Rattle.spec.specs.Disk.{Disk, is_data_area, area_of, in_data}
+use Rattle.spec.specs.declared.Area.{Area}
 use Rattle.spec.specs.declared.Area.TheVariants.{Header, Log, Bitmap, Inodes, Data}
 use Rattle.spec.specs.Inode.{reached_from, reached}
 use Rattle.spec.specs.Sound.{block_sound, bit_fault, block_fault}
@@ -53,6 +54,28 @@ data-low N x h =
 data-in : (N x : ℕ) → 42 ≤ x → x < N → in_data N x ≡ true
 unfolding in_data area_of
 data-in N x l h = rw (le-ltb x 1 (omega arith), le-ltb x 33 (omega arith), le-ltb x 34 (omega arith), le-ltb x 42 l, lt-ltb x N h)
+
+-- a block as `data_from` takes it, by its area
+data-low-area : (b : ℕ) → b < 42 → is_data_area (area_of b) ≡ false
+unfolding area_of
+data-low-area b l = go (ltb b 1) (ltb b 33) (ltb b 34)
+  where
+    go : (p q r : Bool) → is_data_area (cond p Header (cond q Log (cond r Bitmap (cond (ltb b 42) Inodes Data)))) ≡ false
+    go true q r = refl
+    go false true r = refl
+    go false false true = refl
+    go false false false = rw (lt-ltb b 42 l) refl
+
+data-high-area : (b : ℕ) → 42 ≤ b → is_data_area (area_of b) ≡ true
+unfolding area_of
+data-high-area b l = rw (le-ltb b 1 (omega arith), le-ltb b 33 (omega arith), le-ltb b 34 (omega arith), le-ltb b 42 l) refl
+
+module _ (b : ℕ) (x : Area) (e : x ≡ area_of b) where
+  pub area-data : is_data_area x ≡ true → b ≡ max 42 b
+  area-data h = ⊎_elim (λ l. absurd (true≢false (sym h ∙ ap is_data_area e ∙ data-low-area b l))) (λ l. omega arith) (lt-or-le b 42)
+
+  pub area-low : is_data_area x ≡ false → 42 ≡ max 42 b
+  area-low h = ⊎_elim (λ l. omega arith) (λ l. absurd (true≢false (sym (data-high-area b l) ∙ ap is_data_area (sym e) ∙ h))) (lt-or-le b 42)
 
 -- ---- bits
 

@@ -10,9 +10,9 @@ ghost use Rattle.marks.specs.Marks.{bit, Kept, wrong, block_found};
 mod tested;
 
 use bitmap::mask;
-use block::{in_data, load};
+use block::{area_of, in_data, load};
 use mkfs::empty_table;
-use spec::{DiskBlock, Limits};
+use spec::{Area, DiskBlock, Limits};
 pub use tested::Device;
 use zeros::is_zero;
 
@@ -32,13 +32,23 @@ fn bit_is(t: &[u8; Limits::BLOCK_SIZE], b: DiskBlock) -> bool
     (load(t, (b.0 / 8) as usize) >> (b.0 % 8)) % 2 == 1
 }
 
+// Block b, or the first one of the data area where b lies before that.
+fn data_from(b: DiskBlock) -> DiskBlock
+    ensures { result.0 ≡ max 42 b.0 }
+{
+    match area_of(b) {
+        Area::Header | Area::Log | Area::Bitmap | Area::Inodes => DiskBlock(Limits::DATA_START),
+        Area::Data => b,
+    }
+}
+
 impl Marks {
     // No block marked yet: ones outside 42 to N-1, where the bitmap has them.
     pub fn none(device: &Device) -> Marks
         ensures { Cleared result.once (max 42 device.now.blocks) × (result.twice ≡ replicate 512 0) }
     {
-        let first = (device.blocks as u32).max(Limits::DATA_START);
-        let unmarked = empty_table(first);
+        let first = data_from(DiskBlock(device.blocks as u32));
+        let unmarked = empty_table(first.0);
         let once = unmarked.bytes;
         Marks {
             once,
@@ -73,7 +83,7 @@ impl Marks {
     pub fn mark_run(&mut self, device: &Device, first: DiskBlock, count: u32)
         ensures { Kept device.now.blocks self.new [] self.old (up_from first.0 count) }
     {
-        let from = first.0.max(Limits::DATA_START);
+        let from = data_from(first).0;
         let end = (first.0 as usize + count as usize).min(device.blocks) as u32;
         if end <= from {
             return;

@@ -5,7 +5,7 @@ use Rattle.marks.proofs.Marks.mark_run.Goals as goal
 
 pub returns-then-end-from : goal.returns-then-end-from
 returns-then-end-from c =
-    kept-end _ _ _ _ _ (run-start _ _ _ c.max-from.result c.min-end.result _ (omega arith) (omega arith)) _ (run_end _ _ c.if-end-from.true) refl
+    kept-end _ _ _ _ _ (run-start _ _ _ c.data_from-from.result.0 c.min-end.result _ (omega arith) (omega arith)) _ (run_end _ _ c.if-end-from.true) refl
 
 pub loop-i-init : goal.loop-i-init
 loop-i-init c = run-start _ _ _ _ _ _ (omega arith) (omega arith)

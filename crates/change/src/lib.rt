@@ -111,11 +111,11 @@ impl Window {
         let behind = (rewrite.x.0 + rewrite.bytes.len()).div_ceil(Limits::BLOCK_SIZE);
         match rewrite.last_kept() {
             Some(k) => Window {
-                low: FileBlock(first.min(k.0)),
+                low: FileBlock(first.0.min(k.0)),
                 high: FileBlock(behind.max(k.0 + 1)),
             },
             None => Window {
-                low: FileBlock(first),
+                low: first,
                 high: FileBlock(behind),
             },
         }
@@ -141,14 +141,14 @@ impl Plan<'_, '_> {
         agenda: &mut Agenda,
         first: DiskBlock,
         at: FileBlock,
-        from: usize,
-        to: usize,
+        from: FileBlock,
+        to: FileBlock,
     ) -> Result<(), Refusal>
-        requires { (at.0 ≤ from) × (from ≤ to) × (to ≤ 8192) × (first.0 < 131072) × ((j : ℕ) → at.0 + j < to → IsBlock (change_of self.now) (at.0 + j) (first.0 + j)) }
-        ensures { (v : Disk) → Lists (content_by v self.now) agenda.old (ascending (data_from v self.now to))
-            → Told result (content_by v self.now) agenda.new (ascending (data_from v self.now from)) }
+        requires { (at.0 ≤ from.0) × (from.0 ≤ to.0) × (to.0 ≤ 8192) × (first.0 < 131072) × ((j : ℕ) → at.0 + j < to.0 → IsBlock (change_of self.now) (at.0 + j) (first.0 + j)) }
+        ensures { (v : Disk) → Lists (content_by v self.now) agenda.old (ascending (data_from v self.now to.0))
+            → Told result (content_by v self.now) agenda.new (ascending (data_from v self.now from.0)) }
     {
-        for p in (from..to).rev() {
+        for p in (from.0..to.0).rev() {
             let b = DiskBlock(first.0 + (p - at.0) as u32);
             self.add_place(agenda, DataBlock(p as u32), b)?;
         }
@@ -173,8 +173,8 @@ impl Plan<'_, '_> {
         let new = self.data.held.clamp(at.0, end);
         let high = w.high.0.clamp(at.0, new);
         let low = w.low.0.clamp(at.0, high);
-        self.add_places(agenda, first, at, new, end)?;
-        self.add_places(agenda, first, at, low, high)
+        self.add_places(agenda, first, at, FileBlock(new), FileBlock(end))?;
+        self.add_places(agenda, first, at, FileBlock(low), FileBlock(high))
     }
 
     // The data blocks of a change, from the last to the first.

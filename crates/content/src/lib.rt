@@ -192,13 +192,13 @@ impl Rewrite<'_> {
     }
 
     // The first place of a file that holds data, at most as many as were held.
-    pub fn first_data(&self) -> usize
-        ensures { (result ≤ self.now.held) × (0 < length self.now.bytes.now → result ≤ self.now.x.0 / 512) }
+    pub fn first_data(&self) -> FileBlock
+        ensures { (result.0 ≤ self.now.held) × (0 < length self.now.bytes.now → result.0 ≤ self.now.x.0 / 512) }
     {
         if self.bytes.is_empty() {
-            return self.held;
+            return FileBlock(self.held);
         }
-        self.held.min(self.x.0 / Limits::BLOCK_SIZE)
+        FileBlock(self.held.min(self.x.0 / Limits::BLOCK_SIZE))
     }
 
     // Block p of the file before the data is laid over it: a new one is zeros, in the last kept one the bytes from the size on are.

@@ -18,4 +18,4 @@ returns-in_err-add_place c =
     let p = c.args.self.now in
     let z : c.loop-p.p ≡ c.loop-p.p - 1 + 1 = omega (arith, c.loop-p-test.true) in
     λ v l. let e = c.in_err-add_place.ensures v (data-cast v p.number.n (change_of p) _ _ _ z (c.loop-p.invariant.lists v l)) in
-    told-err _ _ _ _ _ c.from_residual.ensures.1 e.0 (data-below v p.number.n (change_of p) c.args.from (c.loop-p.p - 1) (omega arith) e.1)
+    told-err _ _ _ _ _ c.from_residual.ensures.1 e.0 (data-below v p.number.n (change_of p) c.args.from.0 (c.loop-p.p - 1) (omega arith) e.1)

@@ -7,6 +7,6 @@ use Rattle.change.proofs.plan.Plan.add_places.Given as goal
 
 abbrev pub invariant-loop-p : goal.invariant-loop-p
 invariant-loop-p l = record {
-  low : l.from ≤ l.p;
-  lists : (v : Disk) → Lists (content_by v l.self) l.initial.agenda (ascending (data_from v l.self l.to)) → Lists (content_by v l.self) l.agenda (ascending (data_from v l.self l.p));
+  low : l.fn.from.0 ≤ l.p;
+  lists : (v : Disk) → Lists (content_by v l.self) l.initial.agenda (ascending (data_from v l.self l.fn.to.0)) → Lists (content_by v l.self) l.agenda (ascending (data_from v l.self l.p));
 }

@@ -849,12 +849,10 @@ static uint32_t load_due(const odd_call *c, enum damage d, uint64_t phase, uint6
 /* What a load leaves that is accepted. */
 static void accepted_load(const odd_call *c, enum damage d)
 {
-    if (c->reads) {
-        at.s.place = before.s.place; /* of no meaning where the session is ready */
+    if (c->reads)
         unchanged(c, d);
-    } else {
+    else
         accepted(c, d);
-    }
     same_in(c, d, "answer of a load", answered, c->answer);
 }
 

@@ -21,8 +21,8 @@
  *
  * Any bytes and any numbers may be handed in: the worst that happens is a refusal, or an answer that is of no use. Nothing outside the lent
  * memory is touched. A session that the store did not make is never trusted: one whose phase is no purse_phase is taken as a closed one. A
- * call that is refused leaves such a session as it is. One that is accepted, and may change the session, leaves it with regular numbers:
- * phase 0 where the number given was no phase, place 0 where the phase has no place.
+ * call that is refused leaves such a session as it is, and so does a step of a load that finds no line. Any other that is accepted, and may
+ * change the session, leaves it with regular numbers: phase 0 where the number given was no phase, place 0 where the phase has no place.
  *
  * Link with target/staticlib/libcapi.a (tools/build capi), and for the calls of a load with libloadapi.a besides (tools/build loadapi). A
  * conversion uses nothing of the store: a program that only converts links with libconvertapi.a alone (tools/build convertapi). Every

@@ -1,14 +1,18 @@
 //! The image file: locked, read once, and written block by block.
 
 use std::fs::{self, File, OpenOptions, TryLockError};
-use std::io::{self, ErrorKind, Read};
+use std::io::{self, ErrorKind, Read, Write};
 use std::os::fd::AsFd;
+use std::os::unix::fs::{FileTypeExt, MetadataExt};
 use std::path::{Path, PathBuf};
 
 use purse::{Failure, FileDevice, Phase, Standing, Store, FILE_MOST, WORK_SIZE};
 
 use crate::output::tell;
 use crate::report::{counted, Answer, Force, Trouble};
+
+/// The number of the device /dev/null.
+const NULL_DEVICE: u64 = 0x103;
 
 /// The image of a box, read under a lock that is held as long as this is.
 pub struct Image {
@@ -35,8 +39,13 @@ impl Image {
         // A pipe must not even be opened: that would wait for its other end.
         regular(path, &fs::metadata(path).map_err(failed)?)?;
         let file = options.open(path).map_err(failed)?;
-        regular(path, &file.metadata().map_err(failed)?)?;
         locked(path, &file, lock)?;
+        let about = file.metadata().map_err(failed)?;
+        regular(path, &about)?;
+        // What is stored in a file that has no name any more is lost.
+        if about.nlink() == 0 {
+            return Err(Trouble::about(path, "the file was removed in between"));
+        }
         let bytes = FileDevice::new(&file).read_image().map_err(failed)?;
         Ok(Image { path: path.into(), file, bytes, work: vec![0; WORK_SIZE] })
     }
@@ -92,23 +101,48 @@ fn regular(path: &Path, about: &fs::Metadata) -> Answer {
 }
 
 /// Takes a lock, or says at once that the box is in use.
-pub fn locked(path: &Path, file: &File, lock: fn(&File) -> Result<(), TryLockError>) -> Answer {
+fn locked(path: &Path, file: &File, lock: fn(&File) -> Result<(), TryLockError>) -> Answer {
+    match try_locked(file, lock) {
+        Ok(true) => Ok(()),
+        Ok(false) => Err(busy(path)),
+        Err(e) => Err(Trouble::system(format_args!("{}: lock", path.display()), &e)),
+    }
+}
+
+/// Takes a lock; false: another program has one.
+pub fn try_locked(file: &File, lock: fn(&File) -> Result<(), TryLockError>) -> io::Result<bool> {
     loop {
         return match lock(file) {
-            Ok(()) => Ok(()),
-            Err(TryLockError::WouldBlock) => Err(Trouble::about(path, "the box is in use by another program")),
+            Ok(()) => Ok(true),
+            Err(TryLockError::WouldBlock) => Ok(false),
             Err(TryLockError::Error(e)) if e.kind() == ErrorKind::Interrupted => continue,
-            Err(TryLockError::Error(e)) => Err(Trouble::system(format_args!("{}: lock", path.display()), &e)),
+            Err(TryLockError::Error(e)) => Err(e),
         };
     }
 }
 
+/// Another program has the lock.
+pub fn busy(path: &Path) -> Trouble {
+    Trouble::about(path, "the box is in use by another program")
+}
+
 /// A FILE to be read, `-` for standard input.
 pub fn open_file(path: &Path) -> io::Result<File> {
-    // Standard input as a file of its own: the library's would take one that cannot be read for an empty one.
     match path.as_os_str() == "-" {
-        true => io::stdin().as_fd().try_clone_to_owned().map(File::from),
+        true => standard_input(),
         false => File::open(path),
+    }
+}
+
+/// Standard input as a file of its own: the library's would take one that cannot be read for an empty one.
+fn standard_input() -> io::Result<File> {
+    let mut file = io::stdin().as_fd().try_clone_to_owned().map(File::from)?;
+    // Where it is closed, Rust opens /dev/null in its place, and for writing too: nothing was given, and that is not an empty FILE.
+    let about = file.metadata()?;
+    let is_null = about.file_type().is_char_device() && about.rdev() == NULL_DEVICE;
+    match is_null && file.write(&[]).is_ok() {
+        true => Err(io::Error::other("standard input is closed")),
+        false => Ok(file),
     }
 }
 

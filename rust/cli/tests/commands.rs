@@ -660,6 +660,34 @@ fn no_standard_files() {
     }
 }
 
+/// A standard input that is closed is no empty FILE: nothing is stored, and nothing converted.
+#[test]
+fn standard_input_closed() {
+    let place = Place::new(&small_box());
+    for words in [
+        &["put", "box.img", A, "-"][..],
+        &["append", "box.img", A, "-"],
+        &["write", "box.img", A, "0", "-"],
+        &["batch", "box.img", "-"],
+        &["load", "box.img", "-"],
+        &["convert", "D", "-"],
+    ] {
+        let mut command = Command::new(env!("CARGO_BIN_EXE_purse"));
+        command.args(words).current_dir(&place.scratch.path).stdin(Stdio::null());
+        unsafe {
+            command.pre_exec(|| {
+                close(0);
+                Ok(())
+            })
+        };
+        let out = command.output().unwrap();
+        let err = String::from_utf8_lossy(&out.stderr);
+        assert!(out.status.code() == Some(3) && out.stdout.is_empty(), "{words:?}: {:?} {err}", out.status);
+        assert!(err.contains("standard input is closed"), "{words:?}: {err}");
+        assert!(place.image() == small_box(), "{words:?}: the image is another");
+    }
+}
+
 /// What is no file: told, and nothing hangs.
 #[test]
 fn images_that_are_no_files() {

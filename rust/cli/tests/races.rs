@@ -4,6 +4,7 @@ mod common;
 
 use common::*;
 use std::fs;
+use std::io::Write;
 use std::time::{Duration, Instant};
 
 /// A change, as the tool is told and as a map has it.
@@ -101,8 +102,8 @@ fn start(stage: &Stage, op: &Op, slow: u32) -> Running {
     }
 }
 
-/// Runs `first` up to call n, then `second` as a whole, then the rest of `first`. None: there is no such call.
-fn inside(stage: &Stage, first: &[String], n: usize, second: &[String]) -> Option<(Out, Out)> {
+/// Runs `first` up to call n, then `middle`, then the rest of `first`. None: there is no such call.
+fn paused<T>(stage: &Stage, first: &[String], n: usize, middle: impl FnOnce() -> T) -> Option<(Out, T)> {
     stage.reset();
     let flag = stage.scratch.at("flag");
     let (here, go) = (stage.scratch.at("flag.here"), stage.scratch.at("flag.go"));
@@ -118,11 +119,19 @@ fn inside(stage: &Stage, first: &[String], n: usize, second: &[String]) -> Optio
         assert!(since.elapsed() < Duration::from_secs(20), "{first:?} does not come to call {n}");
         std::thread::sleep(Duration::from_micros(200));
     }
-    let since = Instant::now();
-    let b = tool(second).folder(&stage.scratch.path).run();
-    assert!(since.elapsed() < Duration::from_secs(5), "{second:?} waits for {first:?} at call {n}");
+    let done = middle();
     fs::write(&go, b"").unwrap();
-    Some((a.wait(), b))
+    Some((a.wait(), done))
+}
+
+/// The same with `second` run as a whole in between.
+fn inside(stage: &Stage, first: &[String], n: usize, second: &[String]) -> Option<(Out, Out)> {
+    paused(stage, first, n, || {
+        let since = Instant::now();
+        let b = tool(second).folder(&stage.scratch.path).run();
+        assert!(since.elapsed() < Duration::from_secs(5), "{second:?} waits for {first:?} at call {n}");
+        b
+    })
 }
 
 /// One change as a whole inside another one, at each of its calls.
@@ -340,6 +349,64 @@ fn inside_a_format() {
     }
     eprintln!("inside a format: {places} places, the put was told {told} times");
     assert!(told > 3);
+}
+
+/// A format, and at each of its calls a program that makes a box of its own of a file that is missing or empty, as examples/sale.c does. What that
+/// has stored stays, also where it still holds its lock.
+#[test]
+fn another_box_inside_a_format() {
+    let stage = stage();
+    let format: Vec<String> = ["format", "new.img", "64"].iter().map(|w| w.to_string()).collect();
+    let image = stage.scratch.at("new.img");
+    let theirs = small_box();
+    let made = || {
+        let mut file = fs::File::options().read(true).write(true).create(true).truncate(false).open(&image).unwrap();
+        if file.try_lock().is_err() || file.metadata().unwrap().len() > 0 {
+            return None;
+        }
+        file.write_all(&theirs).unwrap();
+        Some(file)
+    };
+    let (mut places, mut told) = (0, 0);
+    for held in [true, false] {
+        for n in 1.. {
+            let _ = fs::remove_file(&image);
+            let middle = || made().map(|file| held.then_some(file).ok_or(()));
+            let Some((a, other)) = paused(&stage, &format, n, middle) else { break };
+            places += 1;
+            told += other.is_some() as usize;
+            let (status, wanted) = if other.is_some() { (3, &theirs) } else { (0, &empty(64)) };
+            assert_eq!(a.status, status, "format at call {n}, held {held}: {}", a.err);
+            assert!(fs::read(&image).ok().as_ref() == Some(wanted), "format at call {n}, held {held}: the box is another");
+        }
+    }
+    eprintln!("another box inside a format: {places} places, the format was told {told} times");
+    assert!(told > 3 && places > told);
+}
+
+/// The box is replaced by another file, at each call of a put up to the one that looks whether it still has its name: the put is in the new box, or
+/// it is told that it is not in force.
+#[test]
+fn a_box_that_is_replaced() {
+    let (stage, put) = (stage(), &ops()[2]);
+    let (mut put_there, mut told) = (0, 0);
+    stage.reset();
+    let trace = tool(&put.words).folder(&stage.scratch.path).shim(&stage.image, &Shim::default()).traced().1;
+    let lock = trace.iter().position(|c| c.function == "flock").expect("a lock");
+    let looked = trace[lock..].iter().find(|c| c.function == "stat").expect("a look behind the lock").number;
+    for n in 1..=looked {
+        let new = stage.scratch.file("new.img", &small_box());
+        let (out, ()) = paused(&stage, &put.words, n, || fs::rename(&new, &stage.image).unwrap()).expect("a call");
+        let mut wanted = map_of(&small_box());
+        if out.status == 0 {
+            (put.apply)(&mut wanted);
+        }
+        assert!(out.status == 0 || out.status == 3 && out.err.contains("not in force"), "call {n}: {} {}", out.status, out.err);
+        assert_map(committed(&stage.bytes()), &wanted, &format!("replaced at call {n}"));
+        *if out.status == 0 { &mut put_there } else { &mut told } += 1;
+    }
+    eprintln!("a box that is replaced: {looked} places, the put was told {told} times");
+    assert!(put_there > 0 && told > 0);
 }
 
 /// Three changes started together.

@@ -3,11 +3,12 @@
 
 use purse::{Extent, FileDevice, Store, EXTENTS_MOST, WORK_SIZE};
 use std::error::Error;
-use std::fs::OpenOptions;
+use std::fs::{File, OpenOptions};
+use std::path::{Path, PathBuf};
 
 fn main() -> Result<(), Box<dyn Error>> {
-    let path = std::env::args_os().nth(1).unwrap_or("sale.img".into());
-    let file = OpenOptions::new().read(true).write(true).create(true).truncate(false).open(path)?;
+    let path = PathBuf::from(std::env::args_os().nth(1).unwrap_or("sale.img".into()));
+    let file = OpenOptions::new().read(true).write(true).create(true).truncate(false).open(&path)?;
     file.try_lock()?;
     let mut device = FileDevice::new(&file);
     let mut work = vec![0u8; WORK_SIZE];
@@ -16,6 +17,9 @@ fn main() -> Result<(), Box<dyn Error>> {
     if image.is_empty() {
         image = vec![0u8; 64 * 512];
         Store::new(&mut image, &mut work).format_on(&mut device)?;
+        // The name of a new file is on the disk when its folder is.
+        let folder = path.parent().filter(|folder| *folder != Path::new("")).unwrap_or(Path::new("."));
+        File::open(folder)?.sync_all()?;
     }
     let mut store = Store::new(&mut image, &mut work);
     println!("{} stores of a recovery", store.open_on(&mut device)?);

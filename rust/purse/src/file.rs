@@ -13,6 +13,8 @@ use crate::{BLOCK_SIZE, MOST_BLOCKS};
 /// No commit and no recovery lengthens or cuts the file. Lock it (`File::try_lock`) before its image is read, and as long as the
 /// store is in use: of two programs that store at once one would undo what the other did.
 ///
+/// A new file outlives a power cut when the folder that has its name was flushed too (`File::sync_all` of the folder).
+///
 /// ```no_run
 /// use purse::{FileDevice, Store, WORK_SIZE};
 /// use std::fs::OpenOptions;

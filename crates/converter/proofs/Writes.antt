@@ -10,13 +10,13 @@ use native.Mathlib.Nat.{div-div-eq-div-mul, pow-succ', one-le-pow}
 use lib.ListN.{length, take, drop, length-append, take-append-drop}
 use lib.Seq.{drop-drop, take_all, drop_at, take_at}
 use lib.Dec.{eqb, leb}
-use borrow.Author.Tests.{eq-eqb, ne_eqb, leb-true}
+use borrow.Author.Tests.{leb-true}
 use Rattle.spec.specs.Answers.{refused, counted}
 use Rattle.spec.specs.Listing.{decimal, hexadecimal}
 use Rattle.text.specs.declared.Writer.{Writer}
 use Rattle.text.specs.Written.{Written, Put}
 use Rattle.text.proofs.Laws.{put_then, put_as, Left, left-start, left_step, left_end, laid-front}
-use Rattle.cardfile.specs.Cards.{Entry, bytes_of, name_of, padded, digits_for, spell, line_text, before}
+use Rattle.cardfile.specs.Cards.{Entry, bytes_of, name_of, padded, spell, line_text, before}
 use Rattle.cardfile.specs.Lines.{split_lines, letter_of, digits_of, line_at, line_fault_number, name_told}
 use Rattle.cardfile.specs.declared.Card.{Card}
 use Rattle.cardfile.specs.declared.Spelling.{Spelling}

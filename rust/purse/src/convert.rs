@@ -61,7 +61,7 @@ impl Error for ConvertRefusal {
 /// Converts a text, all of whose lines are in the other spelling, into the wanted one: each serial respelled, its letter changed, its
 /// amount copied. The length of the output; the bytes of `out` behind it stay. All lines are converted or none.
 ///
-/// To [`Spelling::Hexadecimal`] a text becomes shorter. To [`Spelling::Decimal`] a line grows from 13 bytes to 15 or from 19 to 22 at
+/// To [`Spelling::Hexadecimal`] no text becomes longer. To [`Spelling::Decimal`] a line grows from 13 bytes to 15 or from 19 to 22 at
 /// most: a buffer of `text.len() + text.len() / 6` bytes takes every output.
 ///
 /// ```

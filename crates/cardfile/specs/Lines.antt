@@ -119,7 +119,7 @@ line_told too_long = Err TooLong
 line_told malformed = Err BadForm
 line_told nothing = Ok None
 
--- 20 "line longer than 64 bytes or without its feed", 21 "line not of this form"
+-- 20 "line longer than 64 bytes", 21 "line not of this form or without its feed"
 abbrev pub line_fault_number : LineFault → ℕ
 line_fault_number TooLong = 20
 line_fault_number BadForm = 21

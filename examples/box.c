@@ -284,6 +284,10 @@ static void without_failure(void)
     o = open_box(faults_at(1, 0));
     same("damaged list", o.answer, PURSE_BAD_HEADER);
     same("its record", o.record, 1);
+    /* a list of block 33 alone, whose image in the log has no bit set */
+    image[16] = 0;
+    memset(image + PURSE_BLOCK, 0, PURSE_BLOCK);
+    same_outcome("recovery of what is not sound", open_box(faults_at(0, 0)), PURSE_UNSOUND, PURSE_FORCE_UNKNOWN, 2, 2);
     same("not broken", box.broken, 0);
     purse_box_lend(&box, image, LEN, work, sizeof work - 1);
     same_outcome("open without a work space", open_box(faults_at(1, 0)), PURSE_WORK_SIZE, PURSE_FORCE_UNKNOWN, 0, 0);

@@ -602,8 +602,11 @@ static inline purse_outcome purse_box_open(purse_box *b, purse_write_block *writ
         return o;
     }
     o = purse_box_store_all(b, write_block, context, purse_box_listed(b) + 1, 0);
-    if (o.answer == PURSE_OK)
-        o.answer = purse_open(b->device, b->len, &b->session, &o.record);
+    if (o.answer != PURSE_OK)
+        return o;
+    o.answer = purse_open(b->device, b->len, &b->session, &o.record);
+    if (o.answer != PURSE_OK)
+        o.force = PURSE_FORCE_UNKNOWN;
     return o;
 }
 

@@ -42,9 +42,10 @@ impl Image {
         locked(path, &file, lock)?;
         let about = file.metadata().map_err(failed)?;
         regular(path, &about)?;
-        // What is stored in a file that has no name any more is lost.
-        if about.nlink() == 0 {
-            return Err(Trouble::about(path, "the file was removed in between"));
+        // What is stored in a file that has lost its name to another one is lost.
+        let named = fs::metadata(path).map_err(failed)?;
+        if (named.dev(), named.ino()) != (about.dev(), about.ino()) {
+            return Err(Trouble::about(path, "the file was replaced in between"));
         }
         let bytes = FileDevice::new(&file).read_image().map_err(failed)?;
         Ok(Image { path: path.into(), file, bytes, work: vec![0; WORK_SIZE] })

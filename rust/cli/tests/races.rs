@@ -384,28 +384,38 @@ fn another_box_inside_a_format() {
     assert!(told > 3 && places > told);
 }
 
-/// The box is replaced by another file, at each call of a put up to the one that looks whether it still has its name: the put is in the new box, or
-/// it is told that it is not in force.
+/// The box is replaced by another file, at each call of a put up to the one that looks where its name leads, with and without another name for the
+/// old one: the put is in the new box, or it is told that it is not in force.
 #[test]
 fn a_box_that_is_replaced() {
     let (stage, put) = (stage(), &ops()[2]);
-    let (mut put_there, mut told) = (0, 0);
+    let (mut places, mut put_there, mut told) = (0, 0, 0);
     stage.reset();
     let trace = tool(&put.words).folder(&stage.scratch.path).shim(&stage.image, &Shim::default()).traced().1;
     let lock = trace.iter().position(|c| c.function == "flock").expect("a lock");
-    let looked = trace[lock..].iter().find(|c| c.function == "stat").expect("a look behind the lock").number;
-    for n in 1..=looked {
+    let before_reading = trace[lock..].iter().take_while(|c| !matches!(c.function.as_str(), "read" | "pread"));
+    let looked = before_reading.filter(|c| c.function == "stat").last().expect("a look behind the lock").number;
+    let other_name = stage.scratch.at("other.img");
+    for (n, named) in (1..=looked).flat_map(|n| [(n, false), (n, true)]) {
         let new = stage.scratch.file("new.img", &small_box());
-        let (out, ()) = paused(&stage, &put.words, n, || fs::rename(&new, &stage.image).unwrap()).expect("a call");
+        let replace = || {
+            let _ = fs::remove_file(&other_name);
+            if named {
+                fs::hard_link(&stage.image, &other_name).unwrap();
+            }
+            fs::rename(&new, &stage.image).unwrap();
+        };
+        let (out, ()) = paused(&stage, &put.words, n, replace).expect("a call");
         let mut wanted = map_of(&small_box());
         if out.status == 0 {
             (put.apply)(&mut wanted);
         }
         assert!(out.status == 0 || out.status == 3 && out.err.contains("not in force"), "call {n}: {} {}", out.status, out.err);
-        assert_map(committed(&stage.bytes()), &wanted, &format!("replaced at call {n}"));
+        assert_map(committed(&stage.bytes()), &wanted, &format!("replaced at call {n}, another name {named}"));
+        places += 1;
         *if out.status == 0 { &mut put_there } else { &mut told } += 1;
     }
-    eprintln!("a box that is replaced: {looked} places, the put was told {told} times");
+    eprintln!("a box that is replaced: {places} places, the put was told {told} times");
     assert!(put_there > 0 && told > 0);
 }
 

@@ -82,8 +82,7 @@ impl Error for ConvertRefusal {
 /// assert_eq!(&out, b"3283263748;D;1250\n--");
 /// ```
 pub fn convert(wanted: Spelling, text: &[u8], out: &mut [u8]) -> Result<usize, ConvertRefusal> {
-    let mut own = 0;
-    let ((t, n), (o, m)) = (lend(text), lend_mut(out, &mut own));
+    let ((t, n), (o, m)) = (lend(text), lend_mut(out));
     // Each slice is lent as its own pointer and length, for the time of the call only; the two do not overlap.
     let answer = match wanted {
         Spelling::Hexadecimal => unsafe { ffi::purse_convert_h_v(t, n, o, m) },

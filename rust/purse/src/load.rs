@@ -73,8 +73,7 @@ impl Store<'_> {
     pub fn load_step(&mut self, text: &[u8], place: &mut usize) -> Result<LoadStep, LoadRefusal> {
         let refused = |refusal| LoadRefusal { line: None, refusal };
         self.settled().map_err(refused)?;
-        let (mut own, mut other) = (0, 0);
-        let ((d, n), (w, m), (t, l)) = (lend_mut(self.image, &mut own), lend_mut(self.work, &mut other), lend(text));
+        let ((d, n), (w, m), (t, l)) = (lend_mut(self.image), lend_mut(self.work), lend(text));
         let (s, c) = self.session.parts_mut();
         let answer = unsafe { ffi::purse_load_step_v(d, n, w, m, s, c, t, l, *place as u64) };
         let line = (answer.line != 0).then_some(answer.line);

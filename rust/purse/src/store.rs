@@ -63,23 +63,16 @@ impl fmt::Debug for Store<'_> {
     }
 }
 
-/// A slice as the header wants it: a pointer to an element even where the length is 0.
+/// A slice as the header wants it: a pointer to as many elements as its length says. That of an empty slice points to none, and is not NULL.
 #[inline]
 pub(crate) fn lend(bytes: &[u8]) -> (*const u8, usize) {
-    static NOTHING: u8 = 0;
-    match bytes.len() {
-        0 => (&NOTHING, 0),
-        n => (bytes.as_ptr(), n),
-    }
+    (bytes.as_ptr(), bytes.len())
 }
 
-/// The same for a slice that the store writes; `own` stands in for an empty one.
+/// The same for a slice that the store writes.
 #[inline]
-pub(crate) fn lend_mut<T>(items: &mut [T], own: &mut T) -> (*mut T, usize) {
-    match items.len() {
-        0 => (own, 0),
-        n => (items.as_mut_ptr(), n),
-    }
+pub(crate) fn lend_mut<T>(items: &mut [T]) -> (*mut T, usize) {
+    (items.as_mut_ptr(), items.len())
 }
 
 /// The number of a refusal as a result; `record` goes with refusal 10.
@@ -193,8 +186,7 @@ impl Store<'_> {
     #[inline]
     pub fn format(&mut self) -> Result<(), Refusal> {
         self.settled()?;
-        let mut own = 0;
-        let (d, n) = lend_mut(self.image, &mut own);
+        let (d, n) = lend_mut(self.image);
         let (s, c) = self.session.parts_mut();
         let answer = unsafe { ffi::purse_format_v(d, n, s, c) };
         self.apart |= answer.refusal == 0;
@@ -217,8 +209,7 @@ impl Store<'_> {
     #[inline]
     pub fn advance(&mut self) -> Result<Option<BlockStore>, Refusal> {
         self.settled()?;
-        let mut own = 0;
-        let ((d, n), (w, m)) = (lend_mut(self.image, &mut own), lend(self.work));
+        let ((d, n), (w, m)) = (lend_mut(self.image), lend(self.work));
         let (s, c) = self.session.parts_mut();
         let answer = unsafe { ffi::purse_advance_v(d, n, w, m, s, c) };
         let store = BlockStore { block: answer.block, last: answer.last != 0, number: answer.number };
@@ -247,8 +238,7 @@ impl Store<'_> {
     /// A new empty file. A name is 8 bytes, not all zero.
     #[inline]
     pub fn create(&mut self, name: &[u8]) -> Result<(), Refusal> {
-        let mut own = 0;
-        let ((d, n), (w, m), (a, l)) = (lend(self.image), lend_mut(self.work, &mut own), lend(name));
+        let ((d, n), (w, m), (a, l)) = (lend(self.image), lend_mut(self.work), lend(name));
         let (s, c) = self.session.parts_mut();
         let answer = unsafe { ffi::purse_create_v(d, n, w, m, s, c, a, l) };
         settle(answer.refusal, answer.fault, ())
@@ -257,8 +247,7 @@ impl Store<'_> {
     /// Removes a file and gives its blocks back.
     #[inline]
     pub fn remove(&mut self, name: &[u8]) -> Result<(), Refusal> {
-        let mut own = 0;
-        let ((d, n), (w, m), (a, l)) = (lend(self.image), lend_mut(self.work, &mut own), lend(name));
+        let ((d, n), (w, m), (a, l)) = (lend(self.image), lend_mut(self.work), lend(name));
         let (s, c) = self.session.parts_mut();
         let answer = unsafe { ffi::purse_remove_v(d, n, w, m, s, c, a, l) };
         settle(answer.refusal, answer.fault, ())
@@ -267,8 +256,7 @@ impl Store<'_> {
     /// Gives a file another name.
     #[inline]
     pub fn rename(&mut self, name: &[u8], new: &[u8]) -> Result<(), Refusal> {
-        let mut own = 0;
-        let ((d, n), (w, m)) = (lend(self.image), lend_mut(self.work, &mut own));
+        let ((d, n), (w, m)) = (lend(self.image), lend_mut(self.work));
         let ((a, l), (b, k)) = (lend(name), lend(new));
         let (s, c) = self.session.parts_mut();
         let answer = unsafe { ffi::purse_rename_v(d, n, w, m, s, c, a, l, b, k) };
@@ -278,8 +266,7 @@ impl Store<'_> {
     /// Lays bytes over a file from place `x` on. The file grows where needed; a gap is zeros.
     #[inline]
     pub fn write(&mut self, name: &[u8], x: u64, bytes: &[u8]) -> Result<(), Refusal> {
-        let mut own = 0;
-        let ((d, n), (w, m)) = (lend(self.image), lend_mut(self.work, &mut own));
+        let ((d, n), (w, m)) = (lend(self.image), lend_mut(self.work));
         let ((a, l), (b, k)) = (lend(name), lend(bytes));
         let (s, c) = self.session.parts_mut();
         let answer = unsafe { ffi::purse_write_v(d, n, w, m, s, c, a, l, x, b, k) };
@@ -289,8 +276,7 @@ impl Store<'_> {
     /// Cuts a file off or lengthens it by zeros.
     #[inline]
     pub fn set_size(&mut self, name: &[u8], size: u64) -> Result<(), Refusal> {
-        let mut own = 0;
-        let ((d, n), (w, m), (a, l)) = (lend(self.image), lend_mut(self.work, &mut own), lend(name));
+        let ((d, n), (w, m), (a, l)) = (lend(self.image), lend_mut(self.work), lend(name));
         let (s, c) = self.session.parts_mut();
         let answer = unsafe { ffi::purse_set_size_v(d, n, w, m, s, c, a, l, size) };
         settle(answer.refusal, answer.fault, ())
@@ -300,9 +286,8 @@ impl Store<'_> {
     /// unchanged.
     #[inline]
     pub fn read(&self, name: &[u8], x: u64, buffer: &mut [u8]) -> Result<usize, Refusal> {
-        let mut own = 0;
         let ((d, n), (w, m)) = (lend(self.image), lend(self.work));
-        let ((a, l), (b, k)) = (lend(name), lend_mut(buffer, &mut own));
+        let ((a, l), (b, k)) = (lend(name), lend_mut(buffer));
         let (s, c) = self.session.parts();
         let answer = unsafe { ffi::purse_read_v(d, n, w, m, s, a, l, c, x, b, k) };
         settle(answer.refusal, 0, answer.count as usize)
@@ -351,9 +336,8 @@ impl Store<'_> {
     /// Those extents put into a lent list; answers how many. Places after the last are unchanged.
     #[inline]
     pub fn run_list(&self, name: &[u8], from: u64, count: u64, list: &mut [Extent]) -> Result<usize, Refusal> {
-        let mut own = Extent::default();
         let ((d, n), (w, m)) = (lend(self.image), lend(self.work));
-        let ((a, l), (e, k)) = (lend(name), lend_mut(list, &mut own));
+        let ((a, l), (e, k)) = (lend(name), lend_mut(list));
         // An extent is two cells of 32 bits, first and count.
         let (s, c) = self.session.parts();
         let answer = unsafe { ffi::purse_run_list_v(d, n, w, m, s, a, l, c, from, count, e.cast(), 2 * k) };

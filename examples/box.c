@@ -122,7 +122,7 @@ static void holds(int in_force)
 
 /* ---- The tests */
 
-static void same_outcome(const char *what, purse_outcome o, uint32_t answer, uint32_t force, uint64_t stores, uint64_t number)
+static void same_but_fault(const char *what, purse_outcome o, uint32_t answer, uint32_t force, uint64_t stores, uint64_t number)
 {
     char text[80];
     snprintf(text, sizeof text, "%s %" PRIu64 ", answer", what, number);
@@ -134,7 +134,20 @@ static void same_outcome(const char *what, purse_outcome o, uint32_t answer, uin
     snprintf(text, sizeof text, "%s %" PRIu64 ", number", what, number);
     same(text, o.number, number);
     same("error", (uint64_t)o.error, answer == PURSE_NOT_STORED ? ERROR : 0);
-    same("record", o.record, 0);
+}
+
+static void same_outcome(const char *what, purse_outcome o, uint32_t answer, uint32_t force, uint64_t stores, uint64_t number)
+{
+    same_but_fault(what, o, answer, force, stores, number);
+    same("no fault", o.fault, 0);
+}
+
+/* A box that is refused as damaged, before a recovery or behind one of so many stores. It is not broken. */
+static void same_damage(const char *what, purse_outcome o, uint32_t answer, uint64_t fault, uint64_t stores)
+{
+    same_but_fault(what, o, answer, PURSE_FORCE_UNKNOWN, stores, stores);
+    same("fault", o.fault, fault);
+    same("not broken", box.broken, 0);
 }
 
 /* No call goes on with a broken box, and none changes anything. */
@@ -277,23 +290,42 @@ static void without_failure(void)
     same_outcome("commit when closed", commit(faults_at(1, 0)), PURSE_NOT_READY, PURSE_NOT_IN_FORCE, 0, 0);
     same("create when closed", purse_box_create(&box, A), PURSE_NOT_READY);
     same("not broken", box.broken, 0);
-    image[33 * PURSE_BLOCK] = 0;
-    same_outcome("open of what is not sound", open_box(faults_at(1, 0)), PURSE_UNSOUND, PURSE_FORCE_UNKNOWN, 0, 0);
-    image[0] = 33;
-    image[16] = 33;
-    o = open_box(faults_at(1, 0));
-    same("damaged list", o.answer, PURSE_BAD_HEADER);
-    same("its record", o.record, 1);
-    /* a list of block 33 alone, whose image in the log has no bit set */
-    image[16] = 0;
-    memset(image + PURSE_BLOCK, 0, PURSE_BLOCK);
-    same_outcome("recovery of what is not sound", open_box(faults_at(0, 0)), PURSE_UNSOUND, PURSE_FORCE_UNKNOWN, 2, 2);
-    same("not broken", box.broken, 0);
     purse_box_lend(&box, image, LEN, work, sizeof work - 1);
     same_outcome("open without a work space", open_box(faults_at(1, 0)), PURSE_WORK_SIZE, PURSE_FORCE_UNKNOWN, 0, 0);
     purse_box_lend(&box, NULL, 0, work, sizeof work);
     same_outcome("open without a device", open_box(faults_at(1, 0)), PURSE_DEVICE_SIZE, PURSE_FORCE_UNKNOWN, 0, 0);
     same("as lent", box.session.blocks + box.session.phase + box.broken, 0);
+}
+
+/* What an open tells of a damaged box: of its list, a record, a block, and of what a recovery leaves. */
+static void damage(void)
+{
+    purse_box_lend(&box, image, LEN, work, sizeof work);
+    same("format", purse_box_format(&box), PURSE_OK);
+    memcpy(disk, image, LEN);
+    image[33 * PURSE_BLOCK] = 0x7f;
+    same_damage("block 7 is free", open_box(faults_at(1, 0)), PURSE_DAMAGED_BLOCK, 7, 0);
+    image[34 * PURSE_BLOCK + 32 * 9 + 20] = 1;
+    same_damage("record 9 is not empty", open_box(faults_at(1, 0)), PURSE_DAMAGED_RECORD, 9, 0);
+    image[0] = 33;
+    image[16] = 33;
+    same_damage("a target twice", open_box(faults_at(1, 0)), PURSE_BAD_HEADER, 1, 0);
+
+    /* a list of block 34 alone, whose image in the log is empty, then one of block 33, by whose image block 4,095 is free */
+    reload();
+    image[34 * PURSE_BLOCK + 32 * 9 + 20] = 1;
+    image[33 * PURSE_BLOCK + 7] = 0x10;
+    image[0] = 34;
+    same_damage("a recovery that mends the record", open_box(faults_at(0, 0)), PURSE_DAMAGED_BLOCK, 60, 2);
+    memcpy(image + PURSE_BLOCK, image + 33 * PURSE_BLOCK, PURSE_BLOCK);
+    image[PURSE_BLOCK + 7] = 0;
+    image[2 * PURSE_BLOCK - 1] = 0x7f;
+    image[0] = 33;
+    same_damage("a recovery that damages a block", open_box(faults_at(0, 0)), PURSE_DAMAGED_BLOCK, 4095, 2);
+    memset(image + PURSE_BLOCK, 0, PURSE_BLOCK);
+    image[PURSE_BLOCK + 8] = 1;
+    image[0] = 35;
+    same_damage("a recovery that damages a record", open_box(faults_at(0, 0)), PURSE_DAMAGED_RECORD, 16, 2);
 }
 
 /* A session that somebody else advanced in a commit is found out, and the box is broken. */
@@ -415,14 +447,46 @@ static void loads(void)
     same_outcome("load when never opened", load(faults_at(1, 0), &place).outcome, PURSE_DEVICE_SIZE, PURSE_NOT_IN_FORCE, 0, 0);
 }
 
+/* The sentence of an answer and a fault, in every room: cut off where it does not fit, and nothing behind its end is written. */
+static void sentence(uint32_t answer, uint64_t fault)
+{
+    char want[200], text[200];
+    int wrong = 0;
+    const char *words = purse_refusal_text(answer);
+    if (answer == 10 || answer == 22)
+        snprintf(want, sizeof want, "%s, record %" PRIu64, words, fault);
+    else if (answer == 23)
+        snprintf(want, sizeof want, "%s, block %" PRIu64, words, fault);
+    else
+        snprintf(want, sizeof want, "%s", words);
+    same("it is short enough", strlen(want) < PURSE_SENTENCE, 1);
+    for (size_t room = 0; room <= PURSE_SENTENCE; room++) {
+        size_t n = strlen(want) < room ? strlen(want) : room == 0 ? 0 : room - 1;
+        memset(text, '#', sizeof text);
+        wrong |= purse_refusal_sentence(answer, fault, text, room) != strlen(want);
+        wrong |= memcmp(text, want, n) != 0 || (room != 0 && text[n] != 0);
+        for (size_t k = n + (room != 0); k < sizeof text; k++)
+            wrong |= text[k] != '#';
+    }
+    same("a sentence", (uint64_t)wrong, 0);
+    same("no room", purse_refusal_sentence(answer, fault, NULL, 0), strlen(want));
+}
+
 /* Each answer has words of its own. */
 static void texts(void)
 {
-    static const uint32_t answers[] = { 0, 1, 2, 3, 4, 10, 11, 12, 13, 14, 15, 16, 17, 18, 19, 20, 21, PURSE_NOT_STORED, PURSE_BROKEN, 5 };
+    static const uint32_t answers[] = { 0, 1, 2, 3, 4, 10, 12, 13, 14, 15, 16, 17, 18, 19, 20, 21, 22, 23, 24, 25, PURSE_NOT_STORED,
+        PURSE_BROKEN, 5 };
     for (size_t i = 0; i < sizeof answers / sizeof answers[0]; i++)
         for (size_t k = 0; k < i; k++)
             same("the same words", (uint64_t)(strcmp(purse_refusal_text(answers[i]), purse_refusal_text(answers[k])) == 0), 0);
     same("no answer", (uint64_t)strcmp(purse_refusal_text(5), purse_refusal_text(UINT32_MAX)), 0);
+    same("11 is none", (uint64_t)strcmp(purse_refusal_text(11), purse_refusal_text(5)), 0);
+    for (size_t i = 0; i < sizeof answers / sizeof answers[0]; i++) {
+        sentence(answers[i], 0);
+        sentence(answers[i], 127);
+        sentence(answers[i], UINT64_MAX);
+    }
 }
 
 /* Nothing wipes the bytes of a file that was removed: they are still on the device, in their block and in the log. */
@@ -455,6 +519,7 @@ int main(void)
                 failed_load(store, made[i]);
     }
     loads();
+    damage();
     meddled();
     removed_bytes_stay();
     texts();

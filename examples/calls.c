@@ -1,6 +1,6 @@
-/* Calls every function once or more, and compares with the worked examples of the paper (E1 to E13); loads lines of every form, right and wrong;
- * then with sessions that the store did not make, refused and accepted, all that is lent compared before and behind. Prints the first 20
- * differences, then the result. */
+/* Calls every function once or more, and compares with the worked examples of the paper (E1 to E13); opens damaged devices; loads lines of every
+ * form, right and wrong; then with sessions that the store did not make, refused and accepted, all that is lent compared before and behind. Prints
+ * the first 20 differences, then the result. */
 #include <inttypes.h>
 #include <stdio.h>
 #include <string.h>
@@ -28,14 +28,15 @@ static void same(const char *what, uint64_t got, uint64_t want)
 /* An empty store of so many blocks, opened. */
 static void fresh(uint32_t blocks)
 {
-    uint64_t record;
+    uint64_t fault = 5;
     len = blocks * PURSE_BLOCK;
     memset(device, 0x5a, sizeof device);
     memset(work, 0x5a, sizeof work);
     same("format", purse_format(device, len, &s), 0);
     same("closed by format", s.phase, PURSE_CLOSED);
     same("blocks", s.blocks, blocks);
-    same("open", purse_open(device, len, &s, &record), 0);
+    same("open", purse_open(device, len, &s, &fault), 0);
+    same("no fault", fault, 0);
     same("ready", s.phase, PURSE_READY);
 }
 
@@ -142,7 +143,7 @@ static void cut(void)
 {
     static const uint64_t stores[] = { 33, 34, 42, 43, 0 };
     static uint8_t bytes[600];
-    uint64_t n, record;
+    uint64_t n, fault;
     purse_store done;
 
     fresh(64);
@@ -157,7 +158,7 @@ static void cut(void)
 
     memset(&s, 0, sizeof s);
     memset(work, 0xee, sizeof work);
-    same("open after the cut", purse_open(device, len, &s, &record), 0);
+    same("open after the cut", purse_open(device, len, &s, &fault), 0);
     same("recovering", s.phase, PURSE_RECOVERING);
     for (int k = 0; k < 5; k++) {
         same("advance", purse_advance(LENT, &s, &done), 0);
@@ -165,7 +166,7 @@ static void cut(void)
         same("E4 last", done.last, k == 4);
     }
     same("closed", s.phase, PURSE_CLOSED);
-    same("open again", purse_open(device, len, &s, &record), 0);
+    same("open again", purse_open(device, len, &s, &fault), 0);
     same("size", purse_size(LENT, &s, A, 8, &n), 0);
     same("E4 size", n, 600);
 }
@@ -218,7 +219,7 @@ static void pieces(void)
 /* Refusals, each of them with nothing changed; remove and rename. */
 static void refusals(void)
 {
-    uint64_t n = 5, record = 5;
+    uint64_t n = 5, fault = 5;
     uint8_t buffer[1] = { 9 };
     purse_session before;
 
@@ -232,8 +233,8 @@ static void refusals(void)
     same("name too short", purse_create(LENT, &s, A, 7), PURSE_BAD_NAME);
     same("work space", purse_create(device, len, work, sizeof work - 1, &s, A, 8), PURSE_WORK_SIZE);
     same("device", purse_create(device, len - 1, work, sizeof work, &s, A, 8), PURSE_DEVICE_SIZE);
-    same("device of open", purse_open(device, 100, &s, &record), PURSE_DEVICE_SIZE);
-    same("record 0", record, 0);
+    same("device of open", purse_open(device, 100, &s, &fault), PURSE_DEVICE_SIZE);
+    same("no fault", fault, 0);
     same("session as before", (uint64_t)memcmp(&s, &before, sizeof s), 0);
 
     create(A);
@@ -247,12 +248,121 @@ static void refusals(void)
     /* E10 */
     device[0] = 33;
     device[16] = 33;
-    same("E10", purse_open(device, len, &s, &record), PURSE_BAD_HEADER);
-    same("E10 record", record, 1);
-    device[0] = 0;
-    device[16] = 0;
-    device[33 * PURSE_BLOCK] = 0;
-    same("unsound", purse_open(device, len, &s, &record), PURSE_UNSOUND);
+    same("E10", purse_open(device, len, &s, &fault), PURSE_BAD_HEADER);
+    same("E10 record", fault, 1);
+    device[0] = 32;
+    same("E10 below 33", purse_open(device, len, &s, &fault), PURSE_BAD_HEADER);
+    same("E10 record", fault, 0);
+}
+
+/* ---- Damage: each a device with some bytes of a sound one changed, and what open tells of it */
+
+typedef struct {
+    uint32_t at; /* 0: no more */
+    uint8_t value;
+} changed;
+
+typedef struct {
+    const char *what;
+    uint32_t refusal;
+    uint64_t fault;
+    changed bytes[20];
+} damaged;
+
+#define BITS (33u * PURSE_BLOCK)
+#define RECORD(i) (34u * PURSE_BLOCK + 32u * (i))
+#define NODE (54u * PURSE_BLOCK) /* the extent block of record 5 */
+#define NAMED_A(i) { RECORD(i), 1 }, { RECORD(i) + 1, 2 }, { RECORD(i) + 2, 3 }, { RECORD(i) + 3, 4 }, { RECORD(i) + 4, 5 }, \
+    { RECORD(i) + 5, 6 }, { RECORD(i) + 6, 7 }, { RECORD(i) + 7, 8 }
+
+/* Record 2, named A, has 600 bytes in 42 and 43; record 5 blocks 44, 46, 48, 50 and 52 and the extent block 54; record 9 is empty. Bits 40 to 47
+ * are then 5F, 48 to 55 are 55, 56 to 63 are 0. */
+static const changed sound_bytes[] = {
+    NAMED_A(2), { RECORD(2) + 8, 88 }, { RECORD(2) + 9, 2 }, { RECORD(2) + 16, 42 }, { RECORD(2) + 18, 2 },
+    { RECORD(5), 0x42 }, { RECORD(5) + 1, 0x42 }, { RECORD(5) + 2, 0x42 }, { RECORD(5) + 3, 0x42 }, { RECORD(5) + 4, 0x42 },
+    { RECORD(5) + 5, 0x42 }, { RECORD(5) + 6, 0x42 }, { RECORD(5) + 7, 0x42 }, { RECORD(5) + 9, 10 }, { RECORD(5) + 12, 1 },
+    { RECORD(5) + 16, 54 }, { RECORD(5) + 18, 5 }, { NODE, 44 }, { NODE + 2, 1 }, { NODE + 4, 46 }, { NODE + 6, 1 }, { NODE + 8, 48 },
+    { NODE + 10, 1 }, { NODE + 12, 50 }, { NODE + 14, 1 }, { NODE + 16, 52 }, { NODE + 18, 1 },
+    { RECORD(9), 0x43 }, { RECORD(9) + 1, 0x43 }, { RECORD(9) + 2, 0x43 }, { RECORD(9) + 3, 0x43 }, { RECORD(9) + 4, 0x43 },
+    { RECORD(9) + 5, 0x43 }, { RECORD(9) + 6, 0x43 }, { RECORD(9) + 7, 0x43 },
+    { BITS + 5, 0x5f }, { BITS + 6, 0x55 }, { 42 * PURSE_BLOCK, 7 }, { 43 * PURSE_BLOCK, 7 }, { 43 * PURSE_BLOCK + 87, 7 },
+};
+
+static const damaged damages[] = {
+    { "a sound device", 0, 0, { { 0, 0 } } },
+    { "one name twice", 22, 5, { NAMED_A(5) } },
+    { "one name three times", 22, 5, { NAMED_A(5), NAMED_A(9) } },
+    { "one name twice, and a byte of an empty record", 22, 3, { NAMED_A(5), { RECORD(3) + 20, 1 } } },
+    { "a byte of the last record", 22, 127, { { RECORD(127) + 31, 1 } } },
+    { "an extent from block 41 on", 22, 2, { { RECORD(2) + 16, 41 } } },
+    { "an extent past the end", 22, 5, { { NODE + 16, 64 } } },
+    { "extents that touch", 22, 2, { { RECORD(2) + 18, 1 }, { RECORD(2) + 20, 43 }, { RECORD(2) + 22, 1 } } },
+    { "a byte behind the size, and a bit", 22, 2, { { 43 * PURSE_BLOCK + 88, 1 }, { BITS, 0xfe } } },
+    { "a block twice in a record", 23, 42, { { RECORD(2) + 16, 43 }, { RECORD(2) + 18, 1 }, { RECORD(2) + 20, 43 }, { RECORD(2) + 22, 1 } } },
+    { "the same, and the other free", 23, 43,
+        { { RECORD(2) + 16, 43 }, { RECORD(2) + 18, 1 }, { RECORD(2) + 20, 43 }, { RECORD(2) + 22, 1 }, { BITS + 5, 0x5b } } },
+    { "the same, and bit 5", 23, 5,
+        { { RECORD(2) + 16, 43 }, { RECORD(2) + 18, 1 }, { RECORD(2) + 20, 43 }, { RECORD(2) + 22, 1 }, { BITS + 5, 0x5b }, { BITS, 0xdf } } },
+    { "an extent block that is data too", 23, 44, { { NODE, 54 } } },
+    { "the same, and the block it had free", 23, 54, { { NODE, 54 }, { BITS + 5, 0x4f } } },
+    { "a block of two records", 23, 43, { { NODE, 43 }, { BITS + 5, 0x4f } } },
+    { "a block in use that no file has", 23, 60, { { BITS + 7, 0x10 } } },
+    { "a block of a file that is free", 23, 43, { { BITS + 5, 0x57 } } },
+    { "the last bit", 23, 4095, { { BITS + 511, 0x7f } } },
+    { "bit 41", 23, 41, { { BITS + 5, 0x5d } } },
+    { "bit 100", 23, 100, { { BITS + 12, 0xef } } },
+};
+
+static void put(const changed *bytes, size_t n)
+{
+    for (size_t k = 0; k < n && bytes[k].at != 0; k++)
+        device[bytes[k].at] = bytes[k].value;
+}
+
+/* An open that is refused, or not, with its fault; refused it leaves device and session. */
+static void opens_as(const char *what, uint32_t refusal, uint64_t fault)
+{
+    static uint8_t kept[sizeof device];
+    char text[100];
+    uint64_t told = 5;
+    purse_session then = s;
+    memcpy(kept, device, sizeof kept);
+    same(what, purse_open(device, len, &s, &told), refusal);
+    snprintf(text, sizeof text, "%s, fault", what);
+    same(text, told, fault);
+    same("device as before", (uint64_t)(memcmp(device, kept, sizeof kept) != 0), 0);
+    if (refusal != 0)
+        same("session as before", (uint64_t)(memcmp(&s, &then, sizeof s) != 0), 0);
+    else
+        same("session", s.blocks * 10 + s.phase, 64 * 10 + (uint64_t)(device[0] == 0 ? PURSE_READY : PURSE_RECOVERING));
+}
+
+/* The device as it is, then with a log of one block, 63: it opens recovering, and behind the recovery it is as without the log. */
+static void opens_with_and_without_log(const char *what, uint32_t refusal, uint64_t fault)
+{
+    purse_store done;
+    opens_as(what, refusal, fault);
+    device[0] = 63;
+    opens_as("with a log", 0, 0);
+    for (uint64_t k = 0; k < 2; k++) {
+        same("recovery", purse_advance(LENT, &s, &done), 0);
+        same("its store", done.block * 10 + done.last, k == 0 ? 630 : 1);
+    }
+    opens_as(what, refusal, fault);
+}
+
+static void damage(void)
+{
+    for (size_t k = 0; k < sizeof damages / sizeof damages[0]; k++) {
+        const damaged *d = &damages[k];
+        fresh(64);
+        put(sound_bytes, sizeof sound_bytes / sizeof sound_bytes[0]);
+        put(d->bytes, sizeof d->bytes / sizeof d->bytes[0]);
+        opens_with_and_without_log(d->what, d->refusal, d->fault);
+    }
+    fresh(64);
+    memset(device, 0, len);
+    opens_with_and_without_log("zeros", PURSE_DAMAGED_BLOCK, 0);
 }
 
 /* ---- Loading */
@@ -424,7 +534,7 @@ static void three_lines(void)
 /* 12 comes before every line, and where none is left: staged, closed, recovering. */
 static void not_idle(void)
 {
-    uint64_t record;
+    uint64_t n;
     purse_store done;
     const char *text = cards[0].line;
     fresh(64);
@@ -434,11 +544,11 @@ static void not_idle(void)
     refused_step("step with something staged", text, strlen(text), PURSE_NOT_READY, 0);
     refused_step("a bad line with something staged", "x\n", 2, PURSE_NOT_READY, 0);
     refused_step("no line with something staged", "", 0, PURSE_NOT_READY, 0);
-    same("commit", purse_commit(LENT, &s, &record), 0);
+    same("commit", purse_commit(LENT, &s, &n), 0);
     for (int k = 0; k < 2; k++) /* a commit that no load began */
         same("step in a commit", load_step("x\n", 2) + step.kind, PURSE_LOAD_STORED);
     memset(&s, 0, sizeof s);
-    same("open", purse_open(device, len, &s, &record), 0);
+    same("open", purse_open(device, len, &s, &n), 0);
     same("begin in a recovery", load_begin(), PURSE_NOT_READY);
     refused_step("step in a recovery", text, strlen(text), PURSE_NOT_READY, 0);
     refused_step("no line in a recovery", "", 0, PURSE_NOT_READY, 0);
@@ -487,7 +597,7 @@ typedef struct {
 
 static lent base, at, before;
 static purse_advanced stored; /* the answer of the last advance */
-static uint64_t answered;     /* the count, stores or size of the last answer */
+static uint64_t answered;     /* the count, stores, size or fault of the last answer */
 
 #define DEVICE at.device, at.len
 #define WORK at.work, at.work_len
@@ -502,7 +612,12 @@ static uint32_t with_count(purse_counted r)
 
 static uint32_t do_format(void) { return purse_format_v(DEVICE, NUMBERS, at.s.staged).refusal; }
 
-static uint32_t do_open(void) { return purse_open_v(DEVICE, NUMBERS, at.s.staged).refusal; }
+static uint32_t do_open(void)
+{
+    purse_finished r = purse_open_v(DEVICE, NUMBERS, at.s.staged);
+    answered = r.fault;
+    return r.refusal;
+}
 
 static uint32_t do_advance(void)
 {
@@ -801,13 +916,17 @@ static void odd_others(void)
         at.device[0] = 33;
         at.device[16] = 33;
         before = at;
-        same("E10 on an odd session", do_open(), PURSE_BAD_HEADER);
+        same("E10 on an odd session", do_open() * 1000 + answered, PURSE_BAD_HEADER * 1000 + 1);
         unchanged(&open_call, NONE);
         at.device[0] = 0;
         at.device[16] = 0;
-        at.device[33 * PURSE_BLOCK] = 0;
+        at.device[33 * PURSE_BLOCK] = 0xf7;
         before = at;
-        same("unsound on an odd session", do_open(), PURSE_UNSOUND);
+        same("a damaged block on an odd session", do_open() * 1000 + answered, PURSE_DAMAGED_BLOCK * 1000 + 3);
+        unchanged(&open_call, NONE);
+        at.device[34 * PURSE_BLOCK + 32 * 7 + 31] = 1;
+        before = at;
+        same("a damaged record on an odd session", do_open() * 1000 + answered, PURSE_DAMAGED_RECORD * 1000 + 7);
         unchanged(&open_call, NONE);
     }
     at = base;
@@ -928,6 +1047,7 @@ int main(void)
     limits();
     pieces();
     refusals();
+    damage();
     good_lines();
     wrong_lines();
     three_lines();

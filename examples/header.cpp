@@ -1,4 +1,4 @@
-// include/purse.h in C++: it compiles without a warning, old-style casts included, and a box and the conversions are used as in C.
+// include/purse.h in C++: it compiles without a warning, old-style casts included, and a box, the conversions and the sentences are used as in C.
 #include <cstring>
 
 #include "purse.h"
@@ -36,5 +36,11 @@ int main()
     good = good && purse_convert_to_d(line, sizeof line, converted, sizeof converted, &length, &number) == PURSE_OK && length == sizeof converted;
     good = good && purse_convert_to_h(line, sizeof line, nullptr, 0, &length, &number) == PURSE_SAME_SPELLING && number == 1;
     good = good && purse_convert_to_h(converted, sizeof converted, nullptr, 0, &length, &number) == PURSE_OUTPUT_TOO_LONG && number == 0;
-    return good && std::memcmp(disk, image, sizeof disk) == 0 ? 0 : 1;
+    good = good && std::memcmp(disk, image, sizeof disk) == 0;
+    char sentence[PURSE_SENTENCE];
+    image[33 * PURSE_BLOCK + 7] = 0x10;
+    const purse_outcome refused = purse_box_open(&box, write_block, nullptr);
+    good = good && refused.answer == PURSE_DAMAGED_BLOCK && refused.fault == 60;
+    good = good && purse_refusal_sentence(PURSE_DAMAGED_RECORD, 5, sentence, sizeof sentence) == 34;
+    return good && std::strcmp(sentence, "a file record is damaged, record 5") == 0 ? 0 : 1;
 }

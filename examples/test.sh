@@ -134,6 +134,22 @@ for n in 1 511 512 32767 32769 65536 3000000; do
 done
 head -c 32768 /dev/zero >"$tmp/zeros.img"
 refused "$tmp/zeros.img"
+
+# A damaged box is refused with the record or the block that is. damaged PLACE BYTE WORDS: by this byte, in octal digits.
+damaged() {
+    cp "$box" "$tmp/odd.img"
+    printf "\\$2" | dd of="$tmp/odd.img" bs=1 seek="$1" conv=notrunc 2>"$tmp/dd"
+    refused "$tmp/odd.img"
+    says "$tmp/odd.img: $3"
+    ends 1 "$tmp/load" "$tmp/odd.img" samples/monday.txt
+    says "$tmp/odd.img: $3"
+    cmp "$tmp/odd.img" "$tmp/before"
+}
+damaged 16 041 "10, the list of a commit in block 0 is damaged, record 1"
+damaged $((34 * 512 + 5 * 32 + 20)) 001 "22, a file record is damaged, record 5"
+damaged $((33 * 512 + 7)) 020 "23, a block is marked wrong in the bit table, or used twice, block 60"
+damaged $((33 * 512 + 511)) 177 "23, a block is marked wrong in the bit table, or used twice, block 4095"
+
 mkdir "$tmp/folder"
 ends 1 "$tmp/sale" "$tmp/folder"
 [ -z "$(ls "$tmp/folder")" ] || fail "something is in the folder"

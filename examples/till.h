@@ -154,13 +154,20 @@ static inline void read_image(const till *t, size_t len)
         fail(t->path);
 }
 
+/* An answer that ends this run; for an open the record or the block that is damaged besides. */
+static inline void told(const char *what, uint32_t answer, uint64_t fault)
+{
+    char sentence[PURSE_SENTENCE];
+    purse_refusal_sentence(answer, fault, sentence, sizeof sentence);
+    fprintf(stderr, "%s: %" PRIu32 ", %s\n", what, answer, sentence);
+    exit(FAILED);
+}
+
 /* A call that must be accepted here. */
 static inline void must(const char *what, uint32_t answer)
 {
-    if (answer != PURSE_OK) {
-        fprintf(stderr, "%s: %" PRIu32 ", %s\n", what, answer, purse_refusal_text(answer));
-        exit(FAILED);
-    }
+    if (answer != PURSE_OK)
+        told(what, answer, 0);
 }
 
 /* The same for a commit or an open: where a block did not reach the disk, whether `what` is in force. */
@@ -173,7 +180,8 @@ static inline void must_be_stored(const till *t, const char *what, purse_outcome
         fprintf(stderr, "store %" PRIu64 " of %" PRIu64 ", block %" PRIu64 ": %s\n", o.number, o.stores, o.block, strerror(o.error));
         fprintf(stderr, "%s is %s\n", what, words[force]);
     }
-    must(t->path, o.answer);
+    if (o.answer != PURSE_OK)
+        told(t->path, o.answer, o.fault);
 }
 
 /* The box that the file holds, lent. */

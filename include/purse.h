@@ -13,7 +13,7 @@
  *
  * Every function answers 0 where the call is accepted, else the number of the refusal (enum purse_refusal). A refused call changes nothing:
  * device, work space, session, name, buffer and list are byte for byte as before, whatever they held. What is answered through a pointer
- * is then 0, but for purse_open's record and the line of purse_load_step and of a conversion; the name of purse_record and the place of a load
+ * is then 0, but for purse_open's fault and the line of purse_load_step and of a conversion; the name of purse_record and the place of a load
  * stay.
  *
  * Every pointer must point to as many elements as its length says; NULL may stand where the length is 0, and nowhere else.
@@ -41,7 +41,7 @@
 extern "C" {
 #endif
 
-#define PURSE_VERSION 0x000400u   /* 0.4.0, two hexadecimal digits each: of this file, and of the library it was written for */
+#define PURSE_VERSION 0x000500u   /* 0.5.0, two hexadecimal digits each: of this file, and of the library it was written for */
 
 #define PURSE_BLOCK 512u          /* bytes of a block */
 #define PURSE_FEWEST_BLOCKS 64u   /* blocks of the smallest device */
@@ -54,6 +54,7 @@ extern "C" {
 #define PURSE_STAGED_MAX 32u      /* blocks that one transaction changes, at most */
 #define PURSE_LINE_MAX 64u        /* bytes of a line that is loaded or converted, at most, without its feed */
 #define PURSE_LOAD_ENOUGH 16384u  /* bytes of a text that are enough: behind 128 lines of 65 bytes the next one is refused */
+#define PURSE_SENTENCE 128u       /* characters that are enough for every sentence of purse_refusal_sentence, its end included */
 
 enum purse_refusal {
     PURSE_OK = 0,
@@ -61,8 +62,7 @@ enum purse_refusal {
     PURSE_WORK_SIZE = 2,         /* the work space is not 16,384 bytes */
     PURSE_BAD_NAME = 3,          /* a name is not 8 bytes, or all zero */
     PURSE_TOO_LARGE = 4,         /* the file would be longer than 1,048,576 bytes */
-    PURSE_BAD_HEADER = 10,       /* open: the list of a commit in block 0 is damaged */
-    PURSE_UNSOUND = 11,          /* open: the device holds no sound store */
+    PURSE_BAD_HEADER = 10,       /* open: the list of a commit in block 0 is damaged; the fault is its lowest damaged record */
     PURSE_NOT_READY = 12,        /* the session is closed, committing or recovering; load: or something is staged */
     PURSE_UNKNOWN = 13,          /* no file has that name */
     PURSE_TAKEN = 14,            /* a file has that name already */
@@ -73,6 +73,8 @@ enum purse_refusal {
     PURSE_LIST_SHORT = 19,       /* run list: the list lent is too short */
     PURSE_LINE_TOO_LONG = 20,    /* load, convert: the line has more than 64 bytes before its feed, or to the end of the text */
     PURSE_BAD_LINE = 21,         /* load, convert: the line is not serial;letter;amount, or has no feed */
+    PURSE_DAMAGED_RECORD = 22,   /* open: a file record is damaged; the fault is the lowest such, 0 to 127. Of equal names the later one counts */
+    PURSE_DAMAGED_BLOCK = 23,    /* open: a block is marked wrong or used twice; the fault is the lowest such, 0 to 4,095, also past the end */
     PURSE_SAME_SPELLING = 24,    /* convert: the line is already in the wanted spelling */
     PURSE_OUTPUT_TOO_LONG = 25   /* convert: the output is longer than the buffer */
 };
@@ -142,7 +144,7 @@ typedef struct {
 
 typedef struct {
     uint32_t refusal;
-    uint64_t fault; /* refusal 10: the record of block 0 that is damaged; else 0 */
+    uint64_t fault; /* of open. Refusal 10: the record of block 0 that is damaged; 22: the file record; 23: the block; else 0 */
 } purse_finished;
 
 typedef struct {
@@ -266,11 +268,12 @@ static inline uint32_t purse_format(uint8_t *device, size_t len, purse_session *
 }
 
 /* Opens the device, whatever the session was. It is then ready, or recovering if the power was cut in a commit: advance until the last store,
- * then open again. *record: for refusal 10 the damaged record of block 0, else 0. */
-static inline uint32_t purse_open(const uint8_t *device, size_t len, purse_session *s, uint64_t *record)
+ * then open again. *fault: what is damaged. PURSE_BAD_HEADER: the record of block 0; PURSE_DAMAGED_RECORD: the file record; PURSE_DAMAGED_BLOCK:
+ * the block, which may lie past the end of the device; else 0. Each is the lowest damaged one. */
+static inline uint32_t purse_open(const uint8_t *device, size_t len, purse_session *s, uint64_t *fault)
 {
     purse_finished r = purse_open_v(PURSE_IN(device, len), purse_numbers_in(s), s->staged);
-    *record = r.fault;
+    *fault = r.fault;
     return r.refusal;
 }
 
@@ -455,7 +458,6 @@ static inline const char *purse_refusal_text(uint32_t answer)
     case PURSE_BAD_NAME: return "the name is not 8 bytes, or all zero";
     case PURSE_TOO_LARGE: return "the file would be longer than 1048576 bytes";
     case PURSE_BAD_HEADER: return "the list of a commit in block 0 is damaged";
-    case PURSE_UNSOUND: return "the device holds no sound store";
     case PURSE_NOT_READY: return "the session is not ready";
     case PURSE_UNKNOWN: return "no file has this name";
     case PURSE_TAKEN: return "a file has this name already";
@@ -466,12 +468,53 @@ static inline const char *purse_refusal_text(uint32_t answer)
     case PURSE_LIST_SHORT: return "the list lent is too short";
     case PURSE_LINE_TOO_LONG: return "the line is longer than 64 bytes";
     case PURSE_BAD_LINE: return "the line is not serial;letter;amount, or has no line feed";
+    case PURSE_DAMAGED_RECORD: return "a file record is damaged";
+    case PURSE_DAMAGED_BLOCK: return "a block is marked wrong in the bit table, or used twice";
     case PURSE_SAME_SPELLING: return "the line is already in the wanted spelling";
     case PURSE_OUTPUT_TOO_LONG: return "the output is longer than the buffer";
     case PURSE_NOT_STORED: return "a block did not reach the device";
     case PURSE_BROKEN: return "the box is broken: read the device again, lend it and open it";
     default: return "no answer of the store";
     }
+}
+
+/* What stands before the number of a fault, in a sentence; NULL: the answer has none. */
+static inline const char *purse_fault_text(uint32_t answer)
+{
+    switch (answer) {
+    case PURSE_BAD_HEADER:
+    case PURSE_DAMAGED_RECORD: return ", record ";
+    case PURSE_DAMAGED_BLOCK: return ", block ";
+    default: return NULL;
+    }
+}
+
+/* Some text behind the first n characters of a sentence, as much of it as there is room for; how long it then is, and would be with more room. */
+static inline size_t purse_sentence_add(char *sentence, size_t room, size_t n, const char *text)
+{
+    for (; *text != 0; text++, n++)
+        if (n + 1 < room)
+            sentence[n] = *text;
+    return n;
+}
+
+/* The words of an answer, and what is damaged where it tells that: "a file record is damaged, record 5". Written into `sentence`, cut off where
+ * `room` characters do not take it and its ending zero: PURSE_SENTENCE are enough. How long the whole sentence is. With room 0 nothing is written. */
+static inline size_t purse_refusal_sentence(uint32_t answer, uint64_t fault, char *sentence, size_t room)
+{
+    const char *before = purse_fault_text(answer);
+    size_t n = purse_sentence_add(sentence, room, 0, purse_refusal_text(answer));
+    char digits[21];
+    size_t k = sizeof digits - 1;
+    digits[k] = 0;
+    do
+        digits[--k] = "0123456789"[fault % 10];
+    while ((fault /= 10) != 0);
+    if (before != NULL)
+        n = purse_sentence_add(sentence, room, purse_sentence_add(sentence, room, n, before), digits + k);
+    if (room != 0)
+        sentence[n < room ? n : room - 1] = 0;
+    return n;
 }
 
 /* ---- A box: the store with the memory that it is lent, and a device behind it.
@@ -514,7 +557,7 @@ typedef struct {
     uint64_t stores; /* how many stores there are in all */
     uint64_t number; /* the last one tried: the one that failed, else as many as there are */
     uint64_t block;  /* its block */
-    uint64_t record; /* PURSE_BAD_HEADER: the damaged record of block 0 */
+    uint64_t fault;  /* PURSE_BAD_HEADER, PURSE_DAMAGED_RECORD, PURSE_DAMAGED_BLOCK: what purse_open tells; else 0 */
     int error;       /* PURSE_NOT_STORED: what purse_write_block answered */
 } purse_outcome;
 
@@ -584,8 +627,9 @@ static inline uint64_t purse_box_listed(const purse_box *b)
 
 /* Opens the box, and gives up the changes of a transaction under way. Where the power was cut in a commit that is in force, its stores are
  * finished first, each by write_block. The outcome's force: PURSE_IN_FORCE where there was such a commit; PURSE_NOT_IN_FORCE where there was
- * none, so that a commit of unknown force did not count; PURSE_FORCE_UNKNOWN where the box is refused. A store that fails leaves the list on
- * the device: read the device, lend it and open it again. A work space that is not 16,384 bytes is refused here too. */
+ * none, so that a commit of unknown force did not count; PURSE_FORCE_UNKNOWN where the box is refused, before a recovery or behind it; `fault`
+ * then tells what is damaged. A store that fails leaves the list on the device: read the device, lend it and open it again. A work space that is
+ * not 16,384 bytes is refused here too. */
 static inline purse_outcome purse_box_open(purse_box *b, purse_write_block *write_block, void *context)
 {
     purse_outcome o = { PURSE_OK, PURSE_FORCE_UNKNOWN, 0, 0, 0, 0, 0 };
@@ -594,7 +638,7 @@ static inline purse_outcome purse_box_open(purse_box *b, purse_write_block *writ
     else if (b->work_len != PURSE_WORK)
         o.answer = PURSE_WORK_SIZE;
     else
-        o.answer = purse_open(b->device, b->len, &b->session, &o.record);
+        o.answer = purse_open(b->device, b->len, &b->session, &o.fault);
     if (o.answer != PURSE_OK)
         return o;
     if (b->session.phase == PURSE_READY) {
@@ -604,7 +648,7 @@ static inline purse_outcome purse_box_open(purse_box *b, purse_write_block *writ
     o = purse_box_store_all(b, write_block, context, purse_box_listed(b) + 1, 0);
     if (o.answer != PURSE_OK)
         return o;
-    o.answer = purse_open(b->device, b->len, &b->session, &o.record);
+    o.answer = purse_open(b->device, b->len, &b->session, &o.fault);
     if (o.answer != PURSE_OK)
         o.force = PURSE_FORCE_UNKNOWN;
     return o;

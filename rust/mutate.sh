@@ -1,5 +1,5 @@
 #!/bin/sh
-# Sixteen known errors in the plain store, one at a time: the comparison has to find each.
+# Nineteen known errors in the plain store, one at a time: the comparison has to find each.
 # usage: rust/mutate.sh [LISTS [SEED]]; exit status 1 if one is missed.
 cd "$(dirname "$0")" || exit 2
 lists=${1:-300} seed=${2:-1}
@@ -21,10 +21,13 @@ what() {
     14) echo "a D line of a conversion is not padded with zeros" ;;
     15) echo "25 is told before a later line's refusal" ;;
     16) echo "a refused conversion leaves the lines before in the buffer" ;;
+    17) echo "the first of two records with equal names is told" ;;
+    18) echo "the lowest block reached twice is told though a lower bit is wrong" ;;
+    19) echo "wrong bits are looked for from block 42 up only" ;;
     esac
 }
 missed=0
-for m in 1 2 3 4 5 6 7 8 9 10 11 12 13 14 15 16; do
+for m in 1 2 3 4 5 6 7 8 9 10 11 12 13 14 15 16 17 18 19; do
     cargo build -q --release -p compare --features "m$m" --target-dir target/mutants || exit 2
     out=$(target/mutants/release/compare "$lists" "$seed")
     case $? in

@@ -18,7 +18,7 @@ use Rattle.capi.specs.declared.Parts.{Parts}
 use Rattle.capi.specs.Cells.{parts_in}
 use Rattle.mirror.specs.declared.CFinished.{CFinished}
 use Rattle.mirror.specs.Mirror.{head_in, numbers_of, head_of, encode, decode, finished_of, Lent, lent, state_in, unless_refused, Leaves, Ends}
-pub use Rattle.mirror.proofs.Laws.{refused-told}
+pub use Rattle.spec.proofs.Refusals.{refused-is}
 use Rattle.mirror.proofs.Laws.{decode-encode, same-lent}
 use Rattle.capi.proofs.Kept.{true≢false, Still}
 
@@ -30,7 +30,7 @@ started-ok (Err r) e = absurd (true≢false (sym e))
 
 pub started-err : (x : Returned ℕ Refusal) → is_ok x ≡ false → is_refused (started_of x) ≡ true
 started-err (Ok n) e = absurd (true≢false e)
-started-err (Err r) e = refused-told r
+started-err (Err r) e = refused-is r
 
 pub done-ok : (x : Returned (Unit {0}) Refusal) → is_ok x ≡ true → is_refused (done_of x) ≡ false
 done-ok (Ok n) e = refl
@@ -38,7 +38,7 @@ done-ok (Err r) e = absurd (true≢false (sym e))
 
 pub done-err : (x : Returned (Unit {0}) Refusal) → is_ok x ≡ false → is_refused (done_of x) ≡ true
 done-err (Ok n) e = absurd (true≢false e)
-done-err (Err r) e = refused-told r
+done-err (Err r) e = refused-is r
 
 module _ (a : Answer) (before after : List ℕ) where
   pub stays : is_refused a ≡ true → before ≡ unless_refused a before after

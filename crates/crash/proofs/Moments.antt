@@ -1,8 +1,8 @@
 -- Each moment and each call of a list is as the cut rule says.
-use Rattle.std.specs.Prelude.{ℕ, ◌≡◌, Bool, true, cond, List, [], ◌∷◌}
+use Rattle.std.specs.Prelude.{ℕ, ◌≡◌, Bool, cond, List, [], ◌∷◌}
 use Rattle.std.proofs.Common.{sym, ap, ◌∙◌, subst, true≢false}
 use Rattle.std.proofs.Math.Option.{map}
-use Rattle.spec.specs.declared.Refusal.{Refusal}
+use Rattle.spec.proofs.Refusals.{refused-is}
 use Rattle.spec.specs.Answers.{refusal_of, is_refused}
 use Rattle.spec.specs.Calls.{Outcome, Call, step}
 use Rattle.spec.specs.Plain.{accepted, follow}
@@ -12,12 +12,7 @@ use Rattle.crash.specs.Tests.{keeping, turned_down, taken}
 use Rattle.crash.specs.Invariant.{Inv}
 use Rattle.crash.specs.Steps.{Goes}
 use Rattle.crash.proofs.Steps.{goes}
-use Rattle.crash.specs.Moments.{refusal_is, refusal-in, accepted-is, seen, moment, inv-cut}
-
--- ---- answers
-
-refused-is : (r : Refusal) → is_refused (refusal_of r) ≡ true
-refused-is r = ap is_refused (refusal_is r).2
+use Rattle.crash.specs.Moments.{refusal-in, accepted-is, seen, moment, inv-cut}
 
 module _ {N : ℕ} (F : FilesOn N) where
   -- ---- a call

@@ -7,14 +7,14 @@ use Rattle.std.proofs.Math.ListN.{length, get_elem?}
 use Rattle.spec.specs.Layout.{block_size, header_block, bitmap_block, inode_count, log_length, max_extents}
 use Rattle.spec.specs.Bytes.{found, is_some}
 use Rattle.spec.specs.Bitmap.{bits_of, free_bits}
-use Rattle.spec.specs.Disk.{Disk, is_allowed}
+use Rattle.spec.specs.Disk.{Disk, disk_block, is_allowed}
 use Rattle.spec.specs.Inode.{Inode, is_name, inode_at, is_empty, find, find_empty, data_of, levels_of, blocks_for}
-use Rattle.spec.specs.Sound.{volume_sound}
+use Rattle.spec.specs.Sound.{inode_fault, block_fault}
 use Rattle.spec.specs.Map.{files_of}
 use Rattle.spec.specs.declared.Phase.{Phase}
 use Rattle.spec.specs.declared.Phase.TheVariants.{Closed, Ready, Committing, Recovering}
 use Rattle.spec.specs.declared.Refusal.{Refusal}
-use Rattle.spec.specs.declared.Refusal.TheVariants.{DeviceSize, BadHeader, Unsound, Unknown, Taken, NoInode, NoSpace, TooManyExtents, TooManyStaged, ListShort}
+use Rattle.spec.specs.declared.Refusal.TheVariants.{DeviceSize, BadHeader, Unknown, Taken, NoInode, NoSpace, TooManyExtents, TooManyStaged, ListShort, DamagedInode, DamagedBlock}
 use Rattle.spec.specs.Session.{closed_on, opened, staged_in}
 use Rattle.spec.specs.Answers.{Answer, refused, done, started, stored, idle, counted, file, no_file, run, no_run, refusal_of, is_refused, Result, refuse, accept, require, ◌>>=◌, ◌>>◌}
 use Rattle.spec.specs.Transaction.{State, with_session, view, BlockStore, stage_all, with_staging}
@@ -68,32 +68,38 @@ formatted-told : (a : Bool) (s : State) → refusal_in (formatted a s).answer �
 formatted-told true s = refl
 formatted-told false s = refl
 
--- "Open makes a new session whatever went before": the tests' results and the header's lowest wrong record
-abbrev opening : Bool → Option ℕ → Bool → Bool → State → Outcome
-opening a o t v s =
+-- "Open makes a new session whatever went before": by the results of its tests, which are the length, the header's lowest wrong record, no record used,
+-- the lowest damaged record and the lowest damaged block
+abbrev pub opening : Bool → Option ℕ → Bool → Option ℕ → Option ℕ → State → Outcome
+opening a o t i b s =
     settle (outcome s)
     (require a DeviceSize
-    >> (found o (accept true) (λ i. refuse (BadHeader i))
-    >> (cond (is_ready (cond t Ready (Recovering 0))) (require v Unsound) (accept true)
+    >> (found o (accept true) (λ k. refuse (BadHeader k))
+    >> (cond (is_ready (cond t Ready (Recovering 0))) (found i (accept true) (λ i. refuse (DamagedInode i)) >> found b (accept true) (λ b. refuse (DamagedBlock (disk_block b)))) (accept true)
     >> accept (outcome (with_session s (opened (s.device.size / block_size) (cond t Ready (Recovering 0)))) done))))
 
-abbrev opening_due : Bool → Option ℕ → Bool → Bool → Option Refusal
-opening_due a o t v = cond (not a || false) (some DeviceSize) (cond (is_some o) (some (BadHeader (found o 0 (λ i. i)))) (cond (t && not v) (some Unsound) none))
+abbrev opening_due : Bool → Option ℕ → Bool → Option ℕ → Option ℕ → Option Refusal
+opening_due a o t i b =
+    cond (not a || false) (some DeviceSize)
+    (cond (is_some o) (some (BadHeader (found o 0 (λ k. k))))
+    (cond (t && is_some i) (some (DamagedInode (found i 0 (λ i. i)))) (cond (t && is_some b) (some (DamagedBlock (disk_block (found b 0 (λ b. b))))) none)))
 
-opening-told : (a : Bool) (o : Option ℕ) (t v : Bool) (s : State) → refusal_in (opening a o t v s).answer ≡ map refusal_of (opening_due a o t v)
-opening-told false o t v s = refl
-opening-told true (some i) t v s = refl
-opening-told true none true true s = refl
-opening-told true none true false s = refl
-opening-told true none false v s = refl
+opening-told : (a : Bool) (o : Option ℕ) (t : Bool) (i b : Option ℕ) (s : State) → refusal_in (opening a o t i b s).answer ≡ map refusal_of (opening_due a o t i b)
+opening-told false o t i b s = refl
+opening-told true (some k) t i b s = refl
+opening-told true none true (some i) b s = refl
+opening-told true none true none (some b) s = refl
+opening-told true none true none none s = refl
+opening-told true none false i b s = refl
 
-opening-done : (a : Bool) (o : Option ℕ) (t v : Bool) (s : State) → opening_due a o t v ≡ none
-    → opening a o t v s ≡ outcome (with_session s (opened (s.device.size / block_size) (cond t Ready (Recovering 0)))) done
-opening-done false o t v s h = cc
-opening-done true (some i) t v s h = cc
-opening-done true none true true s h = refl
-opening-done true none true false s h = cc
-opening-done true none false v s h = refl
+opening-done : (a : Bool) (o : Option ℕ) (t : Bool) (i b : Option ℕ) (s : State) → opening_due a o t i b ≡ none
+    → opening a o t i b s ≡ outcome (with_session s (opened (s.device.size / block_size) (cond t Ready (Recovering 0)))) done
+opening-done false o t i b s h = cc
+opening-done true (some k) t i b s h = cc
+opening-done true none true (some i) b s h = cc
+opening-done true none true none (some b) s h = cc
+opening-done true none true none none s h = refl
+opening-done true none false i b s h = refl
 
 module _ (s : State) where
   abbrev headed : Option ℕ
@@ -102,23 +108,27 @@ module _ (s : State) where
   abbrev unlisted : Bool
   unlisted = eqb (length (targets_in (s.device.block header_block))) 0
 
-  abbrev fine : Bool
-  fine = volume_sound (s.device.size / block_size) s.device.block
+  abbrev damaged_inode : Option ℕ
+  damaged_inode = inode_fault (s.device.size / block_size) s.device.block
+
+  abbrev damaged_block : Option ℕ
+  damaged_block = block_fault (s.device.size / block_size) s.device.block
 
   format-exact : refusal_in (step s Format).answer ≡ due_on s Format
   unfolding format due
   format-exact = formatted-told (is_allowed s.device.size) s
 
-  -- 10 with the lowest wrong record, 11 where none is wrong and none used and S1 to S8 do not all hold, 1 where the length is none
+  -- 1 where the length is none; 10 with the lowest wrong record of the header; where none is wrong and none used, 22 with the lowest damaged record, or
+  -- else 23 with the lowest damaged block
   open-exact : refusal_in (step s Open).answer ≡ due_on s Open
   unfolding open_store open_phase due
-  open-exact = opening-told (is_allowed s.device.size) headed unlisted fine s
+  open-exact = opening-told (is_allowed s.device.size) headed unlisted damaged_inode damaged_block s
 
   -- else it is done: ready where no record is used, else recovering
   pub open_done : due s.session.blocks (plain_of s) s Open ≡ none
       → step s Open ≡ outcome (with_session s (opened (s.device.size / block_size) (cond unlisted Ready (Recovering 0)))) done
   unfolding open_store open_phase due
-  open_done h = opening-done (is_allowed s.device.size) headed unlisted fine s h
+  open_done h = opening-done (is_allowed s.device.size) headed unlisted damaged_inode damaged_block s h
 
 -- ---- advance, commit and abort, on any state
 

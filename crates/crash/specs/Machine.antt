@@ -2,20 +2,21 @@
 use Prim.Native.Nat.{ℕ, zero, suc, ◌+◌, ◌*◌, ◌/◌, ◌%◌, ◌≤◌}
 use Rattle.std.specs.Prelude.{◌≡◌, refl, length, drop}
 use Rattle.std.proofs.Common.{sym, ap, ◌∙◌}
+use Rattle.std.proofs.lemmas.Bool.{false≢true}
 use Rattle.std.proofs.Math.Path.{ap₂}
-use mathlib.Core.Bool.{Bool, true, false, cond}
+use mathlib.Core.Bool.{Bool, true, false, cond, not}
 use mathlib.Core.List.{List, [], ◌∷◌, ◌++◌, map}
-use Rattle.std.proofs.Math.Option.{none, some}
+use Rattle.std.proofs.Math.Option.{Option, none, some}
 use Rattle.std.proofs.Math.Dec.{eqb}
 use Rattle.std.proofs.Math.ListN.{get_elem?}
 use Rattle.std.proofs.lemmas.List.{length-map}
 use native.Mathlib.Omega.{arith}
 use borrow.Author.Tests.{le-leb, ne_eqb}
 use Rattle.spec.specs.Layout.{block_size, fewest_blocks, most_blocks, header_block, bitmap_block}
-use Rattle.spec.specs.Bytes.{zeros, pieces}
+use Rattle.spec.specs.Bytes.{zeros, pieces, is_some}
 use Rattle.spec.specs.Bitmap.{byte_of, bytes_of}
 use Rattle.spec.specs.Disk.{Disk, Slice, is_allowed}
-use Rattle.spec.specs.Sound.{volume_sound}
+use Rattle.spec.specs.Sound.{inode_fault, block_fault, volume_sound}
 use Rattle.spec.specs.declared.Phase.{Phase}
 use Rattle.spec.specs.declared.Phase.TheVariants.{Closed, Ready, Committing, Recovering}
 use Rattle.spec.specs.declared.Session.{Session}
@@ -27,11 +28,24 @@ use Rattle.spec.specs.Calls.{Outcome, outcome, lent_ok, ready_ok, empty_bits, em
 use Rattle.spec.specs.Plain.{Plain}
 use Rattle.spec.specs.Refusals.{due}
 use Rattle.spec.specs.CutRule.{Both, Stores}
+use Rattle.lists.specs.Tests.{both_true}
 use Rattle.transaction.proofs.Laws.{staged-with, phase-with, Valid}
 use Rattle.logs.specs.Stores.{Whole, upd, targets_of, commit_list}
 use Rattle.logs.specs.Targets.{targets-listed}
 use Rattle.logs.specs.Header.{length-clear}
 use Rattle.logs.specs.View.{Held, list_of, staged_stores_lem}
+
+-- ---- a sound volume has no fault
+
+no-fault : (o : Option ℕ) → not (is_some o) ≡ true → o ≡ none
+no-fault none h = refl
+no-fault (some i) h = absurd (false≢true h)
+
+pub fault-free : (N : ℕ) (v : Disk) → volume_sound N v ≡ true → (inode_fault N v ≡ none) × (block_fault N v ≡ none)
+unfolding volume_sound
+fault-free N v h =
+    let t = both_true (not (is_some (inode_fault N v))) (not (is_some (block_fault N v))) h in
+    (no-fault (inode_fault N v) t.0, no-fault (block_fault N v) t.1)
 
 -- ---- states
 
@@ -106,11 +120,11 @@ module _ (N : ℕ) (lo : fewest_blocks ≤ N) (hi : N ≤ most_blocks) where
   module _ (n : Session) (v : Disk) (w : Slice) (right : header_fault N (v header_block) ≡ none) where
     pub open-clear : targets_in (v header_block) ≡ [] → volume_sound N v ≡ true → step (at N n v w) Open ≡ outcome (at N (opened N Ready) v w) done
     unfolding open_store open_phase
-    open-clear q g = rw (allowed-ok, blocks-are, right, q, g)
+    open-clear q g = let z = fault-free N v g in rw (allowed-ok, blocks-are, right, q, z.0, z.1)
 
     pub clear-due : (p : Plain) → targets_in (v header_block) ≡ [] → volume_sound N v ≡ true → due N p (at N n v w) Open ≡ none
     unfolding due
-    clear-due p q g = rw (allowed-ok, blocks-are, right, q, g)
+    clear-due p q g = let z = fault-free N v g in rw (allowed-ok, blocks-are, right, q, z.0, z.1)
 
     pub open-log : (t : ℕ) (ts : List ℕ) → targets_in (v header_block) ≡ t ∷ ts → step (at N n v w) Open ≡ outcome (at N (opened N (Recovering 0)) v w) done
     unfolding open_store open_phase

@@ -1,5 +1,5 @@
 -- Each moment and each call of a list is as the cut rule says (proofs/Moments.antt). Here: what the invariant says in every phase, so at one moment, and of a cut.
-use Rattle.std.specs.Prelude.{ℕ, ◌≡◌, refl, Bool, true, false, ◌&&◌, List, [], ◌∷◌, T, eqb, length}
+use Rattle.std.specs.Prelude.{ℕ, ◌≡◌, refl, Bool, true, false, ◌&&◌, List, [], T, eqb, length}
 use Rattle.std.proofs.Common.{sym, ap, ap₂, ◌∙◌, subst, true≢false, eq-eqb}
 use Rattle.std.proofs.Math.Option.{none, some}
 use Rattle.spec.specs.Bytes.{all, distinct}
@@ -9,7 +9,7 @@ use Rattle.spec.specs.Map.{Files, files_of}
 use Rattle.spec.specs.declared.Phase.TheVariants.{Closed, Committing}
 use Rattle.spec.specs.declared.Session.{Session}
 use Rattle.spec.specs.declared.Refusal.{Refusal}
-use Rattle.spec.specs.declared.Refusal.TheVariants.{DeviceSize, WorkSize, BadName, TooLarge, BadHeader, Unsound, NotReady, Unknown, Taken, NoInode, NoSpace, TooManyExtents, TooManyStaged, ListShort}
+use Rattle.spec.proofs.Refusals.{of-refusal}
 use Rattle.spec.specs.Session.{opened, staged_in, with_staged}
 use Rattle.spec.specs.Answers.{Answer, refused, done, started, stored, idle, counted, file, no_file, run, no_run, refusal_of, is_refused}
 use Rattle.spec.specs.Transaction.{State, view}
@@ -27,24 +27,8 @@ use Rattle.crash.specs.Steps.{both}
 
 -- ---- answers
 
-pub refusal_is : (r : Refusal) → (n : ℕ) × (vs : List ℕ) × (refusal_of r ≡ refused n vs)
-refusal_is DeviceSize = (1, [], refl)
-refusal_is WorkSize = (2, [], refl)
-refusal_is BadName = (3, [], refl)
-refusal_is TooLarge = (4, [], refl)
-refusal_is (BadHeader i) = (10, i ∷ [], refl)
-refusal_is Unsound = (11, [], refl)
-refusal_is NotReady = (12, [], refl)
-refusal_is Unknown = (13, [], refl)
-refusal_is Taken = (14, [], refl)
-refusal_is NoInode = (15, [], refl)
-refusal_is NoSpace = (16, [], refl)
-refusal_is TooManyExtents = (17, [], refl)
-refusal_is TooManyStaged = (18, [], refl)
-refusal_is ListShort = (19, [], refl)
-
 pub refusal-in : (r : Refusal) → refusal_in (refusal_of r) ≡ some (refusal_of r)
-refusal-in r = let e = (refusal_is r).2 in ap refusal_in e ∙ ap some (sym e)
+refusal-in = of-refusal (λ a. refusal_in a ≡ some a) (λ n vs. refl)
 
 pub accepted-is : (a : Answer) → is_refused a ≡ false → refusal_in a ≡ none
 accepted-is (refused n vs) h = absurd (true≢false h)

@@ -173,12 +173,48 @@ far-blocks =
     ∷ cuts ∷ gives Open done ∷ (stores_to 1 (33 ∷ 34 ∷ 300 ∷ 301 ∷ 0 ∷ [])
     ++ (device 34 0 (A ++ (88 ∷ 2 ∷ 0 ∷ 0 ∷ 0 ∷ 0 ∷ 0 ∷ 0 ∷ 44 ∷ 1 ∷ 2 ∷ 0 ∷ zeros 492)) ∷ device 33 37 (63 ∷ 0 ∷ []) ∷ []))))))
 
+-- ---- A2: "22 record damaged, with its number; 23 block damaged, with its number"
+
+-- the 32 bytes of a record: a file of one block b, and an empty file
+abbrev pub record_with : List ℕ → ℕ → List ℕ
+record_with name b = name ++ (0 ∷ 2 ∷ zeros 6 ++ (b ∷ 0 ∷ 1 ∷ 0 ∷ zeros 12))
+
+abbrev pub record_without : List ℕ → List ℕ
+record_without name = name ++ zeros 24
+
+-- block 33 as E1 has it, but for byte 5: the bits of blocks 40 to 47
+abbrev pub bits_with : ℕ → List ℕ
+bits_with byte = replicate 5 255 ++ (byte ∷ 0 ∷ 0 ∷ replicate 504 255)
+
+-- an empty record with a stray byte; A in records 0 and 1, and in 2 too; with a stray byte in record 3; A in record 1 only; a block below 42
+abbrev pub damaged-inodes : Row
+damaged-inodes =
+    row 64 (formatted ++ (tampers 34 (zeros 8 ++ (1 ∷ zeros 503)) ∷ gives Open (refused 22 (0 ∷ []))
+    ∷ tampers 34 (record_without A ++ (record_without A ++ zeros 448)) ∷ gives Open (refused 22 (1 ∷ []))
+    ∷ tampers 34 (record_without A ++ (record_without A ++ (record_without A ++ zeros 416))) ∷ gives Open (refused 22 (1 ∷ []))
+    ∷ tampers 34 (zeros 52 ++ (1 ∷ zeros 11 ++ (record_without A ++ (record_without A ++ zeros 384)))) ∷ gives Open (refused 22 (1 ∷ []))
+    ∷ tampers 34 (zeros 32 ++ (record_without A ++ zeros 448)) ∷ gives Open done
+    ∷ tampers 34 (record_without B ++ (record_with A 41 ++ zeros 448)) ∷ gives Open (refused 22 (1 ∷ [])) ∷ []))
+
+-- bit 42 set, then bit 41 cleared; block 42 in two files, its bit set, then cleared, then bit 41 cleared too; a stray byte in record 5 besides: "22 comes
+-- before 23"; no bit set
+abbrev pub damaged-blocks : Row
+damaged-blocks =
+    row 64 (formatted ++ (tampers 33 (bits_with 7) ∷ gives Open (refused 23 (42 ∷ []))
+    ∷ tampers 33 (bits_with 1) ∷ gives Open (refused 23 (41 ∷ []))
+    ∷ tampers 34 (record_with A 42 ++ (record_with B 42 ++ zeros 448)) ∷ tampers 33 (bits_with 7) ∷ gives Open (refused 23 (42 ∷ []))
+    ∷ tampers 33 (bits_with 3) ∷ gives Open (refused 23 (42 ∷ []))
+    ∷ tampers 33 (bits_with 5) ∷ gives Open (refused 23 (41 ∷ []))
+    ∷ tampers 34 (record_with A 42 ++ (record_with B 42 ++ (zeros 106 ++ (1 ∷ zeros 341)))) ∷ gives Open (refused 22 (5 ∷ []))
+    ∷ tampers 34 (record_with A 42 ++ zeros 480) ∷ tampers 33 (bits_with 7) ∷ gives Open done
+    ∷ tampers 33 (zeros 512) ∷ gives Open (refused 23 (0 ∷ [])) ∷ []))
+
 -- ---- the table
 
 abbrev pub table : List Row
 table =
     E1 ∷ E2 ∷ E3 ∷ E4-early ∷ E4-late ∷ E5 ∷ E6-gap ∷ E6-nothing ∷ E7 ∷ E8 ∷ E9 ∷ E10
-    ∷ E11 ∷ E12 ∷ E13 ∷ E3-printed ∷ large-file ∷ far-blocks ∷ []
+    ∷ E11 ∷ E12 ∷ E13 ∷ E3-printed ∷ large-file ∷ far-blocks ∷ damaged-inodes ∷ damaged-blocks ∷ []
 
 -- the store that the rows are about: the definitions of the calls
 abbrev pub store : State → Call → Outcome

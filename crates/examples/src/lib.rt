@@ -8,5 +8,5 @@ ghost use Rattle.examples.specs.Table.{table};
 pub fn rows() -> usize
     ensures { result ≡ length table }
 {
-    18
+    20
 }

@@ -8,18 +8,18 @@ use native.Mathlib.Omega.{arith}
 use lib.Dec.{eqb}
 use lib.ListN.{length, take, drop, take-append-drop}
 use lib.Seq.{drop-drop}
-use Rattle.spec.specs.Bytes.{exactly, part, all_zero, is_some}
+use Rattle.spec.specs.Bytes.{exactly, part, all_zero}
 use Rattle.spec.specs.declared.DiskBlock.{DiskBlock}
 use Rattle.spec.specs.Disk.{Disk}
 use Rattle.spec.specs.Inode.{inode_bytes, name_at, is_empty, block_of_inode, place_of_inode, reached_from}
 use Rattle.filecheck.proofs.Shape.{not-marked}
-use Rattle.spec.specs.Sound.{first_of_name, file_sound, inode_sound, inode_fault, block_fault, volume_sound}
+use Rattle.spec.specs.Sound.{first_of_name, file_sound, inode_sound, inode_fault, block_fault}
 use Rattle.lists.specs.Lowest.{lowest-no}
 use Rattle.lists.specs.Places.{all_append}
 use Rattle.block.proofs.Laws.{length-exactly, exactly-all}
 use Rattle.zeros.proofs.Laws.{all_take, all_drop}
-use Rattle.std.specs.Prelude.{Option as Returned, Some, None}
-use Rattle.std.specs.Option as returned
+use Rattle.std.specs.Prelude.{Option as Returned, Some, None, Ok, Err}
+use Rattle.spec.specs.declared.Refusal.TheVariants.{DamagedBlock}
 use Rattle.inode.specs.Records.{bytes_in, record_in, found_of, lowest_to}
 use Rattle.inode.proofs.Laws.{drop-take, record-at}
 use Rattle.marks.specs.Marks.{Kept, reach_to, block_found}
@@ -28,8 +28,6 @@ use Rattle.marks.specs.declared.Marks.{Marks}
 use Rattle.fsck.specs.declared.NameTable.{NameTable}
 use Rattle.fsck.specs.Names.{Told, Passed}
 use Rattle.fsck.proofs.Names.{found-none, told-on}
-use Rattle.fsck.specs.declared.Damage.{Damage}
-use Rattle.fsck.specs.declared.Damage.TheVariants.{Block as BlockAt}
 use Rattle.fsck.specs.Damage.{damage_of, unsound}
 use Rattle.filecheck.specs.File.{file_blocks, Marked}
 
@@ -147,30 +145,16 @@ module _ (N : ℕ) (v : Disk) (r : Returned ℕ) (e : r ≡ found_of (inode_faul
     searched : block_found (found_of (block_fault N v)) ≡ s
     searched = sym (f ∙ ap block_found g)
 
-    pub block-damaged : (b : DiskBlock) → s ≡ Some b → Some (BlockAt b) ≡ damage_of (inode_fault N v) (block_fault N v)
+    pub block-damaged : (b : DiskBlock) → s ≡ Some b → Err (DamagedBlock b) ≡ damage_of (inode_fault N v) (block_fault N v)
     block-damaged b q = rw (found-none (inode_fault N v) (sym e ∙ h)) (go (block_fault N v) (searched ∙ q))
       where
-        go : (o : Option ℕ) → block_found (found_of o) ≡ Some b → Some (BlockAt b) ≡ damage_of none o
+        go : (o : Option ℕ) → block_found (found_of o) ≡ Some b → Err (DamagedBlock b) ≡ damage_of none o
         go none e = cc
         go (some c) e = cc
 
-    pub nothing-damaged : s ≡ None → None ≡ damage_of (inode_fault N v) (block_fault N v)
+    pub nothing-damaged : s ≡ None → Ok tt ≡ damage_of (inode_fault N v) (block_fault N v)
     nothing-damaged q = rw (found-none (inode_fault N v) (sym e ∙ h)) (go (block_fault N v) (searched ∙ q))
       where
-        go : (o : Option ℕ) → block_found (found_of o) ≡ None → None ≡ damage_of none o
+        go : (o : Option ℕ) → block_found (found_of o) ≡ None → Ok tt ≡ damage_of none o
         go none e = refl
         go (some c) e = cc
-
--- sound, if nothing is damaged
-pub sound-by : (N : ℕ) (v : Disk) (r : Returned Damage) (a : Bool) → r ≡ damage_of (inode_fault N v) (block_fault N v) → returned.is_some r ≡ not a → a ≡ volume_sound N v
-unfolding volume_sound
-sound-by N v r a e h = flip a (ap returned.is_some (sym e) ∙ h) ∙ go (inode_fault N v) (block_fault N v)
-  where
-    flip : (a : Bool) → returned.is_some (damage_of (inode_fault N v) (block_fault N v)) ≡ not a → a ≡ not (returned.is_some (damage_of (inode_fault N v) (block_fault N v)))
-    flip true q = ap not (sym q)
-    flip false q = ap not (sym q)
-
-    go : (o p : Option ℕ) → not (returned.is_some (damage_of o p)) ≡ (not (is_some o) && not (is_some p))
-    go (some i) p = refl
-    go none (some b) = refl
-    go none none = refl

@@ -1,11 +1,11 @@
-// Decides S1 to S8 on any bytes: one pass over the records, in which each tree is walked once, tested and marked, then one over the bits.
+// Tells what breaks S1 to S8 on any bytes: one pass over the records, in which each tree is walked once, tested and marked, then one over the bits.
 #![tactic(auto)]
 
 ghost use Rattle.std.specs.Prelude.{◌≡◌, [], true, ◌+◌, ◌%◌, ◌≤◌, ◌<◌, slice_set};
 ghost use Rattle.std.proofs.Math.Option.{none};
 ghost use Rattle.spec.specs.Disk.{blocks_of};
 ghost use Rattle.spec.specs.Inode.{reached_from, reached};
-ghost use Rattle.spec.specs.Sound.{inode_sound, inode_fault, block_fault, volume_sound};
+ghost use Rattle.spec.specs.Sound.{inode_sound, inode_fault, block_fault};
 ghost use Rattle.inode.specs.Records.{found_of, lowest_to};
 ghost use Rattle.marks.specs.Marks.{Kept, reach_to};
 ghost use Rattle.marks.specs.Device.{disk_of};
@@ -17,18 +17,11 @@ use block::{copy_of, place_in_block};
 use filecheck::{Record, clear_in};
 use inode::{Inode, InodeNumber, table_block};
 use marks::{Device, Marks};
-use spec::{DiskBlock, Limits};
+use spec::{DiskBlock, Limits, Refusal};
 use zeros::is_zero;
 
 // Names are told apart by their remainders first.
 const REMAINDERS: usize = 1021;
-
-// What is damaged: the lowest record that is not sound; if all are, the lowest block.
-#[derive(Clone, Copy)]
-pub enum Damage {
-    Inode(usize),
-    Block(DiskBlock),
-}
 
 // The names of the records passed, as numbers, by record; and which remainders are those of numbers that are not zero: flags in an array, since a HashSet wants
 // a heap. Its default holds no name.
@@ -132,8 +125,8 @@ fn inode_fault(device: &Device, marks: &mut Marks) -> Option<usize>
     None
 }
 
-// The lowest record that breaks S2 to S6 or S8; if none does, the lowest block that breaks S1 or S7.
-pub fn find_damage(device: &[u8], blocks: usize) -> Option<Damage>
+// 22 and 23: the lowest record that breaks S2 to S6 or S8; if none does, the lowest block that breaks S1 or S7.
+pub fn undamaged(device: &[u8], blocks: usize) -> Result<(), Refusal>
     requires { blocks ≤ 4096 }
     ensures { result ≡ damage_of (inode_fault blocks (blocks_of device.now)) (block_fault blocks (blocks_of device.now)) }
 {
@@ -143,17 +136,11 @@ pub fn find_damage(device: &[u8], blocks: usize) -> Option<Damage>
     };
     let mut marks = Marks::none(&tested);
     if let Some(i) = inode_fault(&tested, &mut marks) {
-        return Some(Damage::Inode(i));
+        return Err(Refusal::DamagedInode(i));
     }
     let bitmap = copy_of(tested.block_at(DiskBlock(Limits::BITMAP_BLOCK)));
-    let b = marks.lowest_wrong(&bitmap)?;
-    Some(Damage::Block(b))
-}
-
-// S1 to S8.
-pub fn is_sound(device: &[u8], blocks: usize) -> bool
-    requires { blocks ≤ 4096 }
-    ensures { result ≡ volume_sound blocks (blocks_of device.now) }
-{
-    find_damage(device, blocks).is_none()
+    match marks.lowest_wrong(&bitmap) {
+        Some(b) => Err(Refusal::DamagedBlock(b)),
+        None => Ok(()),
+    }
 }

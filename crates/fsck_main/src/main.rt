@@ -1,10 +1,29 @@
-// Runs the soundness tests on a 64-block device: an empty store, one with three files built by hand, and that one with a byte changed, so that one of S1 to S8
-// is broken. Prints the lowest record that is not sound; if all are, the lowest block.
+// Opens devices of 64 blocks: an empty store, one with three files built by hand, that one with a byte changed, so that one of S1 to S8 is broken, and the
+// damaged devices of request A2. Prints what open answers: with refusal 22 the record, with 23 the block.
 #![tactic(auto)]
 
-use fsck::{Damage, find_damage, is_sound};
+use spec::Session;
 use std::io;
-use trial::{SMALLEST, put, put_files, put_slot};
+use store::open_store;
+use trial::{SMALLEST, put, put_files, put_slot, refused};
+
+// The first bytes of the bitmap, of records 2, 3, 5 and 9, and of blocks 43 and 54.
+const BITS: usize = 16896;
+
+const RECORD_2: usize = 17472;
+
+const RECORD_3: usize = 17504;
+
+const RECORD_5: usize = 17568;
+
+const RECORD_9: usize = 17696;
+
+const BLOCK_43: usize = 22016;
+
+const BLOCK_54: usize = 27648;
+
+// Name A: 01 02 03 04 05 06 07 08.
+const A: [u8; 8] = [1, 2, 3, 4, 5, 6, 7, 8];
 
 // A device of 64 blocks, and where it is told.
 #[derive(Drop)]
@@ -42,13 +61,15 @@ impl<'a, P: Print> Trial<'a, P> {
     }
 
     fn show(&self, name: &str) -> io::Result<()> {
-        match find_damage(&self.device, 64) {
-            Some(Damage::Inode(i)) => print!(self.rt; "{name}: record {i}")?,
-            Some(Damage::Block(b)) => print!(self.rt; "{name}: block {}", b.0)?,
-            None => print!(self.rt; "{name}: no damage")?,
-        }
-        if is_sound(&self.device, 64) {
-            print!(self.rt; ", sound")?;
+        print!(self.rt; "{name}:")?;
+        match open_store(&self.device, Session::never_opened()).answer {
+            Ok(()) => print!(self.rt; " done")?,
+            Err(why) => {
+                refused(self.rt, why)?;
+                if let Some(n) = why.fault() {
+                    print!(self.rt; " at {n}")?;
+                }
+            }
         }
         println!(self.rt)
     }
@@ -97,6 +118,72 @@ impl<'a, P: Print> Trial<'a, P> {
         self.broken("S7 a block reached twice", 22540, 43)?;
         self.broken("S8 a byte after the size", 22204, 1)
     }
+
+    // A has 600 bytes in blocks 42 and 43, record 2; B 5 blocks from 44 on, every second one, which extent block 54 names, record 5; C no byte, record 9.
+    fn scattered(&mut self) {
+        self.empty();
+        put(&mut self.device, RECORD_2, &A);
+        put(&mut self.device, RECORD_2 + 8, &600u16.to_le_bytes());
+        put_slot(&mut self.device, RECORD_2 + 16, 42, 2);
+        put(&mut self.device, RECORD_5, &[66; 8]);
+        put(&mut self.device, RECORD_5 + 8, &2560u16.to_le_bytes());
+        put(&mut self.device, RECORD_5 + 12, &[1]);
+        put_slot(&mut self.device, RECORD_5 + 16, 54, 5);
+        put_slot(&mut self.device, BLOCK_54, 44, 1);
+        put_slot(&mut self.device, BLOCK_54 + 4, 46, 1);
+        put_slot(&mut self.device, BLOCK_54 + 8, 48, 1);
+        put_slot(&mut self.device, BLOCK_54 + 12, 50, 1);
+        put_slot(&mut self.device, BLOCK_54 + 16, 52, 1);
+        put(&mut self.device, RECORD_9, &[67; 8]);
+        put(&mut self.device, BITS + 5, &[95, 85]);
+    }
+
+    // These files with some bytes changed.
+    fn damaged(&mut self, name: &str, at: usize, bytes: &[u8]) -> io::Result<()> {
+        self.scattered();
+        put(&mut self.device, at, bytes);
+        self.show(name)
+    }
+
+    // The same, and one byte more.
+    fn and(&mut self, name: &str, at: usize, byte: u8) -> io::Result<()> {
+        put(&mut self.device, at, &[byte]);
+        self.show(name)
+    }
+
+    // A2, 22.
+    fn damaged_records(&mut self) -> io::Result<()> {
+        self.damaged("record 5 named A", RECORD_5, &A)?;
+        put(&mut self.device, RECORD_9, &A);
+        self.show("records 5 and 9 named A")?;
+        self.and("and byte 20 of record 3 is 1", RECORD_3 + 20, 1)?;
+        self.damaged("record 2 slot 0 is (41, 2)", RECORD_2 + 16, &[41])?;
+        self.damaged(
+            "record 2 slots (42, 1) (43, 1)",
+            RECORD_2 + 18,
+            &[1, 0, 43, 0, 1],
+        )?;
+        self.damaged("byte 88 of block 43 is 1", BLOCK_43 + 88, &[1])?;
+        self.and("and bit 0 cleared", BITS, 254)
+    }
+
+    // A2, 23.
+    fn damaged_blocks(&mut self) -> io::Result<()> {
+        self.damaged(
+            "record 2 slots (43, 1) (43, 1)",
+            RECORD_2 + 16,
+            &[43, 0, 1, 0, 43, 0, 1],
+        )?;
+        self.and("and bit 42 cleared", BITS + 5, 91)?;
+        self.and("and bit 5 cleared", BITS, 223)?;
+        self.damaged("B's extent block names 54 for 44", BLOCK_54, &[54])?;
+        self.and("and bit 44 cleared", BITS + 5, 79)?;
+        self.damaged("bit 60 set", BITS + 7, &[16])?;
+        self.damaged("bit 100 cleared", BITS + 12, &[239])?;
+        self.damaged("bit 4095 cleared", BITS + 511, &[127])?;
+        self.damaged("bit 41 cleared", BITS + 5, &[93])?;
+        self.and("and block 0 lists block 33", 0, 33)
+    }
 }
 
 fn main(rt: HostRuntime) -> io::Result<()> {
@@ -112,5 +199,9 @@ fn main(rt: HostRuntime) -> io::Result<()> {
     t.broken_bits()?;
     t.broken_records()?;
     t.broken_trees()?;
-    t.broken_blocks()
+    t.broken_blocks()?;
+    t.scattered();
+    t.show("A, B and C")?;
+    t.damaged_records()?;
+    t.damaged_blocks()
 }

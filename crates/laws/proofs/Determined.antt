@@ -74,11 +74,11 @@ is-ready Recovering h = absurd (true≢false h)
 module _ (N : ℕ) (p : Plain) (s : State) where
   change-ready : (c : Change) → due N p s (Do c) ≡ none → p.mode ≡ Ready
   unfolding due
-  change-ready c h = is-ready p.mode (none-fails (tests N p s (Do c)) h).1.1.1.1.1.1.0
+  change-ready c h = is-ready p.mode (none-fails (tests N p s (Do c)) h).1.1.1.1.1.1.1.0
 
   query-ready : (q : Query) → due N p s (Ask q) ≡ none → p.mode ≡ Ready
   unfolding due
-  query-ready q h = is-ready p.mode (none-fails (tests N p s (Ask q)) h).1.1.1.1.1.1.0
+  query-ready q h = is-ready p.mode (none-fails (tests N p s (Ask q)) h).1.1.1.1.1.1.1.0
 
 -- ---- accepted calls at one moment
 

@@ -2,3 +2,4 @@ pub mod Starts
 pub mod CallRuns
 pub mod Determined
 pub mod Programs
+pub mod Damage

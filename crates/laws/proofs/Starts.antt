@@ -11,7 +11,7 @@ use borrow.Author.Tests.{eqb-true}
 use Rattle.spec.specs.Layout.{block_size, header_block}
 use Rattle.spec.specs.Bytes.{all_zero}
 use Rattle.spec.specs.Disk.{is_allowed}
-use Rattle.spec.specs.Sound.{volume_sound, sound}
+use Rattle.spec.specs.Sound.{inode_fault, block_fault, volume_sound, sound}
 use Rattle.spec.specs.declared.Phase.TheVariants.{Ready}
 use Rattle.spec.specs.declared.Session.{Session}
 use Rattle.spec.specs.Session.{never_opened}
@@ -24,17 +24,28 @@ use Rattle.lists.specs.Tests.{and_both}
 use Rattle.block.proofs.Laws.{block-length}
 use Rattle.logs.specs.Targets.{truth}
 use Rattle.laws.specs.Tie.{starts-on}
-use Rattle.laws.specs.Starts.{header-zero, opening, whole-blocks}
+use Rattle.crash.specs.Exact.{opening}
+use Rattle.laws.specs.Volume.{free-fault}
+use Rattle.laws.specs.Starts.{header-zero, whole-blocks}
 
 -- ---- open
 
-ready-says : (a : Bool) (o : Option ℕ) (t v : Bool) (s : State) → (opening a o t v s).answer ≡ done → (opening a o t v s).after.session.phase ≡ Ready
-    → (a ≡ true) × (o ≡ none) × (t ≡ true) × (v ≡ true)
-ready-says false o t v s h p = absurd (true≢false (ap is_refused h))
-ready-says true (some i) t v s h p = absurd (true≢false (ap is_refused h))
-ready-says true none true true s h p = (refl, refl, refl, refl)
-ready-says true none true false s h p = absurd (true≢false (ap is_refused h))
-ready-says true none false v s h p = absurd (false≢true (ap is_ready p))
+-- the results of the tests of an open that is done and ready
+record Passed (a : Bool) (o : Option ℕ) (t : Bool) (i b : Option ℕ) : Type 0 where
+  length : a ≡ true
+  header : o ≡ none
+  unlisted : t ≡ true
+  inodes : i ≡ none
+  blocks : b ≡ none
+
+ready-says : (a : Bool) (o : Option ℕ) (t : Bool) (i b : Option ℕ) (s : State) → (opening a o t i b s).answer ≡ done
+    → (opening a o t i b s).after.session.phase ≡ Ready → Passed a o t i b
+ready-says false o t i b s h p = absurd (true≢false (ap is_refused h))
+ready-says true (some k) t i b s h p = absurd (true≢false (ap is_refused h))
+ready-says true none true (some i) b s h p = absurd (true≢false (ap is_refused h))
+ready-says true none true none (some b) s h p = absurd (true≢false (ap is_refused h))
+ready-says true none true none none s h p = record { length = refl; header = refl; unlisted = refl; inodes = refl; blocks = refl }
+ready-says true none false i b s h p = absurd (false≢true (ap is_ready p))
 
 -- "opened as sound": a device on which open answers done with a ready session is sound
 pub ready-sound : (s : State) → length (s.device.block header_block) ≡ block_size → (step s Open).answer ≡ done → (step s Open).after.session.phase ≡ Ready
@@ -43,9 +54,9 @@ unfolding open_store open_phase
 ready-sound s whole h p =
     let N = s.device.size / block_size in
     let d = s.device.block in
-    let r = ready-says (is_allowed s.device.size) (header_fault N (d header_block)) (eqb (length (targets_in (d header_block))) 0) (volume_sound N d) s h p in
-    let z = header-zero N (d header_block) whole r.1 (eqb-true (length (targets_in (d header_block))) 0 r.2) in
-    (r.0, truth (sound N d) (and_both (all_zero (d header_block)) (volume_sound N d) z r.3))
+    let r = ready-says (is_allowed s.device.size) (header_fault N (d header_block)) (eqb (length (targets_in (d header_block))) 0) (inode_fault N d) (block_fault N d) s h p in
+    let z = header-zero N (d header_block) whole r.header (eqb-true (length (targets_in (d header_block))) 0 r.unlisted) in
+    (r.length, truth (sound N d) (and_both (all_zero (d header_block)) (volume_sound N d) z (free-fault N d r.inodes r.blocks)))
 
 -- ---- by the promises of open and format
 

@@ -58,4 +58,5 @@ pub mod OwnBlocks
 pub mod SameChange
 pub mod StepBytes
 pub mod Determined
+pub mod Damage
 pub mod Programs

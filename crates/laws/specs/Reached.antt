@@ -73,24 +73,31 @@ pub reached-same : (v w : Disk) → ((j : ℕ) → j < inode_count → reached_f
 unfolding reached
 reached-same v w h = joined_same (reached_from v) (reached_from w) 0 inode_count (λ j lo up. h j up)
 
--- ---- a sound volume
+-- ---- sound files, and a sound volume
 
-module _ (N : ℕ) (v : Disk) (s : VolumeSound N v) where
-  pub reach-inside : (i b : ℕ) → i < inode_count → 1 ≤ occurs b (reached_from v i) → Inside N b
-  reach-inside i b h o = go (is_empty v i) refl
+module _ (N : ℕ) (v : Disk) (files : (i : ℕ) → i < inode_count → is_empty v i ≡ false → FileSound N v (inode_bytes v i)) where
+  pub file-inside : (i b : ℕ) → i < inode_count → 1 ≤ occurs b (reached_from v i) → Inside N b
+  file-inside i b h o = go (is_empty v i) refl
     where
       own : (e : is_empty v i ≡ false) → (k : ℕ) → occurs b (data_of v (inode_at v i)) ≡ k → Inside N b
       own e zero q =
-          (s.files i h e).nodes_inside b
+          (files i h e).nodes_inside b
           (let z = rw (reached-used v i e) at o in omega (arith, occurs-append b (data_of v (inode_at v i)) (nodes_of v (inode_at v i))))
-      own e (suc k) q = data-inside N v (inode_bytes v i) b (s.files i h e) (omega arith)
+      own e (suc k) q = data-inside N v (inode_bytes v i) b (files i h e) (omega arith)
 
       go : (t : Bool) → is_empty v i ≡ t → Inside N b
       go true e = absurd (not-suc-le-zero (rw (reached-empty v i e) at o))
       go false e = own e (occurs b (data_of v (inode_at v i))) refl
 
+  pub files-inside : (b : ℕ) → 1 ≤ occurs b (reached v) → Inside N b
+  files-inside b o = reached-by v b (Inside N b) o (λ i up h. file-inside i b up h)
+
+module _ (N : ℕ) (v : Disk) (s : VolumeSound N v) where
+  pub reach-inside : (i b : ℕ) → i < inode_count → 1 ≤ occurs b (reached_from v i) → Inside N b
+  reach-inside = file-inside N v s.files
+
   pub all-inside : (b : ℕ) → 1 ≤ occurs b (reached v) → Inside N b
-  all-inside b o = reached-by v b (Inside N b) o (λ i up h. reach-inside i b up h)
+  all-inside = files-inside N v s.files
 
   module _ (table : N ≤ bit_count v) where
     -- a block that a record reaches is marked, reached by that record once and by no other

@@ -9,22 +9,23 @@ use Rattle.std.proofs.Math.Dec.{eqb}
 use Rattle.std.proofs.Math.ListN.{length}
 use borrow.Author.Tests.{eqb-true, eq-eqb, eqb-false}
 use Rattle.spec.specs.Layout.{block_size, header_block, bitmap_block, fewest_blocks, most_blocks, log_length, log_record_size}
-use Rattle.spec.specs.Bytes.{zeros, all_zero, part, up_from, member, found, leading}
+use Rattle.spec.specs.Bytes.{zeros, all_zero, part, up_from, member, leading}
 use Rattle.spec.specs.Disk.{Disk, Slice, blocks_of, is_allowed, is_target}
-use Rattle.spec.specs.Sound.{volume_sound, sound}
-use Rattle.spec.specs.declared.Phase.TheVariants.{Ready, Recovering}
+use Rattle.spec.specs.Sound.{inode_fault, block_fault, sound}
+use Rattle.spec.specs.declared.Phase.TheVariants.{Ready}
 use Rattle.spec.specs.declared.Session.{Session}
-use Rattle.spec.specs.declared.Refusal.TheVariants.{DeviceSize, BadHeader, Unsound}
-use Rattle.spec.specs.Session.{opened, closed_on, never_opened}
-use Rattle.spec.specs.Answers.{Answer, done, is_refused, refuse, accept, require, ◌>>◌}
+use Rattle.spec.specs.declared.Refusal.TheVariants.{DeviceSize}
+use Rattle.spec.specs.Session.{closed_on, never_opened}
+use Rattle.spec.specs.Answers.{Answer, done, is_refused, accept, require, ◌>>◌}
 use Rattle.spec.specs.Transaction.{State, with_session, state_of}
 use Rattle.spec.specs.Journal.{target_at, targets_before, targets_in, is_record_wrong, header_fault}
-use Rattle.spec.specs.Calls.{Outcome, outcome, settle, is_ready, empty_disk, format, open_phase, open_store, Format, Open, step, left}
+use Rattle.spec.specs.Calls.{Outcome, outcome, settle, empty_disk, format, open_phase, open_store, Format, Open, step, left}
 use Rattle.spec.specs.CutRule.{Starts}
 use Rattle.lists.specs.Lowest.{lowest-none}
 use Rattle.block.proofs.Laws.{allowed-says}
 use Rattle.logs.specs.Targets.{truth}
 use Rattle.logs.specs.Header.{clear_zero}
+use Rattle.crash.specs.Exact.{opening}
 use Rattle.crash.specs.Machine.{empty-clear, empty-whole, allowed-ok}
 use Rattle.crash.specs.Theorem.{bounds}
 use Rattle.laws.specs.Content.{zero-byte}
@@ -95,21 +96,14 @@ module _ (N : ℕ) (xs : List ℕ) (whole : length xs ≡ block_size) (right : h
 
 -- ---- open
 
--- open by the results of its tests: the length, the header's lowest wrong record, no record used, S1 to S8
-abbrev pub opening : Bool → Option ℕ → Bool → Bool → State → Outcome
-opening a o t v s =
-    settle (outcome s)
-    (require a DeviceSize
-    >> (found o (accept true) (λ i. refuse (BadHeader i))
-    >> (cond (is_ready (cond t Ready (Recovering 0))) (require v Unsound) (accept true)
-    >> accept (outcome (with_session s (opened (s.device.size / block_size) (cond t Ready (Recovering 0)))) done))))
-
-anew-says : (a : Bool) (o : Option ℕ) (t v : Bool) (s : State) (n : Session) → (opening a o t v s).answer ≡ done → opening a o t v (with_session s n) ≡ opening a o t v s
-anew-says false o t v s n h = absurd (true≢false (ap is_refused h))
-anew-says true (some i) t v s n h = absurd (true≢false (ap is_refused h))
-anew-says true none true true s n h = refl
-anew-says true none true false s n h = absurd (true≢false (ap is_refused h))
-anew-says true none false v s n h = refl
+anew-says : (a : Bool) (o : Option ℕ) (t : Bool) (i b : Option ℕ) (s : State) (n : Session) → (opening a o t i b s).answer ≡ done
+    → opening a o t i b (with_session s n) ≡ opening a o t i b s
+anew-says false o t i b s n h = absurd (true≢false (ap is_refused h))
+anew-says true (some k) t i b s n h = absurd (true≢false (ap is_refused h))
+anew-says true none true (some i) b s n h = absurd (true≢false (ap is_refused h))
+anew-says true none true none (some b) s n h = absurd (true≢false (ap is_refused h))
+anew-says true none true none none s n h = refl
+anew-says true none false i b s n h = refl
 
 -- "Open makes a new session whatever went before": an open that is done has the same outcome with a session never opened
 pub open-anew : (s : State) → (step s Open).answer ≡ done → step (with_session s never_opened) Open ≡ step s Open
@@ -117,7 +111,7 @@ unfolding open_store open_phase
 open-anew s h =
     let N = s.device.size / block_size in
     let d = s.device.block in
-    anew-says (is_allowed s.device.size) (header_fault N (d header_block)) (eqb (length (targets_in (d header_block))) 0) (volume_sound N d) s never_opened h
+    anew-says (is_allowed s.device.size) (header_fault N (d header_block)) (eqb (length (targets_in (d header_block))) 0) (inode_fault N d) (block_fault N d) s never_opened h
 
 -- ---- by the promises of open and format
 

@@ -1,15 +1,16 @@
 -- S1 to S8 of a volume as propositions, and that the tests decide them. Assumes nothing.
-use Rattle.std.specs.Prelude.{ℕ, zero, suc, ◌+◌, ◌<◌, ◌≡◌, refl, Bool, true, false, cond, not, ◌&&◌, ◌↔◌, List, [], ◌∷◌, T, eqb, length, get_or}
-use Rattle.std.proofs.Common.{sym, ap, ◌∙◌, not-suc-le-zero, add-zero, zero-add, arith, eqb-true, eq-eqb}
+use Rattle.std.specs.Prelude.{ℕ, suc, ◌-◌, ◌<◌, ◌≡◌, refl, Bool, true, false, cond, not, ◌&&◌, ◌↔◌, List, [], ◌∷◌, T, eqb, length, get_or}
+use Rattle.std.proofs.Common.{sym, ap, ◌∙◌, arith, eqb-true, eq-eqb}
 use Rattle.std.proofs.lemmas.Bool.{false≢true, not-false}
-use Rattle.std.proofs.Math.Option.{Option, none, some, some-ne-none, some-injective}
+use Rattle.std.proofs.Math.Option.{Option, none, some, some-injective}
 use Rattle.spec.specs.Layout.{bitmap_block, inode_count}
-use Rattle.spec.specs.Bytes.{same, occurs, found, is_some, all_zero}
+use Rattle.spec.specs.Bytes.{same, occurs, found, is_some, all_zero, lowest}
 use Rattle.spec.specs.Disk.{Disk, in_data}
 use Rattle.spec.specs.Bitmap.{bits_of}
 use Rattle.spec.specs.Inode.{inode_bytes, name_at, is_empty, find, reached}
 use Rattle.spec.specs.Sound.{first_of_name, file_sound, inode_sound, inode_fault, block_sound, bit_fault, block_fault, volume_sound}
 use Rattle.lists.specs.Tests.{and_both, both_true, not-both, false_of}
+use Rattle.crash.specs.Machine.{fault-free}
 use Rattle.lists.specs.Lowest.{lowest-some, lowest-none, lowest-only, lowest-no, lowest-agree}
 use Rattle.logs.specs.Targets.{holds, truth}
 use Rattle.block.proofs.Laws.{same_true}
@@ -67,27 +68,27 @@ pub find-agree : (v w : Disk) (name : List ℕ) → ((j : ℕ) → j < inode_cou
 unfolding find
 find-agree v w name h = lowest-agree 0 inode_count (λ i. same (name_at w i) name) (λ i. same (name_at v i) name) (λ j lo up. h j up)
 
-first_of : (v : Disk) (i : ℕ) → first_of_name v i ≡ true → find v (name_at v i) ≡ some i
+pub first_of : (v : Disk) (i : ℕ) → first_of_name v i ≡ true → find v (name_at v i) ≡ some i
 first_of v i h = go (find v (name_at v i)) refl h
   where
     go : (o : Option ℕ) → find v (name_at v i) ≡ o → found o false (λ j. eqb j i) ≡ true → find v (name_at v i) ≡ some i
     go none e h = absurd (false≢true h)
     go (some j) e h = e ∙ ap some (eqb-true j i h)
 
-first-test : (v : Disk) (i : ℕ) → find v (name_at v i) ≡ some i → first_of_name v i ≡ true
+pub first-test : (v : Disk) (i : ℕ) → find v (name_at v i) ≡ some i → first_of_name v i ≡ true
 first-test v i h = ap (λ (o : Option ℕ). found o false (λ j. eqb j i)) h ∙ eq-eqb i i refl
 
 -- ---- one record
 
-record-used : (N : ℕ) (v : Disk) (i : ℕ) → inode_sound N v i ≡ true → is_empty v i ≡ false → (first_of_name v i && file_sound N v (inode_bytes v i)) ≡ true
+pub record-used : (N : ℕ) (v : Disk) (i : ℕ) → inode_sound N v i ≡ true → is_empty v i ≡ false → (first_of_name v i && file_sound N v (inode_bytes v i)) ≡ true
 unfolding inode_sound
 record-used N v i h e = rw e at h
 
-record-empty : (N : ℕ) (v : Disk) (i : ℕ) → inode_sound N v i ≡ true → is_empty v i ≡ true → all_zero (inode_bytes v i) ≡ true
+pub record-empty : (N : ℕ) (v : Disk) (i : ℕ) → inode_sound N v i ≡ true → is_empty v i ≡ true → all_zero (inode_bytes v i) ≡ true
 unfolding inode_sound
 record-empty N v i h e = rw e at h
 
-record-test : (N : ℕ) (v : Disk) (i : ℕ) → (is_empty v i ≡ true → all_zero (inode_bytes v i) ≡ true)
+pub record-test : (N : ℕ) (v : Disk) (i : ℕ) → (is_empty v i ≡ true → all_zero (inode_bytes v i) ≡ true)
     → (is_empty v i ≡ false → (first_of_name v i && file_sound N v (inode_bytes v i)) ≡ true) → inode_sound N v i ≡ true
 unfolding inode_sound
 record-test N v i f g = go (is_empty v i) refl
@@ -119,51 +120,41 @@ block-test N reach b x f g = go (in_data N b) refl
     go true e = eq-eqb (occurs b reach) x (f (inside_of N b e))
     go false e = eq-eqb x 1 (g (outside_of N b e))
 
-bits-of : (N : ℕ) (reach : List ℕ) (b : ℕ) (xs : List ℕ) → bit_fault N reach b xs ≡ none → (k : ℕ) → k < length xs → block_sound N reach (b + k) (get_or xs k 0) ≡ true
-bits-of N reach b [] h k up = absurd (not-suc-le-zero up)
-bits-of N reach b (x ∷ xs) h k up = go (block_sound N reach b x) refl (bits-of N reach (suc b) xs) k up
+-- the search over the bits is one over the blocks
+bits-lowest : (N : ℕ) (reach : List ℕ) (b : ℕ) (xs : List ℕ) → bit_fault N reach b xs ≡ lowest b (length xs) (λ c. not (block_sound N reach c (get_or xs (c - b) 0)))
+bits-lowest N reach b [] = refl
+bits-lowest N reach b (x ∷ xs) =
+    let e : b - b ≡ 0 = omega arith in
+    go (block_sound N reach b x) (ap (λ k. not (block_sound N reach b (get_or (x ∷ xs) k 0))) e)
+    (bits-lowest N reach (suc b) xs
+    ∙ lowest-agree (suc b) (length xs) (λ c. not (block_sound N reach c (get_or xs (c - suc b) 0))) (λ c. not (block_sound N reach c (get_or (x ∷ xs) (c - b) 0)))
+    (λ c lo up. let k : c - b ≡ suc (c - suc b) = omega arith in ap (λ k. not (block_sound N reach c (get_or (x ∷ xs) k 0))) (sym k)))
   where
-    go : (t : Bool) → block_sound N reach b x ≡ t
-        → (bit_fault N reach (suc b) xs ≡ none → (k : ℕ) → k < length xs → block_sound N reach (suc b + k) (get_or xs k 0) ≡ true)
-        → (k : ℕ) → k < length (x ∷ xs) → block_sound N reach (b + k) (get_or (x ∷ xs) k 0) ≡ true
-    go false q ih k up = absurd (some-ne-none b (rw q at h))
-    go true q ih zero up = ap (λ c. block_sound N reach c x) (add-zero b) ∙ q
-    go true q ih (suc k) up =
-        let e : b + suc k ≡ suc b + k = omega arith in
-        ap (λ c. block_sound N reach c (get_or xs k 0)) e ∙ ih (rw q at h) k (omega arith)
+    go : (t : Bool) → not (block_sound N reach b (get_or (x ∷ xs) (b - b) 0)) ≡ not t
+        → bit_fault N reach (suc b) xs ≡ lowest (suc b) (length xs) (λ c. not (block_sound N reach c (get_or (x ∷ xs) (c - b) 0)))
+        → cond t (bit_fault N reach (suc b) xs) (some b) ≡ lowest b (suc (length xs)) (λ c. not (block_sound N reach c (get_or (x ∷ xs) (c - b) 0)))
+    go true e ih = rw e ih
+    go false e ih = rw e refl
 
-bits-test : (N : ℕ) (reach : List ℕ) (b : ℕ) (xs : List ℕ) → ((k : ℕ) → k < length xs → block_sound N reach (b + k) (get_or xs k 0) ≡ true) → bit_fault N reach b xs ≡ none
-bits-test N reach b [] h = refl
-bits-test N reach b (x ∷ xs) h =
-    let first : block_sound N reach b x ≡ true = ap (λ c. block_sound N reach c x) (sym (add-zero b)) ∙ h 0 (omega arith) in
-    ap (λ t. cond t (bit_fault N reach (suc b) xs) (some b)) first
-    ∙ bits-test N reach (suc b) xs
-    (λ k up. let e : suc b + k ≡ b + suc k = omega arith in ap (λ c. block_sound N reach c (get_or xs k 0)) e ∙ h (suc k) (omega arith))
+pub block-lowest : (N : ℕ) (v : Disk) → block_fault N v ≡ lowest 0 (bit_count v) (λ b. not (block_sound N (reached v) b (bit v b)))
+unfolding block_fault bit bit_count
+block-lowest N v =
+    bits-lowest N (reached v) 0 (bits_of (v bitmap_block))
+    ∙ lowest-agree 0 (length (bits_of (v bitmap_block))) (λ b. not (block_sound N (reached v) b (get_or (bits_of (v bitmap_block)) (b - 0) 0)))
+    (λ b. not (block_sound N (reached v) b (get_or (bits_of (v bitmap_block)) b 0)))
+    (λ b lo up. let k : b - 0 ≡ b = omega arith in ap (λ k. not (block_sound N (reached v) b (get_or (bits_of (v bitmap_block)) k 0))) k)
 
 blocks-of : (N : ℕ) (v : Disk) → block_fault N v ≡ none → (b : ℕ) → b < bit_count v → block_sound N (reached v) b (bit v b) ≡ true
-unfolding block_fault bit bit_count
 blocks-of N v h b up =
-    ap (λ c. block_sound N (reached v) c (get_or (bits_of (v bitmap_block)) b 0)) (sym (zero-add b)) ∙ bits-of N (reached v) 0 (bits_of (v bitmap_block)) h b up
+    not-false (block_sound N (reached v) b (bit v b))
+    (lowest-none 0 (bit_count v) (λ b. not (block_sound N (reached v) b (bit v b))) (sym (block-lowest N v) ∙ h) b (omega arith) (omega arith))
 
 blocks-test : (N : ℕ) (v : Disk) → ((b : ℕ) → b < bit_count v → block_sound N (reached v) b (bit v b) ≡ true) → block_fault N v ≡ none
-unfolding block_fault bit bit_count
-blocks-test N v h =
-    bits-test N (reached v) 0 (bits_of (v bitmap_block))
-    (λ b up. ap (λ c. block_sound N (reached v) c (get_or (bits_of (v bitmap_block)) b 0)) (zero-add b) ∙ h b up)
+blocks-test N v h = block-lowest N v ∙ lowest-no 0 (bit_count v) (λ b. not (block_sound N (reached v) b (bit v b))) (λ b lo up. ap not (h b (omega arith)))
 
 -- ---- the whole
 
-no-fault : (o : Option ℕ) → not (is_some o) ≡ true → o ≡ none
-no-fault none h = refl
-no-fault (some i) h = absurd (false≢true h)
-
-fault-free : (N : ℕ) (v : Disk) → volume_sound N v ≡ true → (inode_fault N v ≡ none) × (block_fault N v ≡ none)
-unfolding volume_sound
-fault-free N v h =
-    let t = both_true (not (is_some (inode_fault N v))) (not (is_some (block_fault N v))) h in
-    (no-fault (inode_fault N v) t.0, no-fault (block_fault N v) t.1)
-
-free-fault : (N : ℕ) (v : Disk) → inode_fault N v ≡ none → block_fault N v ≡ none → volume_sound N v ≡ true
+pub free-fault : (N : ℕ) (v : Disk) → inode_fault N v ≡ none → block_fault N v ≡ none → volume_sound N v ≡ true
 unfolding volume_sound
 free-fault N v p q = and_both (not (is_some (inode_fault N v))) (not (is_some (block_fault N v))) (ap (λ o. not (is_some o)) p) (ap (λ o. not (is_some o)) q)
 

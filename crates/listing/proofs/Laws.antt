@@ -15,7 +15,7 @@ use Rattle.inode.specs.declared.number.InodeNumber.{InodeNumber}
 use Rattle.spec.specs.declared.Phase.{Phase}
 use Rattle.spec.specs.declared.Phase.TheVariants.{Closed, Ready, Committing, Recovering}
 use Rattle.spec.specs.declared.Refusal.{Refusal}
-use Rattle.spec.specs.declared.Refusal.TheVariants.{DeviceSize, WorkSize, BadName, TooLarge, BadHeader, Unsound, NotReady, Unknown, Taken, NoInode, NoSpace, TooManyExtents, TooManyStaged, ListShort}
+use Rattle.spec.specs.declared.Refusal.TheVariants.{DeviceSize}
 use Rattle.spec.specs.Bytes.{exactly, all_zero, concat, keep, up_from}
 use Rattle.spec.specs.Disk.{Disk, blocks_of}
 use Rattle.spec.specs.Bitmap.{bits_of, free_bits}
@@ -25,7 +25,8 @@ use Rattle.spec.specs.Answers.{done_of, refusal_of, refusal_number}
 use Rattle.spec.specs.Transaction.{state_of}
 use Rattle.spec.specs.Journal.{targets_in}
 use Rattle.spec.specs.Calls.{Outcome, left, open_store}
-use Rattle.spec.specs.Listing.{files_word, free_word, refused_word, recover_word, hexadecimal, extents_text, line_at, opened_text, outcome_text, text_of, listing}
+use Rattle.spec.specs.Listing.{files_word, free_word, refused_word, recover_word, hexadecimal, extents_text, line_at, refused_text, opened_text, outcome_text, text_of, listing}
+use Rattle.spec.proofs.Refusals.{of-refusal}
 use Rattle.inode.specs.Records.{record_in}
 use Rattle.inode.proofs.Laws.{record-at, inode-at, empty-at}
 use Rattle.extents.specs.Stretches.{runs_in}
@@ -189,20 +190,7 @@ opened-text d (Recovering k) = refl
 
 pub refused-text : (d : Disk) (p : Phase) (r : Refusal) → refused_line r ≡ outcome_text d p (refusal_of r)
 unfolding refused_line
-refused-text d p DeviceSize = refl
-refused-text d p WorkSize = refl
-refused-text d p BadName = refl
-refused-text d p TooLarge = refl
-refused-text d p (BadHeader i) = refl
-refused-text d p Unsound = refl
-refused-text d p NotReady = refl
-refused-text d p Unknown = refl
-refused-text d p Taken = refl
-refused-text d p NoInode = refl
-refused-text d p NoSpace = refl
-refused-text d p TooManyExtents = refl
-refused-text d p TooManyStaged = refl
-refused-text d p ListShort = refl
+refused-text d p = of-refusal (λ a. refused_text (refusal_number a) ≡ outcome_text d p a) (λ n vs. refl)
 
 pub text-long : (d : List ℕ) → 65536 < length d → refused_line DeviceSize ≡ listing d
 unfolding text_of refused_line

@@ -12,12 +12,12 @@ use lib.ListN.{length, length-append, length-take}
 use Rattle.spec.specs.declared.Extent.{Extent}
 use Rattle.spec.specs.declared.Phase.TheVariants.{Closed, Ready, Recovering}
 use Rattle.spec.specs.declared.Refusal.{Refusal}
-use Rattle.spec.specs.declared.Refusal.TheVariants.{DeviceSize, BadHeader, Unsound}
+use Rattle.spec.specs.declared.Refusal.TheVariants.{DeviceSize, BadHeader, DamagedInode, DamagedBlock}
 use Rattle.spec.specs.Bytes.{concat, up_from}
-use Rattle.spec.specs.Disk.{Disk, blocks_of, is_allowed}
+use Rattle.spec.specs.Disk.{Disk, blocks_of, disk_block, is_allowed}
 use Rattle.spec.specs.Bitmap.{bits_of, free_bits}
 use Rattle.spec.specs.Inode.{inode_at, inode_bytes, name_at, is_empty, data_of, nodes_of, reached_from, reached, runs}
-use Rattle.spec.specs.Sound.{volume_sound}
+use Rattle.spec.specs.Sound.{inode_fault, block_fault, volume_sound}
 use Rattle.spec.specs.Session.{never_opened, opened}
 use Rattle.spec.specs.Answers.{done, refusal_of, refusal_number}
 use Rattle.spec.specs.Journal.{targets_in, header_fault}
@@ -26,10 +26,10 @@ use Rattle.text.proofs.Laws.{length-hex}
 use Rattle.spec.specs.Listing.{files_word, free_word, refused_word, recover_word, digits, hexadecimal, opened_text, outcome_text, listing}
 use Rattle.block.proofs.Laws.{lt-or-le, block-length, allowed-says}
 use Rattle.logs.specs.Targets.{truth}
-use Rattle.laws.specs.Volume.{volume-sound}
+use Rattle.laws.specs.Volume.{free-fault, volume-sound}
 use Rattle.laws.specs.Free.{reached-few}
 use Rattle.extents.proofs.Laws.{runs-few}
-use Rattle.store.proofs.Laws.{open-device, open-header, open-log, open-unsound, open-ready}
+use Rattle.store.proofs.Laws.{open-device, open-header, open-log, open-inode, open-block, open-ready}
 use Rattle.text.specs.Written.{number}
 use Rattle.listing.specs.Steps.{span_text, more_text, runs_text, line_text, used_from, lines_text, files_lines, told_text, refused_line, recover_line}
 use Rattle.listing.proofs.Laws.{span-is, more-next, more-none, runs-some, runs_none, line-used, lines_more, lines_end, files-text, told_is, refused-is, recover-is, opened-text, refused-text, text-long, text-short}
@@ -160,13 +160,16 @@ module _ (d : List ℕ) (h : length d ≤ 65536) where
   short-few : length (listing d) ≤ 8785
   short-few = device (is_allowed (length d)) refl
     where
-      sound : (a : is_allowed (length d) ≡ true) (f : header_fault (length d / 512) (blocks_of d 0) ≡ none) → length (targets_in (blocks_of d 0)) ≡ 0 → (t : Bool) → volume_sound (length d / 512) (blocks_of d) ≡ t
-          → length (listing d) ≤ 8785
-      sound a f z true s = ready-few a s (text-short d (left (opened (length d / 512) Ready) d [] done) h (open-ready never_opened d [] a f z s))
-      sound a f z false s = refusal-few Unsound (text-short d (left never_opened d [] (refusal_of Unsound)) h (open-unsound never_opened d [] a f z s))
+      empty : (a : is_allowed (length d) ≡ true) (f : header_fault (length d / 512) (blocks_of d 0) ≡ none) → length (targets_in (blocks_of d 0)) ≡ 0
+          → (o : Option ℕ) → inode_fault (length d / 512) (blocks_of d) ≡ o → (p : Option ℕ) → block_fault (length d / 512) (blocks_of d) ≡ p → length (listing d) ≤ 8785
+      empty a f z (some i) g p k = refusal-few (DamagedInode i) (text-short d (left never_opened d [] (refusal_of (DamagedInode i))) h (open-inode never_opened d [] a f z i g))
+      empty a f z none g (some b) k =
+          refusal-few (DamagedBlock (disk_block b)) (text-short d (left never_opened d [] (refusal_of (DamagedBlock (disk_block b)))) h (open-block never_opened d [] a f z g b k))
+      empty a f z none g none k =
+          ready-few a (free-fault (length d / 512) (blocks_of d) g k) (text-short d (left (opened (length d / 512) Ready) d [] done) h (open-ready never_opened d [] a f z g k))
 
       log : (a : is_allowed (length d) ≡ true) (f : header_fault (length d / 512) (blocks_of d 0) ≡ none) (t : Bool) → eqb (length (targets_in (blocks_of d 0))) 0 ≡ t → length (listing d) ≤ 8785
-      log a f true z = sound a f (eqb-true (length (targets_in (blocks_of d 0))) 0 z) (volume_sound (length d / 512) (blocks_of d)) refl
+      log a f true z = empty a f (eqb-true (length (targets_in (blocks_of d 0))) 0 z) (inode_fault (length d / 512) (blocks_of d)) refl (block_fault (length d / 512) (blocks_of d)) refl
       log a f false z =
           recovering-few (text-short d (left (opened (length d / 512) (Recovering 0)) d [] done) h (open-log never_opened d [] a f (eqb-false (length (targets_in (blocks_of d 0))) 0 z)))
 

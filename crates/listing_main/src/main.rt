@@ -94,7 +94,7 @@ fn lengths(rt: &impl Print) -> io::Result<()> {
 }
 
 // Each of S1 to S8 broken once.
-fn unsound(rt: &impl Print) -> io::Result<()> {
+fn damaged(rt: &impl Print) -> io::Result<()> {
     broken(rt, "S1 a bit of the log is 0", 16896, 247)?;
     broken(rt, "S2 a name twice", 17472, 171)?;
     broken(rt, "S3 depth 2", 17484, 2)?;
@@ -117,5 +117,5 @@ fn main(rt: HostRuntime) -> io::Result<()> {
     logged(&rt, "a log of a block twice", BITMAP, BITMAP)?;
     logged(&rt, "a log of a log block", LAST_LOG, BITMAP)?;
     lengths(&rt)?;
-    unsound(&rt)
+    damaged(&rt)
 }

@@ -23,7 +23,7 @@ use Rattle.spec.specs.Answers.{Answer, refused, done, started, stored, idle, cou
 use Rattle.spec.specs.Transaction.{State, state_of}
 use Rattle.spec.specs.Calls.{Outcome, outcome, left, settle, lent_ok, ready_ok, start_commit, create, write, commit, advance}
 pub use Rattle.std.proofs.lemmas.List.{nil_from_length as nil-of}
-use Rattle.promises.specs.Ready.{refusal_is, refused-is}
+use Rattle.spec.proofs.Refusals.{of-refusal, refused-is}
 use Rattle.promises.specs.Restored.{stored_in, restored, create-keeps, write_keeps, lent-work}
 use Rattle.cardfile.specs.Cards.{amount_bytes}
 use Rattle.cardfile.specs.Lines.{Standing, card, standing, line_at, line_number, name_told}
@@ -56,7 +56,7 @@ begun (run e) = done
 begun no_run = done
 
 begun-refusal : (r : Refusal) → begun (refusal_of r) ≡ refusal_of r
-begun-refusal r = let f = (refusal_is r).1.1 in ap begun f ∙ sym f
+begun-refusal = of-refusal (λ a. begun a ≡ a) (λ n vs. refl)
 
 pub begin-is : (s : State) → outcome s (begun (commit s).answer) ≡ begin s
 unfolding begin idle_ok commit

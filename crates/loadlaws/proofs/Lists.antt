@@ -19,7 +19,7 @@ use Rattle.spec.specs.CutRule.{call, Both, Moment, next, after, Starts, start_of
 use Rattle.cardfile.specs.Cards.{name_of, amount_bytes}
 use Rattle.cardfile.specs.Lines.{Standing, card, too_long, malformed, nothing, standing, line_number}
 use Rattle.loader.specs.Load.{idle_ok, store_line, LoadOutcome, naming, taken_up, take_line, after_begin, load_in, load_step}
-use Rattle.promises.specs.Ready.{refusal_is}
+use Rattle.spec.proofs.Refusals.{of-refusal}
 use Rattle.promises.specs.Advance.{is_advanced, advance-advanced}
 use Rattle.promises.specs.Reached.{Reached, after-append, reached-start, reached-after, moment-of}
 use Rattle.loadlaws.specs.Lists.{line_calls, take_calls, begin_calls, calls_in, step_calls, LineTaken, stopped, kept, line-goes, follow_answer, follow_load, LoadEvent, other, load, load_next, load_after, event_calls, flat, load-survives, SurvivesHere}
@@ -51,7 +51,7 @@ refused-follows p l line (run e) h = absurd (true≢false (sym h))
 refused-follows p l line no_run h = absurd (true≢false (sym h))
 
 refusal-follows : (p : Plain) (l : Standing) (r : Refusal) → follow_answer p l (refusal_of r) ≡ p
-refusal-follows p l r = let f = refusal_is r in ap (follow_answer p l) f.1.1
+refusal-follows p l = of-refusal (λ a. follow_answer p l a ≡ p) (λ n vs. refl)
 
 pub advance-follows : (N : ℕ) (p : Plain) (l : Standing) (a : Answer) → is_advanced a ≡ true → follow N p Advance a ≡ follow_answer p l a
 advance-follows N p l (refused n vs) h = refl

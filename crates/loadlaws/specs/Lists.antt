@@ -20,7 +20,7 @@ use Rattle.cardfile.specs.Cards.{name_of, amount_bytes}
 use Rattle.cardfile.specs.Lines.{Standing, card, too_long, malformed, nothing, standing, line_number}
 use Rattle.loader.specs.Load.{idle_ok, store_line, LoadAnswer, answered, none_left, LoadOutcome, naming, taken_up, take_line, after_begin, load_in, load_step, leaves_all}
 use Rattle.laws.specs.Files.{crash-safe}
-use Rattle.promises.specs.Ready.{refused-is}
+use Rattle.spec.proofs.Refusals.{refused-is}
 use Rattle.loader.proofs.Kept.{line-commits}
 
 -- ---- the calls of a step

@@ -23,7 +23,7 @@ use Rattle.cardfile.specs.Cards.{Entry, name_of, amount_bytes}
 use Rattle.cardfile.specs.Lines.{card, standing, line_number}
 use Rattle.loader.specs.Load.{idle_ok, begin, left_load, LoadAnswer, answered, LoadOutcome, loaded, load_step}
 use Rattle.promises.specs.Reached.{Reached}
-use Rattle.promises.specs.Ready.{refused-is}
+use Rattle.spec.proofs.Refusals.{refused-is}
 use Rattle.loader.proofs.Laws.{nil-of}
 use Rattle.loadlaws.specs.Lists.{load, load_next}
 

@@ -13,8 +13,8 @@ use Rattle.spec.specs.declared.Phase.TheVariants.{Closed, Ready, Committing, Rec
 use Rattle.spec.specs.declared.Session.{Session}
 use Rattle.spec.specs.declared.Extent.{Extent}
 use Rattle.spec.specs.declared.Refusal.{Refusal}
-use Rattle.spec.specs.declared.Refusal.TheVariants.{DeviceSize, WorkSize, BadName, TooLarge, BadHeader, Unsound, NotReady, Unknown, Taken, NoInode, NoSpace, TooManyExtents, TooManyStaged, ListShort}
-use Rattle.spec.specs.Answers.{Answer, refused, done, started, stored, idle, counted, file, no_file, run, no_run, is_refused, refusal_of, refusal_number, value_told, fault_told}
+use Rattle.spec.proofs.Refusals.{of-refusal}
+use Rattle.spec.specs.Answers.{Answer, refused, done, started, stored, idle, counted, file, no_file, run, no_run, refusal_of, refusal_number, value_told, fault_told}
 use Rattle.spec.specs.Calls.{Outcome, left, left_buffer}
 use Rattle.mirror.specs.declared.CAdvanced.{CAdvanced}
 use Rattle.mirror.specs.declared.CCounted.{CCounted}
@@ -57,25 +57,6 @@ module _ (n d : ℕ) where
 pub ruleset phase_rules = (phase-1, phase-2, phase-3, phase-other)
 
 -- ---- a refusal: what holds of each number and each list of values holds of each of them
-
-of-refusal : (P : Answer → Type 0) → ((n : ℕ) (vs : List ℕ) → P (refused n vs)) → (r : Refusal) → P (refusal_of r)
-of-refusal P f DeviceSize = f _ _
-of-refusal P f WorkSize = f _ _
-of-refusal P f BadName = f _ _
-of-refusal P f TooLarge = f _ _
-of-refusal P f (BadHeader i) = f _ _
-of-refusal P f Unsound = f _ _
-of-refusal P f NotReady = f _ _
-of-refusal P f Unknown = f _ _
-of-refusal P f Taken = f _ _
-of-refusal P f NoInode = f _ _
-of-refusal P f NoSpace = f _ _
-of-refusal P f TooManyExtents = f _ _
-of-refusal P f TooManyStaged = f _ _
-of-refusal P f ListShort = f _ _
-
-pub refused-told : (r : Refusal) → is_refused (refusal_of r) ≡ true
-refused-told = of-refusal (λ a. is_refused a ≡ true) (λ n vs. refl)
 
 -- the value that it tells, and that it tells no number of an accepted call
 pub refused-numbers : (r : Refusal) → (unwrap_or (fault_told r) 0 ≡ fault_in (refusal_of r)) × (values_of (refusal_of r) ≡ [])

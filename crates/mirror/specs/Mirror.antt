@@ -55,7 +55,7 @@ encode s = head_of s.blocks s.phase s.count
 
 -- ---- answers
 
--- refusal 10: "the lowest record that is" wrong; 20, 21 and 24 of a conversion: "the line"; 0 for any other answer
+-- refusal 10: "the lowest record that is" wrong; 22 and 23 of open: the record or block "with its number"; 20, 21 and 24 of a conversion: "the line"; 0 for any other answer
 abbrev pub fault_in : Answer → ℕ
 fault_in (refused n []) = 0
 fault_in (refused n (i ∷ vs)) = i

@@ -17,7 +17,7 @@ pub struct Head {
     pub count: u64,
 }
 
-// format, open, abort, create, remove, rename, write, set-size: refusal 0 is accepted; fault is the wrong record of refusal 10, else 0.
+// format, open, abort, create, remove, rename, write, set-size: refusal 0 is accepted; fault is what 10, 22 and 23 of open name, else 0.
 #[repr(C)]
 #[derive(Clone, Copy, Default)]
 pub struct CFinished {

@@ -7,20 +7,20 @@ use mathlib.Core.List.{List, [], ◌∷◌, ◌++◌}
 use Rattle.std.proofs.Math.Option.{Option, none, some, map, some-injective, some-ne-none}
 use Rattle.spec.specs.Layout.{block_size, data_start, fewest_blocks, most_blocks, work_size, max_file_size, inode_count}
 use Rattle.spec.specs.Bytes.{found, place, is_some, all_zero, keep, up_from, member, all}
-use Rattle.spec.specs.Disk.{Disk, Slice, is_allowed}
+use Rattle.spec.specs.Disk.{Disk, Slice, disk_block, is_allowed}
 use Rattle.spec.specs.Bitmap.{bits_of, free_bits}
 use Rattle.spec.specs.Inode.{is_name, name_at, is_empty, find, find_empty, reached}
 use Rattle.spec.specs.Sound.{free_blocks}
 use Rattle.spec.specs.declared.Session.{Session}
 use Rattle.spec.specs.declared.Refusal.{Refusal}
-use Rattle.spec.specs.declared.Refusal.TheVariants.{DeviceSize, WorkSize, BadName, TooLarge, BadHeader, Unsound, NotReady, Unknown, Taken, NoInode, NoSpace, TooManyExtents, TooManyStaged, ListShort}
+use Rattle.spec.specs.declared.Refusal.TheVariants.{DeviceSize, WorkSize, BadName, TooLarge, BadHeader, NotReady, Unknown, Taken, NoInode, NoSpace, TooManyExtents, TooManyStaged, ListShort, DamagedInode, DamagedBlock}
 use Rattle.spec.specs.Session.{staged_in, with_staged}
 use Rattle.spec.specs.Answers.{Answer, refused, done, started, stored, idle, counted, file, no_file, run, no_run, refusal_of, is_refused, Result, refuse, accept}
 use Rattle.spec.specs.Transaction.{State, view}
 use Rattle.spec.specs.Calls.{outcome, is_ready, lent_ok, create, write, commit, Change, Create, Write, Call, Do, step}
 use Rattle.spec.specs.Plain.{Plain, Mode, Closed, Ready, Committing, Recovering, phase_in, phase_of, place_of, after_change}
 use Rattle.spec.specs.Sentences.{File, file_at, free_list, staged_by}
-use Rattle.spec.specs.Refusals.{wrong_device, wrong_work, wrong_name, over_limit, wrong_phase, is_ready_mode, name_unknown, of_record, lacks_room, is_scattered, overstaged, fault_of, test, first_failed, due}
+use Rattle.spec.specs.Refusals.{wrong_device, wrong_work, wrong_name, over_limit, wrong_phase, is_ready_mode, name_unknown, of_record, lacks_room, is_scattered, overstaged, fault_of, inode_fault_of, block_fault_of, test, first_failed, due}
 use Rattle.spec.specs.CutRule.{call, Both, refusal_in, Moment, Changes, next, Rightly}
 use Rattle.block.proofs.Laws.{same_self}
 use Rattle.logs.specs.Stores.{Whole}
@@ -63,11 +63,13 @@ told-accepted no_file h = refl
 told-accepted (run e) h = refl
 told-accepted no_run h = refl
 
-abbrev rows : (a b c d e f g h i j k l m n : Bool) → ℕ → Option Refusal
-rows a b c d e f g h i j k l m n x =
+-- the tests of a call on a state, by their results
+abbrev rows : (a b c d e f g h i j k l m n o : Bool) → State → Option Refusal
+rows a b c d e f g h i j k l m n o s =
     first_failed
-    (test a DeviceSize ∷ test b WorkSize ∷ test c BadName ∷ test d TooLarge ∷ test e (BadHeader x) ∷ test f Unsound ∷ test g NotReady
-    ∷ test h Unknown ∷ test i Taken ∷ test j NoInode ∷ test k NoSpace ∷ test l TooManyExtents ∷ test m TooManyStaged ∷ test n ListShort ∷ [])
+    (test a DeviceSize ∷ test b WorkSize ∷ test c BadName ∷ test d TooLarge ∷ test e (BadHeader (found (fault_of s) 0 (λ x. x)))
+    ∷ test f (DamagedInode (found (inode_fault_of s) 0 (λ x. x))) ∷ test g (DamagedBlock (disk_block (found (block_fault_of s) 0 (λ x. x)))) ∷ test h NotReady
+    ∷ test i Unknown ∷ test j Taken ∷ test k NoInode ∷ test l NoSpace ∷ test m TooManyExtents ∷ test n TooManyStaged ∷ test o ListShort ∷ [])
 
 lent-shows : (s : State) (t : Bool) → lent_ok s ≡ accept t
     → (is_allowed s.device.size ≡ true) × (eqb (block_size * s.session.blocks) s.device.size ≡ true) × (eqb s.work.size work_size ≡ true)
@@ -254,12 +256,11 @@ module _ (N : ℕ) (b : Both) (r : Reached N b) (t : Bool) (lent : lent_ok b.sto
       extents-pass = of-record (is_scattered N s₁) ∙ extents-is name amount eight N s₁ i file₁
 
       due-is : (k o : Bool) → eqb (length (free_list N v₁)) 0 ≡ k → of_record (overstaged N s₁) s₁ c₁ ≡ o
-          → due N b₁.plain s₁ c₁ ≡ rows false false false false false false false false false false k false o false (found (fault_of s₁) 0 (λ x. x))
+          → due N b₁.plain s₁ c₁ ≡ rows false false false false false false false false false false false k false o false s₁
       unfolding due
       due-is k o e f =
           let z = room-passes ∙ e in
-          λ j. rows (device-passes j) (work-passes j) (name-passes j) (size-passes j) false false (phase-passes j) (known-passes j) false false (z j) (extents-pass j) (f j) false
-          (found (fault_of s₁) 0 (λ x. x))
+          λ j. rows (device-passes j) (work-passes j) (name-passes j) (size-passes j) false false false (phase-passes j) (known-passes j) false false (z j) (extents-pass j) (f j) false s₁
 
       write-rightly : Rightly step N b₁ c₁
       write-rightly = rightly-of N b₁ r₁ c₁

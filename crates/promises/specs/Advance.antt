@@ -15,7 +15,7 @@ use Rattle.spec.specs.Answers.{Answer, refused, done, started, stored, idle, cou
 use Rattle.spec.specs.Transaction.{State, BlockStore}
 use Rattle.spec.specs.Journal.{commit_stores, recovery_stores}
 use Rattle.spec.specs.Calls.{Outcome, outcome, settle, lent_ok, perform, advance_in, advance}
-use Rattle.promises.specs.Ready.{refusal_is}
+use Rattle.spec.proofs.Refusals.{of-refusal}
 
 -- a refusal, a store or that nothing is under way
 abbrev pub is_advanced : Answer → Bool
@@ -78,7 +78,7 @@ module _ (s : State) where
   advance-advanced = go (lent_ok s)
     where
       go : (r : Result Bool) → is_advanced (settle (outcome s) (r >> accept (advance_in s s.session.phase))).answer ≡ true
-      go (refuse r) = ap is_advanced (refusal_is r).1.1
+      go (refuse r) = of-refusal (λ a. is_advanced a ≡ true) (λ n vs. refl) r
       go (accept t) = (advance-in s.session.phase).advanced
 
   pub advance-work : (advance s).after.work ≡ s.work

@@ -9,7 +9,7 @@ use Rattle.spec.specs.Bytes.{zeros, number2, number4, bytes2, bytes4}
 use Rattle.spec.specs.Disk.{Disk, with_block, in_data, is_target, is_allowed, open-Disk}
 use Rattle.spec.specs.Bitmap.{bits_of, bytes_of, picks, open-Bitmap}
 use Rattle.spec.specs.Inode.{Extent, extent, slots_in, bytes_of_slots, Inode, block_of_inode, place_of_inode, runs, levels_for, inode_with, bytes_of_inode, inode_of, levels_of, data_of, node_bytes, open-Inode}
-use Rattle.spec.specs.Sound.{apart, limits_hold}
+use Rattle.spec.specs.Sound.{apart, limits_hold, bit_fault}
 use Rattle.spec.specs.Session.{opened, staged_in, with_staged, Ready, open-Session}
 use Rattle.spec.specs.Transaction.{put, ascending, stage, open-Transaction}
 use Rattle.spec.specs.Plan.{Tree, resized, overlay, clear_tail, holds_data, is_last_kept, open-Plan}
@@ -177,6 +177,28 @@ limits-hold = refl
 
 touching : apart (extent 42 2 ∷ extent 44 1 ∷ []) ≡ false
 touching = refl
+
+-- S1, S7: of the blocks from 40 on, with these bits, where files reach 43 and 44
+as-reached : bit_fault 46 (43 ∷ 44 ∷ []) 40 (1 ∷ 1 ∷ 0 ∷ 1 ∷ 1 ∷ 0 ∷ 1 ∷ []) ≡ none
+unfolding open-Disk
+as-reached = refl
+
+-- A2: "the lowest block whose bit is wrong or which is reached twice"
+reached-twice : bit_fault 46 (44 ∷ 43 ∷ 43 ∷ []) 40 (1 ∷ 1 ∷ 0 ∷ 1 ∷ 1 ∷ 1 ∷ 1 ∷ []) ≡ some 43
+unfolding open-Disk
+reached-twice = refl
+
+bit-below-it : bit_fault 46 (44 ∷ 43 ∷ 43 ∷ []) 40 (1 ∷ 0 ∷ 0 ∷ 1 ∷ 1 ∷ 0 ∷ 1 ∷ []) ≡ some 41
+unfolding open-Disk
+bit-below-it = refl
+
+free-but-marked : bit_fault 46 (43 ∷ 44 ∷ []) 40 (1 ∷ 1 ∷ 0 ∷ 1 ∷ 1 ∷ 1 ∷ 0 ∷ []) ≡ some 45
+unfolding open-Disk
+free-but-marked = refl
+
+bit-behind : bit_fault 46 (43 ∷ 44 ∷ []) 40 (1 ∷ 1 ∷ 0 ∷ 1 ∷ 1 ∷ 0 ∷ 0 ∷ []) ≡ some 46
+unfolding open-Disk
+bit-behind = refl
 
 -- "Image i of the work space is that of the i-th block staged": a block staged before keeps its place
 staged-again : (stage (record { blocks = 34 ∷ 33 ∷ []; image = λ i. [] }) (put 34 (7 ∷ []))).blocks ≡ 34 ∷ 33 ∷ []

@@ -5,7 +5,7 @@ use Rattle.spec.specs.Inode.{Extent}
 use Rattle.spec.specs.declared.BlockStored.{BlockStored}
 use Rattle.spec.specs.declared.FileRecord.{FileRecord}
 pub use Rattle.spec.specs.declared.Refusal.{Refusal}
-pub use Rattle.spec.specs.declared.Refusal.TheVariants.{DeviceSize, WorkSize, BadName, TooLarge, BadHeader, Unsound, NotReady, Unknown, Taken, NoInode, NoSpace, TooManyExtents, TooManyStaged, ListShort}
+pub use Rattle.spec.specs.declared.Refusal.TheVariants.{DeviceSize, WorkSize, BadName, TooLarge, BadHeader, NotReady, Unknown, Taken, NoInode, NoSpace, TooManyExtents, TooManyStaged, ListShort, DamagedInode, DamagedBlock}
 
 pub data Answer : Type 0 where
   -- the refusal's number, and the values that go with it
@@ -27,14 +27,14 @@ pub data Answer : Type 0 where
   run : Extent → Answer
   no_run : Answer
 
--- "Refusals from the input", "Refusals from the state": the number of each, and for 10 "the lowest record that is" wrong
+-- "Refusals from the input", "Refusals from the state": the number of each, and for 10 "the lowest record that is" wrong.
+-- A2: "22 record damaged, with its number; 23 block damaged, with its number"; 11 "no longer occurs"
 abbrev pub refusal_of : Refusal → Answer
 refusal_of DeviceSize = refused 1 []
 refusal_of WorkSize = refused 2 []
 refusal_of BadName = refused 3 []
 refusal_of TooLarge = refused 4 []
 refusal_of (BadHeader i) = refused 10 (i ∷ [])
-refusal_of Unsound = refused 11 []
 refusal_of NotReady = refused 12 []
 refusal_of Unknown = refused 13 []
 refusal_of Taken = refused 14 []
@@ -43,6 +43,8 @@ refusal_of NoSpace = refused 16 []
 refusal_of TooManyExtents = refused 17 []
 refusal_of TooManyStaged = refused 18 []
 refusal_of ListShort = refused 19 []
+refusal_of (DamagedInode i) = refused 22 (i ∷ [])
+refusal_of (DamagedBlock b) = refused 23 (b.0 ∷ [])
 
 -- the number of an answer that is a refusal, 0 of one that is none
 abbrev pub refusal_number : Answer → ℕ
@@ -71,7 +73,7 @@ value_told no_file = None
 value_told (run e) = None
 value_told no_run = None
 
--- the wrong record that refusal 10 names
+-- the record of block 0 that refusal 10 names, the damaged record of 22, the damaged block of 23
 abbrev pub fault_told : Refusal → Option ℕ
 fault_told r = value_told (refusal_of r)
 

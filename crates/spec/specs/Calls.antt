@@ -3,13 +3,13 @@ use Rattle.std.specs.Prelude.{ℕ, zero, suc, ◌+◌, ◌*◌, ◌-◌, ◌/◌
 use Rattle.std.proofs.Math.ListN.{get_elem?}
 use Rattle.spec.specs.Layout.{block_size, most_blocks, header_block, bitmap_block, data_start, log_length, work_size, inode_count, max_file_size}
 use Rattle.spec.specs.Bytes.{found, zeros, is_some}
-use Rattle.spec.specs.Disk.{Disk, with_block, is_allowed}
+use Rattle.spec.specs.Disk.{Disk, disk_block, with_block, is_allowed}
 use Rattle.spec.specs.Bitmap.{bits_of, bytes_of, free_bits}
 use Rattle.spec.specs.Inode.{Extent, is_name, inode_at, name_at, is_empty, find, find_empty, data_of, runs}
-use Rattle.spec.specs.Sound.{volume_sound}
+use Rattle.spec.specs.Sound.{inode_fault, block_fault}
 use Rattle.spec.specs.Map.{content_of}
 use Rattle.spec.specs.Session.{Phase, Closed, Ready, Committing, Recovering, Session, opened, closed_on, in_phase, staged_in}
-use Rattle.spec.specs.Answers.{DeviceSize, WorkSize, BadName, TooLarge, BadHeader, Unsound, NotReady, Unknown, Taken, NoInode, TooManyStaged, ListShort, Answer, done, started, stored, idle, counted, file, no_file, run, no_run, refusal_of, Result, refuse, accept, require, ◌>>=◌, ◌>>◌}
+use Rattle.spec.specs.Answers.{DeviceSize, WorkSize, BadName, TooLarge, BadHeader, NotReady, Unknown, Taken, NoInode, TooManyStaged, ListShort, DamagedInode, DamagedBlock, Answer, done, started, stored, idle, counted, file, no_file, run, no_run, refusal_of, Result, refuse, accept, require, ◌>>=◌, ◌>>◌}
 use Rattle.spec.specs.Transaction.{State, with_session, view, BlockStore, stage_all, with_staging, state_of}
 use Rattle.spec.specs.Journal.{targets_in, header_fault, commit_stores, recovery_stores}
 use Rattle.spec.specs.Plan.{tree_for, rewrites, creates, removes, renames}
@@ -130,9 +130,17 @@ open_phase d = cond (eqb (length (targets_in (d header_block))) 0) Ready (Recove
 abbrev pub header_ok : ℕ → Disk → Result Bool
 header_ok N d = found (header_fault N (d header_block)) (accept true) (λ i. refuse (BadHeader i))
 
--- 11. "Block 0 empty but S1 to S8 do not all hold."
+-- 22. "If some record breaks S2 to S6 or S8 we want the lowest such record"
+abbrev pub inodes_ok : ℕ → Disk → Result Bool
+inodes_ok N d = found (inode_fault N d) (accept true) (λ i. refuse (DamagedInode i))
+
+-- 23. "If all records are fine but S1 or S7 fails, we want the lowest block whose bit is wrong or which is reached twice."
+abbrev pub blocks_ok : ℕ → Disk → Result Bool
+blocks_ok N d = found (block_fault N d) (accept true) (λ b. refuse (DamagedBlock (disk_block b)))
+
+-- "22 comes before 23, both take the place of 11": "Block 0 empty but .."
 abbrev pub volume_ok : ℕ → Disk → Result Bool
-volume_ok N d = cond (is_ready (open_phase d)) (require (volume_sound N d) Unsound) (accept true)
+volume_ok N d = cond (is_ready (open_phase d)) (inodes_ok N d >> blocks_ok N d) (accept true)
 
 unfoldable pub open_store : State → Outcome
 open_store s = settle (outcome s) do

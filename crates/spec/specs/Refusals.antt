@@ -3,11 +3,11 @@ use Rattle.std.specs.Prelude.{ℕ, ◌+◌, ◌*◌, ◌-◌, ◌/◌, Bool, tru
 use Rattle.std.proofs.Math.Option.{Option, none, some}
 use Rattle.spec.specs.Layout.{block_size, header_block, bitmap_block, work_size, inode_count, log_length, max_file_size, max_extents}
 use Rattle.spec.specs.Bytes.{found, all, any, keep, member, is_some, up_from}
-use Rattle.spec.specs.Disk.{is_allowed}
+use Rattle.spec.specs.Disk.{disk_block, is_allowed}
 use Rattle.spec.specs.Inode.{is_name, is_empty, find}
-use Rattle.spec.specs.Sound.{volume_sound}
+use Rattle.spec.specs.Sound.{inode_fault, block_fault}
 use Rattle.spec.specs.declared.Refusal.{Refusal}
-use Rattle.spec.specs.declared.Refusal.TheVariants.{DeviceSize, WorkSize, BadName, TooLarge, BadHeader, Unsound, NotReady, Unknown, Taken, NoInode, NoSpace, TooManyExtents, TooManyStaged, ListShort}
+use Rattle.spec.specs.declared.Refusal.TheVariants.{DeviceSize, WorkSize, BadName, TooLarge, BadHeader, NotReady, Unknown, Taken, NoInode, NoSpace, TooManyExtents, TooManyStaged, ListShort, DamagedInode, DamagedBlock}
 use Rattle.spec.specs.Session.{staged_in}
 use Rattle.spec.specs.Transaction.{State, view}
 use Rattle.spec.specs.Journal.{targets_in, header_fault}
@@ -126,10 +126,23 @@ fault_of s = header_fault (s.device.size / block_size) (s.device.block header_bl
 abbrev pub wrong_header : State → Call → Bool
 wrong_header s c = is_open c && is_some (fault_of s)
 
--- 11. "Block 0 empty but S1 to S8 do not all hold. Open only."
-abbrev pub wrong_volume : State → Call → Bool
-wrong_volume s c =
-    is_open c && eqb (length (targets_in (s.device.block header_block))) 0 && not (volume_sound (s.device.size / block_size) s.device.block)
+-- A2: 22 and 23 "take the place of 11", "Block 0 empty but .. Open only."
+abbrev pub opens_empty : State → Call → Bool
+opens_empty s c = is_open c && eqb (length (targets_in (s.device.block header_block))) 0
+
+-- 22. "If some record breaks S2 to S6 or S8 we want the lowest such record"
+abbrev pub inode_fault_of : State → Option ℕ
+inode_fault_of s = inode_fault (s.device.size / block_size) s.device.block
+
+abbrev pub wrong_inode : State → Call → Bool
+wrong_inode s c = opens_empty s c && is_some (inode_fault_of s)
+
+-- 23. "If all records are fine but S1 or S7 fails, we want the lowest block whose bit is wrong or which is reached twice."
+abbrev pub block_fault_of : State → Option ℕ
+block_fault_of s = block_fault (s.device.size / block_size) s.device.block
+
+abbrev pub wrong_block : State → Call → Bool
+wrong_block s c = opens_empty s c && is_some (block_fault_of s)
 
 -- 12. "Session not ready (all calls but format, open and advance)."
 abbrev pub is_ready_mode : Mode → Bool
@@ -216,7 +229,8 @@ tests N p s c =
     ∷ test (wrong_name c) BadName
     ∷ test (over_limit c) TooLarge
     ∷ test (wrong_header s c) (BadHeader (found (fault_of s) 0 (λ i. i)))
-    ∷ test (wrong_volume s c) Unsound
+    ∷ test (wrong_inode s c) (DamagedInode (found (inode_fault_of s) 0 (λ i. i)))
+    ∷ test (wrong_block s c) (DamagedBlock (disk_block (found (block_fault_of s) 0 (λ b. b))))
     ∷ test (wrong_phase p c) NotReady
     ∷ test (name_unknown p c) Unknown
     ∷ test (name_taken p c) Taken

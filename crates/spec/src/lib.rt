@@ -162,7 +162,6 @@ pub enum Refusal {
     BadName,
     TooLarge,
     BadHeader(usize),
-    Unsound,
     NotReady,
     Unknown,
     Taken,
@@ -171,10 +170,12 @@ pub enum Refusal {
     TooManyExtents,
     TooManyStaged,
     ListShort,
+    DamagedInode(usize),
+    DamagedBlock(DiskBlock),
 }
 
 impl Refusal {
-    // "Refusals from the input", "Refusals from the state": the number of each. The one place that tells them: a discriminant cannot, since 10 has a value,
+    // "Refusals from the input", "Refusals from the state": the number of each. The one place that tells them: a discriminant cannot, since some have a value,
     // and `usize::from(refusal)` would not say which number of it is meant.
     pub fn number(self) -> u32
         ensures { result ≡ refusal_number (refusal_of self) }
@@ -185,7 +186,6 @@ impl Refusal {
             Refusal::BadName => 3,
             Refusal::TooLarge => 4,
             Refusal::BadHeader(_) => 10,
-            Refusal::Unsound => 11,
             Refusal::NotReady => 12,
             Refusal::Unknown => 13,
             Refusal::Taken => 14,
@@ -194,15 +194,18 @@ impl Refusal {
             Refusal::TooManyExtents => 17,
             Refusal::TooManyStaged => 18,
             Refusal::ListShort => 19,
+            Refusal::DamagedInode(_) => 22,
+            Refusal::DamagedBlock(_) => 23,
         }
     }
 
-    // The wrong record that refusal 10 names.
+    // The record of block 0 that refusal 10 names, the damaged record of 22, the damaged block of 23.
     pub fn fault(self) -> Option<usize>
         ensures { result ≡ fault_told self }
     {
         match self {
-            Refusal::BadHeader(i) => Some(i),
+            Refusal::BadHeader(i) | Refusal::DamagedInode(i) => Some(i),
+            Refusal::DamagedBlock(b) => Some(b.0 as usize),
             _ => None,
         }
     }

@@ -6,21 +6,22 @@ use mathlib.Core.List.{List}
 use native.Mathlib.Omega.{arith}
 use mathlib.Core.Option as math
 use mathlib.Core.Option.{none, some}
-use Rattle.std.specs.Prelude.{Option, None, Some}
+use Rattle.std.specs.Prelude.{Option, None, Some, Result as Returned, IfOk, IfErr}
 use Rattle.block.specs.Places.{found_at}
 use borrow.Author.Tests.{eq-eqb, ne_eqb}
 use lib.ListN.{length, take, drop, length-take, length-drop}
-use Rattle.spec.specs.Disk.{Slice, blocks_of, is_allowed, slice_of}
-use Rattle.spec.specs.Sound.{volume_sound}
+use Rattle.spec.specs.Disk.{Slice, blocks_of, disk_block, is_allowed, slice_of}
+use Rattle.spec.specs.Sound.{inode_fault, block_fault}
 use Rattle.spec.specs.Journal.{header_fault, targets_in}
 use Rattle.block.proofs.Laws.{allowed-says, block-is, exactly-all}
 use Rattle.spec.specs.declared.Session.{Session}
 use Rattle.spec.specs.declared.Phase.TheVariants.{Ready, Recovering}
 use Rattle.spec.specs.declared.Refusal.{Refusal}
-use Rattle.spec.specs.declared.Refusal.TheVariants.{DeviceSize, BadHeader, Unsound}
+use Rattle.spec.specs.declared.Refusal.TheVariants.{DeviceSize, BadHeader, DamagedInode, DamagedBlock}
 use Rattle.spec.specs.Session.{opened, closed_on}
 use Rattle.spec.specs.Answers.{done, refusal_of, refuse, accept, require}
 use Rattle.spec.specs.Transaction.{state_of}
+use Rattle.fsck.specs.Damage.{damage_of}
 use Rattle.spec.specs.Calls.{outcome, left, ready_ok, empty_disk, format, open_phase, open_store, abort}
 
 -- ---- format
@@ -86,15 +87,30 @@ module _ (s : Session) (d w : List ℕ) where
       unfolding open_store open_phase
       open-log h = rw (e, f, ne_eqb (length (targets_in (blocks_of d 0))) 0 h)
 
-      pub open-unsound : length (targets_in (blocks_of d 0)) ≡ 0 → volume_sound (length d / 512) (blocks_of d) ≡ false
-          → left s d w (refusal_of Unsound) ≡ open_store (state_of s d w)
-      unfolding open_store open_phase
-      open-unsound h g = rw (e, f, eq-eqb (length (targets_in (blocks_of d 0))) 0 h, g)
+      module _ (h : length (targets_in (blocks_of d 0)) ≡ 0) where
+        pub open-inode : (i : ℕ) → inode_fault (length d / 512) (blocks_of d) ≡ some i → left s d w (refusal_of (DamagedInode i)) ≡ open_store (state_of s d w)
+        unfolding open_store open_phase
+        open-inode i g = rw (e, f, eq-eqb (length (targets_in (blocks_of d 0))) 0 h, g)
 
-      pub open-ready : length (targets_in (blocks_of d 0)) ≡ 0 → volume_sound (length d / 512) (blocks_of d) ≡ true
-          → left (opened (length d / 512) Ready) d w done ≡ open_store (state_of s d w)
-      unfolding open_store open_phase
-      open-ready h g = rw (e, f, eq-eqb (length (targets_in (blocks_of d 0))) 0 h, g)
+        module _ (g : inode_fault (length d / 512) (blocks_of d) ≡ none) where
+          pub open-block : (b : ℕ) → block_fault (length d / 512) (blocks_of d) ≡ some b → left s d w (refusal_of (DamagedBlock (disk_block b))) ≡ open_store (state_of s d w)
+          unfolding open_store open_phase
+          open-block b k = rw (e, f, eq-eqb (length (targets_in (blocks_of d 0))) 0 h, g, k)
+
+          pub open-ready : block_fault (length d / 512) (blocks_of d) ≡ none → left (opened (length d / 512) Ready) d w done ≡ open_store (state_of s d w)
+          unfolding open_store open_phase
+          open-ready k = rw (e, f, eq-eqb (length (targets_in (blocks_of d 0))) 0 h, g, k)
+
+        -- by what is damaged
+        pub open-damaged : (r : Returned (Unit {0}) Refusal) → r ≡ damage_of (inode_fault (length d / 512) (blocks_of d)) (block_fault (length d / 512) (blocks_of d))
+            → IfOk r (λ _. left (opened (length d / 512) Ready) d w done ≡ open_store (state_of s d w)) × IfErr r (λ why. left s d w (refusal_of why) ≡ open_store (state_of s d w))
+        open-damaged r q = rw q (go (inode_fault (length d / 512) (blocks_of d)) refl (block_fault (length d / 512) (blocks_of d)) refl)
+          where
+            go : (o : math.Option ℕ) → inode_fault (length d / 512) (blocks_of d) ≡ o → (p : math.Option ℕ) → block_fault (length d / 512) (blocks_of d) ≡ p
+                → IfOk (damage_of o p) (λ _. left (opened (length d / 512) Ready) d w done ≡ open_store (state_of s d w)) × IfErr (damage_of o p) (λ why. left s d w (refusal_of why) ≡ open_store (state_of s d w))
+            go (some i) g p k = (tt, open-inode i g)
+            go none g (some b) k = (tt, open-block g b k)
+            go none g none k = (open-ready g k, tt)
 
 -- ---- commit and abort
 

@@ -11,7 +11,7 @@ ghost use Rattle.spec.specs.Calls.{left, format, open_store, advance, commit, ab
 
 use block::block_in;
 use checks::{done, is_allowed, ready, refused, require};
-use fsck::is_sound;
+use fsck::undamaged;
 use header::{header_fault, targets_in};
 use journal::{advance_in, after, begun_phase, commit_in};
 use mkfs::make_empty;
@@ -34,7 +34,7 @@ pub fn format(device: &mut [u8], session: Session) -> Answered<()>
     done(Session::closed_on(size / Limits::BLOCK_SIZE))
 }
 
-// The phase in which a device opens: recovering where its header lists targets, else ready if the volume is sound.
+// The phase in which a device opens: recovering where its header lists targets, else ready if the volume is not damaged.
 fn phase_of(device: &[u8]) -> Result<Phase, Refusal>
     ensures { IfOk result (λ phase. (s : Session) (work : List ℕ) → left (opened (length device.now / 512) phase) device.now work done ≡ open_store (state_of s device.now work))
         × IfErr result (λ why. (s : Session) (work : List ℕ) → left s device.now work (refusal_of why) ≡ open_store (state_of s device.now work)) }
@@ -48,7 +48,7 @@ fn phase_of(device: &[u8]) -> Result<Phase, Refusal>
     if targets_in(head).len() != 0 {
         return Ok(Phase::Recovering(0));
     }
-    require(is_sound(device, n), Refusal::Unsound)?;
+    undamaged(device, n)?;
     Ok(Phase::Ready)
 }
 

@@ -1,23 +1,23 @@
 -- Wrong stores, each with the row of the table that refutes it.
-use Rattle.std.specs.Prelude.{suc, ◌+◌, ◌-◌, ◌/◌, Bool, true, false, not, ◌≡◌, refl, List, [], ◌∷◌, ◌++◌, map, reverse, length, take, drop, T}
+use Rattle.std.specs.Prelude.{ℕ, suc, ◌+◌, ◌-◌, ◌/◌, Bool, true, false, cond, not, ltb, ◌≡◌, refl, List, [], ◌∷◌, ◌++◌, map, reverse, length, take, drop, T}
 use Rattle.std.proofs.Common.{ap, ◌∙◌}
-use Rattle.spec.specs.Bytes.{zeros, all, concat, pieces}
+use Rattle.spec.specs.Bytes.{zeros, all, concat, pieces, found}
 use Rattle.spec.specs.Disk.{Slice, with_block, open-Disk}
 use Rattle.spec.specs.Bitmap.{open-Bitmap}
 use Rattle.spec.specs.Inode.{open-Inode}
-use Rattle.spec.specs.Sound.{open-Sound}
+use Rattle.spec.specs.Sound.{block_fault, open-Sound}
 use Rattle.spec.specs.Map.{open-Map}
 use Rattle.spec.specs.declared.Phase.{Phase}
 use Rattle.spec.specs.declared.Phase.TheVariants.{Closed, Ready, Committing, Recovering}
 use Rattle.spec.specs.Session.{opened, in_phase, open-Session}
-use Rattle.spec.specs.Answers.{Answer, refused, done, started, stored, idle, counted, file, no_file, run, no_run}
+use Rattle.spec.specs.Answers.{Answer, refused, done, started, stored, idle, counted, file, no_file, run, no_run, refusal_number}
 use Rattle.spec.specs.Transaction.{State, with_session, BlockStore, open-Transaction}
 use Rattle.spec.specs.Plan.{open-Plan}
 use Rattle.spec.specs.Journal.{commit_stores, open-Journal}
 use Rattle.spec.specs.Calls.{Outcome, outcome, perform, Create, Call, Format, Open, Advance, Commit, Abort, Do, Ask, step, open-Calls}
 use Rattle.spec.specs.Listing.{open-Listing}
 use Rattle.examples.specs.Lines.{Line, gives, Row, fresh, same_answer, then, hold, holds}
-use Rattle.examples.specs.Table.{A, E1, E2, E3, E4-early, E4-late, E6-gap, E10}
+use Rattle.examples.specs.Table.{A, E1, E2, E3, E4-early, E4-late, E6-gap, E10, damaged-inodes, damaged-blocks}
 
 abbrev pub Store : Type 0
 Store = State → Call → Outcome
@@ -159,6 +159,17 @@ replies_only a s c =
     let o = step s c in
     record { answer = a; after = o.after; buffer = o.buffer; list = o.list }
 
+-- A2: open tells 11 of a damaged device as it did before, names record or block 0, or looks at the blocks first
+abbrev pub with_damage : (ℕ → Answer) → Store
+with_damage f =
+    with_open (λ s.
+    let o = step s Open in
+    let n = refusal_number o.answer in
+    cond (ltb 21 n) (outcome s (f n)) o)
+
+abbrev pub blocks_first : Store
+blocks_first = with_open (λ s. found (block_fault 64 s.device.block) (step s Open) (λ b. outcome s (refused 23 (b ∷ []))))
+
 -- a wrong store, and the row that refutes it
 pub record Wrong : Type 0 where
   pub store : Store
@@ -172,7 +183,9 @@ wrong_stores =
     wrong refuses_all E1 ∷ wrong opens_all E10 ∷ wrong starts_nothing E2 ∷ wrong counts_from_zero E2 ∷ wrong feigns E3
     ∷ wrong clears_early E2 ∷ wrong lists_early E2 ∷ wrong stops_early E2 ∷ wrong copies_all E4-early ∷ wrong reads_committed E6-gap
     ∷ wrong turns_block0 E4-late ∷ wrong (repeats done) E1 ∷ wrong (repeats (counted 0)) E1 ∷ wrong (repeats idle) E1
-    ∷ wrong (replies_only done) E1 ∷ wrong (replies_only (counted 0)) E1 ∷ wrong (replies_only (stored 0 false 1)) E1 ∷ []
+    ∷ wrong (replies_only done) E1 ∷ wrong (replies_only (counted 0)) E1 ∷ wrong (replies_only (stored 0 false 1)) E1
+    ∷ wrong opens_all damaged-blocks ∷ wrong (with_damage (λ n. refused 11 [])) damaged-inodes ∷ wrong (with_damage (λ n. refused n (0 ∷ []))) damaged-blocks
+    ∷ wrong blocks_first damaged-blocks ∷ []
 
 -- each is refuted by its row
 pub every-wrong : T (all (λ w. not (holds w.store w.row)) wrong_stores)

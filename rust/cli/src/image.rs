@@ -6,8 +6,9 @@ use std::os::fd::AsFd;
 use std::os::unix::fs::{FileTypeExt, MetadataExt};
 use std::path::{Path, PathBuf};
 
-use purse::{Failure, FileDevice, Phase, Standing, Store, FILE_MOST, WORK_SIZE};
+use purse::{Failure, FileDevice, Phase, Refusal, Standing, Store, FILE_MOST, WORK_SIZE};
 
+use crate::damage::{explain, refused};
 use crate::output::tell;
 use crate::report::{counted, Answer, Force, Trouble};
 
@@ -61,11 +62,11 @@ impl Image {
     pub fn opened(&mut self, force: impl Fn(Standing) -> Force) -> Answer<(Store<'_>, FileDevice<'_>, u64)> {
         let mut device = FileDevice::new(&self.file);
         let mut store = Store::new(&mut self.bytes, &mut self.work);
-        store.open()?;
+        open(&mut store)?;
         let pending = store.phase() != Phase::Ready;
         match store.open_on(&mut device) {
             Ok(stores) => Ok((store, device, stores)),
-            Err(Failure::Refused(refusal)) if pending => Err(Trouble::Refused(refusal, no_redo())),
+            Err(Failure::Refused(refusal)) if pending => Err(no_redo(&redone(store.image()), refusal)),
             Err(Failure::Device(broken)) => Err(Trouble::broken(&self.path, &broken, force(broken.standing()))),
             Err(other) => Err(Trouble::commit(&self.path, other)),
         }
@@ -81,9 +82,23 @@ impl Image {
     }
 }
 
-/// Why a log is left as it is.
-pub fn no_redo() -> String {
-    "; the pending log does not lead to a sound box, so nothing was stored".into()
+/// Opens the store in memory; a refusal is told with what the image shows of the damage.
+pub fn open(store: &mut Store) -> Answer {
+    store.open().map_err(|refusal| refused(store.image(), refusal))
+}
+
+/// Why a log is left as it is: the refusal of the image that its redo makes.
+pub fn no_redo(redone: &[u8], refusal: Refusal) -> Trouble {
+    let more = explain(redone, refusal);
+    Trouble::Refused(refusal, more + "; the pending log does not lead to a sound box, so nothing was stored")
+}
+
+/// An image with its pending log redone, as far as it can be.
+fn redone(image: &[u8]) -> Vec<u8> {
+    let (mut image, mut work) = (image.to_vec(), vec![0; WORK_SIZE]);
+    // What comes out is refused: that is why it is asked for.
+    let _ = Store::new(&mut image, &mut work).open_in_memory();
+    image
 }
 
 /// What to do about a pending log, behind refusal 12.

@@ -7,12 +7,14 @@
 
 mod batch;
 mod commands;
+mod damage;
 mod image;
 mod name;
 mod output;
 mod picture;
 mod put;
 mod report;
+mod rules;
 mod scan;
 mod words;
 

@@ -1,4 +1,4 @@
-//! The records of a damaged box, read one by one without the rest of it, for `salvage`.
+//! The records of a damaged box, read one by one without the rest of it, for `salvage` and for what is told of the damage.
 //!
 //! This only gathers which blocks a record claims. Whether a record is sound is the library's to say: it is shown the
 //! record alone, in an image whose bit table fits it.
@@ -13,65 +13,70 @@ const DATA_AREA: usize = 42;
 const RECORD_SIZE: usize = 32;
 
 /// A record that is not empty.
-pub struct Record {
+pub struct Record<'i> {
     pub number: usize,
+    pub bytes: &'i [u8],
     /// None: there is no name, but other bytes.
     pub name: Option<Name>,
     pub size: u32,
     /// The blocks that its tree claims, as far as it can be read, ascending.
     pub claims: Vec<usize>,
+    /// Those of them that it claims more than once.
+    pub again: Vec<usize>,
+}
+
+impl Record<'_> {
+    pub fn claims(&self, block: usize) -> bool {
+        self.claims.binary_search(&block).is_ok()
+    }
 }
 
 /// The records that are not empty.
-pub fn records(image: &[u8]) -> Vec<Record> {
+pub fn records(image: &[u8]) -> Vec<Record<'_>> {
     (0..RECORDS).filter_map(|number| record(image, number)).collect()
 }
 
-fn record(image: &[u8], number: usize) -> Option<Record> {
+fn record(image: &[u8], number: usize) -> Option<Record<'_>> {
     let bytes = &image[place(number)..][..RECORD_SIZE];
     if bytes.iter().all(|&b| b == 0) {
         return None;
     }
     let name = Name([bytes[0], bytes[1], bytes[2], bytes[3], bytes[4], bytes[5], bytes[6], bytes[7]]);
     let size = u32::from_le_bytes([bytes[8], bytes[9], bytes[10], bytes[11]]);
-    let mut claims = claimed(image, bytes[12], &bytes[16..]);
-    claims.sort_unstable();
-    claims.dedup();
-    Some(Record { number, name: (name.0 != [0; 8]).then_some(name), size, claims })
+    let times = claimed(image, bytes[12], &bytes[16..]);
+    let above = |n| (0..times.len()).filter(|&b| times[b] > n).collect();
+    Some(Record { number, bytes, name: (name.0 != [0; 8]).then_some(name), size, claims: above(0), again: above(1) })
 }
 
 fn place(number: usize) -> usize {
     RECORD_AREA * BLOCK_SIZE + number * RECORD_SIZE
 }
 
-/// The blocks below some slots. A depth that is neither 0 nor 1 is read both ways.
-fn claimed(image: &[u8], depth: u8, slots: &[u8]) -> Vec<usize> {
-    let mut blocks = Vec::new();
+/// How often each block is claimed by the tree below some slots. A depth that is neither 0 nor 1 is read both ways.
+fn claimed(image: &[u8], depth: u8, slots: &[u8]) -> Vec<u8> {
+    let mut times = vec![0; image.len() / BLOCK_SIZE];
     if depth != 1 {
-        blocks.extend(extents(image, slots));
+        used(slots).for_each(|(first, count)| claim(&mut times, first, count));
     }
     if depth != 0 {
-        for (node, _) in used(slots).filter(|&(node, _)| is_data(image, node)) {
-            blocks.push(node);
-            blocks.extend(extents(image, &image[node * BLOCK_SIZE..][..BLOCK_SIZE]));
+        for (node, _) in used(slots).filter(|&(node, _)| (DATA_AREA..image.len() / BLOCK_SIZE).contains(&node)) {
+            claim(&mut times, node, 1);
+            used(&image[node * BLOCK_SIZE..][..BLOCK_SIZE]).for_each(|(first, count)| claim(&mut times, first, count));
         }
     }
-    blocks
+    times
 }
 
-/// The blocks of the data area that the extents in some slots name.
-fn extents<'a>(image: &'a [u8], slots: &'a [u8]) -> impl Iterator<Item = usize> + 'a {
-    used(slots).flat_map(|(first, count)| first..first + count).filter(|&b| is_data(image, b))
+/// One claim more for each block of an extent that is in the data area.
+fn claim(times: &mut [u8], first: usize, count: usize) {
+    let end = times.len().min(first + count);
+    times.iter_mut().take(end).skip(first.max(DATA_AREA)).for_each(|n| *n = n.saturating_add(1));
 }
 
 /// The slots that are not zero: a block and a count.
 fn used(slots: &[u8]) -> impl Iterator<Item = (usize, usize)> + '_ {
     let number = |low, high| usize::from(u16::from_le_bytes([low, high]));
     slots.chunks_exact(4).map(move |s| (number(s[0], s[1]), number(s[2], s[3]))).filter(|&slot| slot != (0, 0))
-}
-
-fn is_data(image: &[u8], block: usize) -> bool {
-    (DATA_AREA..image.len() / BLOCK_SIZE).contains(&block)
 }
 
 /// The image with this record alone: no log, no other record, and a bit table for the blocks that it claims.
@@ -92,7 +97,7 @@ pub fn alone(image: &[u8], record: &Record) -> Vec<u8> {
 
 /// The first block that two records claim, and the number of the other record.
 pub fn contest(records: &[Record], one: &Record) -> Option<(usize, usize)> {
-    let claims = |block: &usize| records.iter().find(|r| r.number != one.number && r.claims.binary_search(block).is_ok());
+    let claims = |block: &usize| records.iter().find(|r| r.number != one.number && r.claims(*block));
     one.claims.iter().find_map(|block| Some((*block, claims(block)?.number)))
 }
 
@@ -156,6 +161,19 @@ mod tests {
         let all = records(&image);
         assert_eq!(contest(&all, &all[0]), Some((42, 1)));
         assert_eq!(contest(&all, &all[1]), Some((42, 0)));
+    }
+
+    #[test]
+    fn a_block_that_a_record_has_more_than_once_is_told() {
+        let mut image = grown();
+        let node = usize::from(image[place(1) + 16]);
+        image[node * BLOCK_SIZE] = node as u8;
+        let all = records(&image);
+        assert_eq!((&all[0].again[..], &all[1].again[..]), (&[][..], &[node][..]));
+        assert!(all[1].claims(node) && !all[1].claims(43));
+        // Neither depth 0 nor 1: as data and as an extent block.
+        image[place(0) + 12] = 7;
+        assert_eq!(records(&image)[0].again, [51]);
     }
 
     #[test]

@@ -471,12 +471,220 @@ fn salvage() {
     let mut bad = image.clone();
     bad[34 * BLOCK + 32 + 11] = 0xff;
     fs::write(place.scratch.at("box.img"), &bad).unwrap();
-    assert_eq!(look(&bad), Seen::Refused(11));
+    assert_eq!(look(&bad), Seen::Refused(22, Some(1)));
     let out = place.tool(&["salvage", "box.img", "out"]).run();
     assert!(matches!(out.status, 0 | 1), "{}: {}", out.status, out.err);
     assert!(place.image() == bad);
     for (n, bytes) in map_of(&image).iter().filter(|p| *p.0 != name(D)) {
         assert!(fs::read(place.scratch.at("out").join(hex(n))).ok().as_ref() == Some(bytes), "salvage of {}: {}", hex(n), out.err);
+    }
+}
+
+/// A change of the worked box, and what is told of it.
+type Damage = (fn(&mut [u8]), &'static str);
+
+const A_IN_2: &str = "0102030405060708";
+const B_IN_5: &str = "4242424242424242";
+
+fn record_at(i: usize) -> usize {
+    34 * BLOCK + 32 * i
+}
+
+fn name_as_in_2(image: &mut [u8], i: usize) {
+    image.copy_within(record_at(2)..record_at(2) + 8, record_at(i));
+}
+
+/// Record 2 has block 43 twice, and 42 no more.
+fn twice_43(image: &mut [u8]) {
+    image[record_at(2) + 16..][..8].copy_from_slice(&[43, 0, 1, 0, 43, 0, 1, 0]);
+}
+
+fn damaged_records() -> Vec<Damage> {
+    vec![
+        (|b| name_as_in_2(b, 5), "record 5; its name is 0102030405060708, which record 2 has too"),
+        (|b| [5, 9].into_iter().for_each(|i| name_as_in_2(b, i)), "record 5; its name is 0102030405060708, which record 2 has too"),
+        (|b| (name_as_in_2(b, 5), b[record_at(3) + 20] = 1).1, "record 3; it has no name, but other bytes"),
+        (|b| b[record_at(2) + 16] = 41, "record 2; its name is 0102030405060708; it has block 41, outside of 42 to 63"),
+        (
+            |b| b[record_at(2) + 16..][..8].copy_from_slice(&[42, 0, 1, 0, 43, 0, 1, 0]),
+            "record 2; its name is 0102030405060708; two of its extents touch at block 43",
+        ),
+        (
+            |b| (flip(b, 0), b[43 * BLOCK + 88] = 1).1,
+            "record 2; its name is 0102030405060708; bytes behind its end, in block 43, are not zero",
+        ),
+        (|b| b[record_at(5) + 18] = 6, "record 5; its name is 4242424242424242; its extent block 54 lists 5 blocks, and its record 6"),
+    ]
+}
+
+fn damaged_blocks() -> Vec<Damage> {
+    vec![
+        (twice_43, "block 42; it is marked in use, but no purse has it"),
+        (|b| (twice_43(b), flip(b, 42)).1, "block 43; {A} has it more than once"),
+        (|b| (twice_43(b), flip(b, 5)).1, "block 5; it belongs to the store itself, but is marked free"),
+        (|b| b[54 * BLOCK] = 54, "block 44; it is marked in use, but no purse has it"),
+        (|b| (b[54 * BLOCK] = 54, flip(b, 44)).1, "block 54; {B} has it more than once"),
+        (|b| (b[54 * BLOCK] = 43, flip(b, 44)).1, "block 43; {A} and {B} both have it"),
+        (
+            |b| {
+                (b[54 * BLOCK], b[record_at(9) + 9]) = (43, 2);
+                b[record_at(9) + 16..][..4].copy_from_slice(&[43, 0, 1, 0]);
+                flip(b, 44);
+            },
+            "block 43; {A}, {B} and 1 more have it",
+        ),
+        (|b| flip(b, 43), "block 43; it is marked free, but {A} has it"),
+        (|b| flip(b, 54), "block 54; it is marked free, but {B} has it"),
+        (|b| flip(b, 60), "block 60; it is marked in use, but no purse has it"),
+        (|b| flip(b, 41), "block 41; it belongs to the store itself, but is marked free"),
+        (|b| b.fill(0), "block 0; it belongs to the store itself, but is marked free"),
+        (|b| flip(b, 100), "block 100; it lies behind the end of the box, but is marked free"),
+        (|b| flip(b, 4095), "block 4095; it lies behind the end of the box, but is marked free"),
+    ]
+}
+
+/// The commands that open a box, but for `list` and `salvage`: those that redo a log, then those that are refused with 12 where one is pending.
+const OPENING: [&[&str]; 17] = [
+    &["check", "box.img"],
+    &["recover", "box.img"],
+    &["put", "box.img", NEXT, "file"],
+    &["append", "box.img", A_IN_2, "file"],
+    &["write", "box.img", A_IN_2, "0", "file"],
+    &["resize", "box.img", A_IN_2, "1"],
+    &["remove", "box.img", A_IN_2],
+    &["rename", "box.img", A_IN_2, NEXT],
+    &["batch", "box.img", "file"],
+    &["load", "box.img", "file"],
+    &["load", "box.img", "file", "2"],
+    &["restore", "folder", "box.img"],
+    &["get", "box.img", A_IN_2],
+    &["map", "box.img"],
+    &["map", "--svg", "new.svg", "box.img"],
+    &["map", "--svg", "-", "box.img"],
+    &["dump", "box.img", "out"],
+];
+const REDOING: usize = 12;
+
+fn damaged_place(image: &[u8]) -> Place {
+    let place = Place::new(image);
+    place.file("file", b"");
+    fs::create_dir(place.scratch.at("folder")).unwrap();
+    place
+}
+
+/// These commands tell the damage in this sentence, and store nothing. How many they are.
+fn all_tell(place: &Place, commands: &[&[&str]], sentence: &str) -> usize {
+    let before = place.image();
+    for words in commands {
+        let out = place.run(1, words);
+        assert_eq!((out.text(), out.err), (String::new(), format!("{sentence}\n")), "{words:?}");
+        assert!(place.image() == before, "{words:?}: the image is another");
+    }
+    assert!(!place.scratch.at("out").exists() && !place.scratch.at("new.svg").exists(), "something was made");
+    commands.len()
+}
+
+/// So does `list`, and prints the number, and as JSON the record or block too.
+fn list_tells(place: &Place, sentence: &str, number: &str, json: &str) -> usize {
+    for (words, result) in [
+        (&["list", "box.img"][..], format!("refused {number}\n")),
+        (&["list", "--json", "box.img"], format!("{{\"refused\":{number},{json}}}\n")),
+    ] {
+        let out = place.run(1, words);
+        assert_eq!((out.text(), out.err), (result, format!("{sentence}\n")), "{words:?}");
+    }
+    2
+}
+
+#[test]
+fn damage_is_told() {
+    let (record, block) =
+        ("refused 22: a file record is damaged, ", "refused 23: a block is marked wrong in the bit table, or used twice, ");
+    let cases = damaged_records().into_iter().map(|c| (record, c)).chain(damaged_blocks().into_iter().map(|c| (block, c)));
+    let mut count = 0;
+    for (start, (change, words)) in cases {
+        let mut image = worked_box();
+        change(&mut image);
+        let sentence =
+            start.to_string() + &words.replace("{A}", &format!("record 2 ({A_IN_2})")).replace("{B}", &format!("record 5 ({B_IN_5})"));
+        let place = damaged_place(&image);
+        count += all_tell(&place, &OPENING, &sentence);
+        let (of, fault) = words.split_once(';').unwrap().0.split_once(' ').unwrap();
+        count += list_tells(&place, &sentence, &sentence[8..10], &format!("\"{of}\":{fault}"));
+        // A log is told as a log, and behind its redo the damage is the same.
+        idle_log(&mut image);
+        place.file("box.img", &image);
+        assert_eq!(place.list(), "recover 1\n");
+        count +=
+            all_tell(&place, &OPENING[..REDOING], &(sentence + "; the pending log does not lead to a sound box, so nothing was stored"));
+    }
+    eprintln!("{count} commands on boxes with a damaged record or block");
+}
+
+/// A damaged list of a commit: its record, and what is wrong with it.
+#[test]
+fn damaged_lists_are_told() {
+    let listed = |at: usize, byte: u8| move |image: &mut [u8]| image[at] = byte;
+    for (second, words) in [
+        (listed(16, 33), "record 1; its target is block 33, which record 0 has too"),
+        (listed(0, 32), "record 0; its target is block 32, and only 33 to 63 can be one"),
+        (listed(16, 64), "record 1; its target is block 64, and only 33 to 63 can be one"),
+        (listed(17, 1), "record 1; its target is block 256, and only 33 to 63 can be one"),
+        (listed(32, 34), "record 2; record 1 before it is empty"),
+        (listed(511, 1), "record 31; it has other bytes than a target"),
+    ] {
+        let mut image = worked_box();
+        image[0] = 33;
+        second(&mut image);
+        let place = damaged_place(&image);
+        let sentence = format!("refused 10: the list in the commit block is damaged, {words}");
+        all_tell(&place, &OPENING, &sentence);
+        let record = words.split([' ', ';']).nth(1).unwrap();
+        list_tells(&place, &sentence, "10", &format!("\"record\":{record}"));
+        let out = place.tool(&["salvage", "box.img", "saved"]).run();
+        assert!(out.err.starts_with(&format!("{sentence}; the box is looked at without its log")), "{}", out.err);
+        assert!(out.text().ends_with("saved 3 lost 0\n"), "{}", out.text());
+    }
+}
+
+/// What salvage says of the box, and of each purse that is lost.
+#[test]
+fn salvage_tells_why() {
+    let (a, b, c) = ("record 2 0102030405060708 600", "record 5 4242424242424242 2560", "record 9 4343434343434343 0");
+    let saved = |line: &str| format!("{line} saved as {}\n", line.split(' ').nth(2).unwrap());
+    let (saved_a, saved_b, saved_c) = (saved(a), saved(b), saved(c));
+    let cases: [(fn(&mut [u8]), String); 5] = [
+        (
+            |image| (twice_43(image), flip(image, 42)).1,
+            format!("{a} lost: it has block 43 more than once (refused 23)\n{saved_b}{saved_c}saved 2 lost 1\n"),
+        ),
+        (|image| image[54 * BLOCK] = 54, format!("{saved_a}{b} lost: it has block 54 more than once (refused 23)\n{saved_c}saved 2 lost 1\n")),
+        (|image| image[record_at(2) + 16] = 41, format!("{a} lost: its record is not sound (refused 22): it has block 41, outside of 42 to 63\n{saved_b}{saved_c}saved 2 lost 1\n")),
+        (
+            |image| image[54 * BLOCK] = 43,
+            format!("{a} lost: block 43 is claimed by record 5 too\n{b} lost: block 43 is claimed by record 2 too\n{saved_c}saved 1 lost 2\n"),
+        ),
+        (
+            |image| (name_as_in_2(image, 9), flip(image, 60)).1,
+            format!(
+                "{a} saved as 0102030405060708.record2\n{saved_b}record 9 0102030405060708 0 saved as 0102030405060708.record9\nsaved 3 lost 0\n"
+            ),
+        ),
+    ];
+    for (change, wanted) in cases {
+        let mut image = worked_box();
+        change(&mut image);
+        let place = Place::new(&image);
+        let Seen::Refused(n, fault) = look(&image) else { panic!("the box is sound") };
+        let out = place.tool(&["salvage", "box.img", "saved"]).run();
+        assert_eq!((out.status, out.text(), out.err), (0, wanted.clone(), format!("{}\n", told(&image, n, fault))));
+        // The same behind a log whose redo leads there.
+        idle_log(&mut image);
+        place.file("box.img", &image);
+        let out = place.tool(&["salvage", "box.img", "again"]).run();
+        let log = format!("a log is pending, and is redone in memory: {}\n", told(&redo(&image), n, fault));
+        assert_eq!((out.status, out.text(), out.err), (0, wanted, log));
+        assert!(place.image() == image);
     }
 }
 

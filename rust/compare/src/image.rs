@@ -4,6 +4,7 @@
 use crate::model::{Map, Name8};
 use crate::rng::Rng;
 use plain::{Extent, BLOCK};
+use std::ops::Range;
 use std::rc::Rc;
 
 const TABLE: usize = 33 * BLOCK;
@@ -98,28 +99,82 @@ fn slot(e: Extent) -> [u8; 4] {
     [f[0], f[1], c[0], c[1]]
 }
 
-fn put_file(device: &mut [u8], i: usize, size: usize, blocks: &[usize], nodes: &[usize]) {
-    let at = RECORDS + i * 32;
-    device[at..at + 8].copy_from_slice(&name_of(i));
-    device[at + 8..at + 12].copy_from_slice(&(size as u32).to_le_bytes());
-    device[at + 12] = !nodes.is_empty() as u8;
-    let list = runs(blocks);
-    let mut top = list.clone();
-    if !nodes.is_empty() {
-        let sum = |p: &[Extent]| p.iter().map(|e| e.count).sum();
-        top = list.chunks(128).zip(nodes).map(|(p, &b)| Extent { first: b as u32, count: sum(p) }).collect();
-        for (piece, &b) in list.chunks(128).zip(nodes) {
-            device[b * BLOCK..(b + 1) * BLOCK].fill(0);
-            piece.iter().enumerate().for_each(|(k, &e)| device[b * BLOCK + 4 * k..][..4].copy_from_slice(&slot(e)));
+/// Writes slots as far as there is room for them.
+pub fn put_slots(to: &mut [u8], list: &[Extent]) {
+    to.chunks_mut(4).zip(list).for_each(|(bytes, &e)| bytes.copy_from_slice(&slot(e)));
+}
+
+/// A file, and how it is written.
+#[derive(Clone, Debug)]
+pub struct File {
+    pub name: Name8,
+    pub size: usize,
+    /// Its data blocks in order.
+    pub blocks: Vec<usize>,
+    /// Its extent blocks.
+    pub nodes: Vec<usize>,
+}
+
+impl File {
+    /// Whether it has as many extent blocks as its extents ask for.
+    pub fn has_its_nodes(&self) -> bool {
+        self.nodes.len() == nodes_for(runs(&self.blocks).len())
+    }
+
+    /// The record.
+    pub fn record(&self) -> [u8; 32] {
+        let mut r = [0; 32];
+        r[..8].copy_from_slice(&self.name);
+        r[8..12].copy_from_slice(&(self.size as u32).to_le_bytes());
+        r[12] = !self.nodes.is_empty() as u8;
+        let mut top = runs(&self.blocks);
+        if !self.nodes.is_empty() {
+            let sum = |p: &[Extent]| p.iter().map(|e| e.count).sum();
+            top = top.chunks(128).zip(&self.nodes).map(|(p, &b)| Extent { first: b as u32, count: sum(p) }).collect();
+        }
+        put_slots(&mut r[16..], &top);
+        r
+    }
+
+    /// What its extent blocks hold.
+    pub fn leaves(&self) -> Vec<[u8; BLOCK]> {
+        let leaf = |piece: &[Extent]| {
+            let mut block = [0; BLOCK];
+            put_slots(&mut block, piece);
+            block
+        };
+        runs(&self.blocks).chunks(128).take(self.nodes.len()).map(leaf).collect()
+    }
+
+    /// Its bytes behind the size in its last block.
+    pub fn tail(&self) -> Range<usize> {
+        match self.blocks.last() {
+            Some(&last) if !self.size.is_multiple_of(BLOCK) => last * BLOCK + self.size % BLOCK..(last + 1) * BLOCK,
+            _ => 0..0,
         }
     }
-    top.iter().enumerate().for_each(|(k, &e)| device[at + 16 + 4 * k..][..4].copy_from_slice(&slot(e)));
-    for &b in blocks.iter().chain(nodes) {
-        device[TABLE + b / 8] |= 1 << (b % 8);
+
+    /// Puts it into record `i` of a device.
+    pub fn put(&self, device: &mut [u8], i: usize) {
+        device[record_place(i)].copy_from_slice(&self.record());
+        self.nodes.iter().zip(self.leaves()).for_each(|(&b, leaf)| device[b * BLOCK..][..BLOCK].copy_from_slice(&leaf));
+        device[self.tail()].fill(0);
+        self.blocks.iter().chain(&self.nodes).for_each(|&b| set_bit(device, b, true));
     }
-    if let (Some(&last), true) = (blocks.last(), !size.is_multiple_of(BLOCK)) {
-        device[last * BLOCK + size % BLOCK..(last + 1) * BLOCK].fill(0);
-    }
+}
+
+/// The bytes of a record.
+pub fn record_place(i: usize) -> Range<usize> {
+    RECORDS + 32 * i..RECORDS + 32 * (i + 1)
+}
+
+pub fn bit(device: &[u8], b: usize) -> bool {
+    device[TABLE + b / 8] >> (b % 8) & 1 == 1
+}
+
+pub fn set_bit(device: &mut [u8], b: usize, used: bool) {
+    device[TABLE + b / 8] &= !(1 << (b % 8));
+    device[TABLE + b / 8] |= (used as u8) << (b % 8);
 }
 
 /// A sound device of some shape.
@@ -128,42 +183,56 @@ pub fn sound_device(rng: &mut Rng, shape: &Shape) -> Vec<u8> {
     device[..BLOCK].fill(0);
     device[TABLE..DATA * BLOCK].fill(0);
     device[TABLE..TABLE + BLOCK].fill(0xff);
-    (DATA..shape.blocks).for_each(|b| device[TABLE + b / 8] &= !(1 << (b % 8)));
+    (DATA..shape.blocks).for_each(|b| set_bit(&mut device, b, false));
     let dealt = deal(rng, shape);
     for i in 0..(shape.files + shape.empty).min(128) {
         let mut blocks = dealt.get(i).cloned().unwrap_or_default();
         let nodes = take_nodes(&mut blocks);
         let spare = if rng.one_in(3) { 0 } else { rng.index(BLOCK) };
         let size = (blocks.len() * BLOCK).saturating_sub(spare);
-        put_file(&mut device, i, size, &blocks, &nodes);
+        File { name: name_of(i), size, blocks, nodes }.put(&mut device, i);
     }
     device
 }
 
-fn number2(bytes: &[u8], at: usize) -> usize {
+/// The records of a sound device in mixed order.
+pub fn mix_records(rng: &mut Rng, device: &mut [u8]) {
+    for i in 0..128 {
+        let (a, b) = (record_place(i), record_place(rng.index(128)));
+        let kept: [u8; 32] = device[a.clone()].try_into().unwrap();
+        device.copy_within(b.clone(), a.start);
+        device[b].copy_from_slice(&kept);
+    }
+}
+
+pub fn number2(bytes: &[u8], at: usize) -> usize {
     bytes[at] as usize + 256 * bytes[at + 1] as usize
 }
 
 /// The used slots of a piece of bytes.
-fn slots(bytes: &[u8]) -> Vec<(usize, usize)> {
+pub fn slots(bytes: &[u8]) -> Vec<(usize, usize)> {
     let all = bytes.chunks(4).map(|s| (number2(s, 0), number2(s, 2)));
     all.take_while(|s| s.1 > 0).collect()
 }
 
 /// The extent blocks of a device, wherever its records name some that lie inside it.
 pub fn nodes_of(device: &[u8]) -> Vec<usize> {
-    let records = device[RECORDS..DATA * BLOCK].chunks(32);
-    let deep = records.filter(|r| r[12] != 0).flat_map(|r| slots(&r[16..]));
+    let deep = records(device).filter(|r| r[12] != 0).flat_map(|r| slots(&r[16..]));
     deep.map(|s| s.0).filter(|&b| (b + 1) * BLOCK <= device.len()).collect()
+}
+
+/// All records of a device.
+pub fn records(device: &[u8]) -> impl Iterator<Item = &[u8]> {
+    device[RECORDS..DATA * BLOCK].chunks(32)
 }
 
 /// The used records of a device.
 fn used_records(device: &[u8]) -> impl Iterator<Item = &[u8]> {
-    device[RECORDS..DATA * BLOCK].chunks(32).filter(|r| r[..8] != [0; 8])
+    records(device).filter(|r| r[..8] != [0; 8])
 }
 
-/// The extents of a record of a sound device, read byte by byte.
-fn extents_of(device: &[u8], r: &[u8]) -> Vec<(usize, usize)> {
+/// The extents of a record, read byte by byte. Its extent blocks are inside the device.
+pub fn extents_of(device: &[u8], r: &[u8]) -> Vec<(usize, usize)> {
     let list = slots(&r[16..]);
     match r[12] {
         0 => list,

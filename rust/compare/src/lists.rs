@@ -2,13 +2,15 @@
 
 use crate::cards::Card;
 use crate::damage;
+use crate::faults;
 use crate::gen::{self, Known};
-use crate::image::{free_of, map_of, name_of, sound_device, Shape};
+use crate::image::{free_of, map_of, mix_records, name_of, sound_device, Shape};
 use crate::loads::Taken;
 use crate::model::{Map, Model, Phase};
 use crate::pair::{Check, Pair, Tally};
 use crate::rng::Rng;
 use crate::side::{Answer, Call, Name};
+use crate::verdict;
 use plain::{Session, BLOCK, WORK_SIZE};
 
 pub struct Driver {
@@ -146,7 +148,7 @@ impl Driver {
     /// The working copy is sound, its map is the working one, and so many blocks are free in its trees.
     fn working_copy(&self, free: u64) -> Check {
         let copy = self.working();
-        plain::sound::check(&copy).map_err(|r| format!("{r:?} is broken in the working copy"))?;
+        verdict::sound(&copy).map_err(|e| format!("{e} in the working copy"))?;
         if map_of(&copy) != self.model.working {
             return Err("the working copy's map is not the working one".into());
         }
@@ -326,7 +328,7 @@ impl Driver {
         if self.model.phase != Phase::Ready {
             return Err("not ready after a commit or recovery".into());
         }
-        plain::sound::check_whole(&self.pair.proved.device).map_err(|r| format!("{r:?} is broken after a commit or recovery"))?;
+        verdict::sound_whole(&self.pair.proved.device).map_err(|e| format!("{e} after a commit or recovery"))?;
         if map_of(&self.pair.proved.device) != self.model.committed {
             return Err("the device's map is not the committed one".into());
         }
@@ -430,15 +432,16 @@ impl Driver {
     /// A damaged device: open, then all calls with a forged ready session, then commits and opens.
     fn damaged(&mut self, shape: &Shape) -> Check {
         let mut device = sound_device(&mut self.rng, shape);
+        if self.rng.one_in(2) {
+            mix_records(&mut self.rng, &mut device);
+        }
         self.model = Model::new(map_of(&device), shape.blocks);
         self.pair.tampering = true;
+        self.faulty_opens(&device)?;
         for _ in 0..self.rng.range(1, 3) {
             let n = self.rng.pick(&[1, 1, 1, 2, 3, 6]);
             (0..n).for_each(|_| damage::device(&mut self.rng, &mut device));
-            self.pair.both(|s| {
-                s.device.copy_from_slice(&device);
-                s.session = Session::never_opened();
-            });
+            self.place(&device);
             self.pair.call(&Call::Open)?;
             self.wild_recovery()?;
             self.forged_calls(shape.blocks)?;
@@ -447,6 +450,49 @@ impl Driver {
                 self.wild_calls()?;
             }
         }
+        Ok(())
+    }
+
+    /// Both sides get a device, and a session never opened.
+    fn place(&mut self, device: &[u8]) {
+        self.pair.both(|s| {
+            s.device.copy_from_slice(device);
+            s.session = Session::never_opened();
+        });
+    }
+
+    /// Copies of a sound device with faults in them are opened, some of them behind a recovery.
+    fn faulty_opens(&mut self, sound: &[u8]) -> Check {
+        let most = if sound.len() > 700 * BLOCK { 4 } else { 24 };
+        for _ in 0..self.rng.range(2, most) {
+            let mut device = sound.to_vec();
+            faults::several(&mut self.rng, &mut device);
+            if self.rng.one_in(4) {
+                let device = faults::with_log(&mut self.rng, sound, &device);
+                self.place(&device);
+                self.forged_recovery()?;
+            } else {
+                self.place(&device);
+            }
+            if self.rng.one_in(4) {
+                self.tamper();
+            }
+            self.pair.call(&Call::Open)?;
+        }
+        Ok(())
+    }
+
+    /// A recovery to its end, cut once in a while.
+    fn forged_recovery(&mut self) -> Check {
+        for _ in 0..self.rng.range(0, 2) {
+            self.pair.call(&Call::Open)?;
+            for _ in 0..self.rng.index(34) {
+                self.pair.call(&Call::Advance)?;
+            }
+            self.pair.both(|s| s.session = Session::never_opened());
+        }
+        self.pair.call(&Call::Open)?;
+        while matches!(self.pair.call(&Call::Advance)?, Answer::Stored { .. }) {}
         Ok(())
     }
 

@@ -1,6 +1,7 @@
 //! Both stores side by side: every call goes to both, and everything is compared after it.
 
 use crate::side::{Answer, Call, Lent, Plain, Proved, Side, State};
+use crate::verdict;
 use plain::{Extent, Phase, Session, Spelling, BLOCK, WORK_SIZE};
 
 /// What was done, for the table at the end.
@@ -78,6 +79,7 @@ impl Pair {
         }
         self.same().map_err(|e| format!("{call} -> {plain:?}: {e}"))?;
         self.keeps_out(call, plain, before)?;
+        self.opens_rightly(call, plain)?;
         if let (Answer::Refused(..), Some((work, session))) = (plain, kept) {
             if work != self.plain.work || session != self.plain.session {
                 return Err(format!("{call} -> {plain:?} changed the work space or the session"));
@@ -166,6 +168,23 @@ impl Pair {
             Device::OneBlock(old) => one_block(&old, &self.plain.device, answer),
             Device::Same(old) if old != sum(&self.plain.device) => Err(format!("{call} changed the device")),
             _ => Ok(()),
+        }
+    }
+
+    /// Where block 0 is empty, open tells what is damaged. Otherwise it gives 10, or a recovery begins.
+    fn opens_rightly(&self, call: &Call, answer: Answer) -> Check {
+        if !matches!(call, Call::Open) || matches!(answer, Answer::Refused(1, _)) {
+            return Ok(());
+        }
+        let device = &self.plain.device;
+        let in_use = device[..BLOCK].iter().any(|&x| x != 0);
+        match (in_use, answer) {
+            (true, Answer::Done | Answer::Refused(10, Some(_))) => Ok(()),
+            (true, _) => Err(format!("Open -> {answer:?}, but block 0 is in use")),
+            (false, _) => match verdict::damage_of(device).map_or(Answer::Done, |(n, place)| Answer::Refused(n, Some(place))) {
+                due if due == answer => Ok(()),
+                due => Err(format!("Open -> {answer:?}, the device tells {due:?}")),
+            },
         }
     }
 

@@ -28,11 +28,18 @@ fn cooked(s: &RawSession) -> Session {
     Session { blocks: s.blocks as usize, phase, staged: s.staged, count: s.count as usize }
 }
 
+/// The record or block that a refusal names.
+fn place_of(refusal: Refusal) -> Option<u64> {
+    match refusal {
+        Refusal::BadHeader(n) | Refusal::DamagedRecord(n) | Refusal::DamagedBlock(n) => Some(n),
+        _ => None,
+    }
+}
+
 fn settle<T>(r: Result<T, Refusal>, accepted: impl FnOnce(T) -> Answer) -> Answer {
     match r {
         Ok(value) => accepted(value),
-        Err(Refusal::BadHeader(i)) => Answer::Refused(10, Some(i)),
-        Err(refusal) => Answer::Refused(refusal.number(), None),
+        Err(refusal) => Answer::Refused(refusal.number(), place_of(refusal)),
     }
 }
 

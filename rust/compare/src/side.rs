@@ -68,7 +68,8 @@ impl fmt::Display for Call {
 
 #[derive(Clone, Copy, Debug, PartialEq)]
 pub enum Answer {
-    /// The number, and the record that goes with 10 or the line that a load or a conversion names.
+    /// The number, and the record that goes with 10 and 22, the block that goes with 23, or the line that a load
+    /// or a conversion names.
     Refused(u32, Option<u64>),
     Done,
     Started(u64),
@@ -93,11 +94,18 @@ pub trait Side {
     fn convert(&self, wanted: Spelling, text: &[u8], out: &mut [u8]) -> Answer;
 }
 
+/// The record or block that a refusal names.
+fn place_of(refusal: Refusal) -> Option<u64> {
+    match refusal {
+        Refusal::BadHeader(n) | Refusal::DamagedRecord(n) | Refusal::DamagedBlock(n) => Some(n as u64),
+        _ => None,
+    }
+}
+
 fn settle<T>(r: Result<T, Refusal>, accepted: impl FnOnce(T) -> Answer) -> Answer {
     match r {
         Ok(value) => accepted(value),
-        Err(Refusal::BadHeader(i)) => Answer::Refused(10, Some(i as u64)),
-        Err(refusal) => Answer::Refused(refusal.number(), None),
+        Err(refusal) => Answer::Refused(refusal.number(), place_of(refusal)),
     }
 }
 

@@ -27,7 +27,7 @@ const CALLS: [&str; 19] = [
 ];
 
 /// The numbers of the papers so far.
-const NUMBERS: [usize; 18] = [1, 2, 3, 4, 10, 11, 12, 13, 14, 15, 16, 17, 18, 19, 20, 21, 24, 25];
+const NUMBERS: [usize; 19] = [1, 2, 3, 4, 10, 12, 13, 14, 15, 16, 17, 18, 19, 20, 21, 22, 23, 24, 25];
 
 impl Tally {
     fn add(&mut self, other: &Tally) {

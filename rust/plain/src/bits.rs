@@ -8,7 +8,6 @@ const WORDS: usize = BLOCK / 8;
 const BITS: usize = BLOCK * 8;
 
 /// The table as whole words, the lowest block in the lowest bit.
-#[derive(Clone, PartialEq, Eq)]
 pub struct Bits {
     words: [u64; WORDS],
 }
@@ -53,10 +52,6 @@ impl Bits {
         bits
     }
 
-    pub fn contains(&self, other: &Bits) -> bool {
-        self.words.iter().zip(other.words).all(|(w, o)| w & o == o)
-    }
-
     pub fn set(&mut self, first: usize, count: usize) {
         masks(first, count).for_each(|(i, m)| self.words[i] |= m);
     }
@@ -65,11 +60,25 @@ impl Bits {
         masks(first, count).for_each(|(i, m)| self.words[i] &= !m);
     }
 
-    /// Sets the bits of a stretch; tells whether none of them was set.
-    pub fn claim(&mut self, first: usize, count: usize) -> bool {
-        let clear = masks(first, count).all(|(i, m)| self.words[i] & m == 0);
+    /// Sets the bits of a stretch. Those that were set before are set in `twice` too.
+    pub fn claim(&mut self, first: usize, count: usize, twice: &mut Bits) {
+        masks(first, count).for_each(|(i, m)| twice.words[i] |= self.words[i] & m);
         self.set(first, count);
-        clear
+    }
+
+    /// The bits that are not the same in both.
+    pub fn differing(&self, other: &Bits) -> Bits {
+        Bits { words: std::array::from_fn(|i| self.words[i] ^ other.words[i]) }
+    }
+
+    pub fn join(&mut self, other: &Bits) {
+        self.words.iter_mut().zip(other.words).for_each(|(w, o)| *w |= o);
+    }
+
+    /// The lowest block whose bit is 1.
+    pub fn lowest(&self) -> Option<usize> {
+        let i = self.words.iter().position(|&w| w != 0)?;
+        Some(i * 64 + self.words[i].trailing_zeros() as usize)
     }
 
     /// "the number of zero bits"
@@ -86,8 +95,9 @@ impl Bits {
         let b = *low as u32 * 64 + bit;
         self.set(b as usize, 1);
         if mutant::on(2) && self.free() > 0 {
-            let second = (b as usize + 1..BITS).find(|&i| self.claim(i, 1)).unwrap_or(0);
+            let second = (b as usize + 1..BITS).find(|&i| self.words[i / 64] >> (i % 64) & 1 == 0).unwrap_or(0);
             self.clear(b as usize, 1);
+            self.set(second, 1);
             return second as u32;
         }
         b

@@ -4,7 +4,7 @@ use crate::bits::Bits;
 use crate::journal;
 use crate::mutant;
 use crate::plan::{change, set_record, Wish};
-use crate::sound;
+use crate::sound::{self, Damage};
 use crate::tree::{self, size_of, Record, Runs};
 use crate::types::*;
 use crate::view::View;
@@ -74,7 +74,7 @@ pub fn open(device: &[u8], session: &mut Session) -> Done {
     let phase = if journal::used_records(device)? > 0 {
         Phase::Recovering(0)
     } else {
-        sound::check(device).map_err(|_| Refusal::Unsound)?;
+        sound::check(device).map_err(Damage::refusal)?;
         Phase::Ready
     };
     *session = Session::fresh(blocks, phase);

@@ -1,5 +1,5 @@
 //! A purse store in plain Rust, written from documents 01 and 02 and docs/DECISIONS.md alone. Of document
-//! 02 it has A1, the load, and A6, the converter.
+//! 02 it has A1, the load, A2, which record or block is damaged, and A6, the converter.
 //!
 //! It shares no line with the proved store, of which neither the code nor the definitions were read for
 //! it. It serves as the second opinion in the differential tests and as the baseline when speed is

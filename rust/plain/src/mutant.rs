@@ -1,4 +1,4 @@
-//! Sixteen known errors, each behind a cargo feature. All are off in every ordinary build.
+//! Nineteen known errors, each behind a cargo feature. All are off in every ordinary build.
 
 /// Whether error number `n` is built in.
 pub const fn on(n: u8) -> bool {
@@ -19,6 +19,9 @@ pub const fn on(n: u8) -> bool {
         14 => cfg!(feature = "m14"),
         15 => cfg!(feature = "m15"),
         16 => cfg!(feature = "m16"),
+        17 => cfg!(feature = "m17"),
+        18 => cfg!(feature = "m18"),
+        19 => cfg!(feature = "m19"),
         _ => false,
     }
 }

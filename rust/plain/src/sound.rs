@@ -1,6 +1,7 @@
-//! "A sound device": S1 to S8.
+//! "A sound device": S1 to S8, and which record or block is damaged (document 02, A2).
 
 use crate::bits::Bits;
+use crate::mutant;
 use crate::tree::{all_slots, blocks_for, is_deep, nodes_for, size_of, top, used_slots, Record, TOP_SLOTS};
 use crate::types::*;
 use crate::view::{block_of, View};
@@ -19,6 +20,28 @@ pub enum Rule {
     S8,
 }
 
+/// What is damaged, and a rule that is broken there.
+#[derive(Clone, Copy, Debug, PartialEq, Eq)]
+pub enum Damage {
+    /// "If some record breaks S2 to S6 or S8 we want the lowest such record"
+    Record(usize, Rule),
+    /// "If all records are fine but S1 or S7 fails, we want the lowest block whose bit is wrong or which is
+    /// reached twice."
+    Block(usize, Rule),
+}
+
+impl Damage {
+    /// 22 and 23.
+    pub fn refusal(self) -> Refusal {
+        match self {
+            Damage::Record(i, _) => Refusal::DamagedRecord(i),
+            Damage::Block(b, _) => Refusal::DamagedBlock(b),
+        }
+    }
+}
+
+type Names = [u64; RECORD_COUNT];
+
 fn require(holds: bool, rule: Rule) -> Result<(), Rule> {
     if holds {
         Ok(())
@@ -32,44 +55,49 @@ fn all_zero(bytes: &[u8]) -> bool {
 }
 
 /// All of "A sound device".
-pub fn check_whole(device: &[u8]) -> Result<(), Rule> {
-    require(all_zero(block_of(device, 0)), Rule::Log)?;
+pub fn check_whole(device: &[u8]) -> Result<(), Damage> {
+    require(all_zero(block_of(device, 0)), Rule::Log).map_err(|rule| Damage::Block(0, rule))?;
     check(device)
 }
 
-/// S1 to S8. The first rule that is found broken is told.
-pub fn check(device: &[u8]) -> Result<(), Rule> {
+/// S1 to S8. "22 comes before 23": first the records in order, then the blocks.
+pub fn check(device: &[u8]) -> Result<(), Damage> {
     let blocks = device.len() / BLOCK;
     let view = View::bare(device);
-    let (table, mut reached) = (Bits::load(view.block(BIT_TABLE)), Bits::outside(blocks));
-    require(table.contains(&reached), Rule::S1)?;
-    names(view)?;
-    for record in (0..RECORD_COUNT).map(|i| view.record(i)) {
-        if record[..8] != [0; 8] {
-            file(view, record, blocks, &mut reached)?;
-        }
+    let names: Names = std::array::from_fn(|i| name_of(view.record(i)));
+    for i in 0..RECORD_COUNT {
+        check_record(view, blocks, &names, i).map_err(|rule| Damage::Record(i, rule))?;
     }
-    require(table == reached, Rule::S7)
+    match damaged_block(view, blocks) {
+        Some(b) if (DATA as usize..blocks).contains(&b) => Err(Damage::Block(b, Rule::S7)),
+        Some(b) => Err(Damage::Block(b, Rule::S1)),
+        None => Ok(()),
+    }
 }
 
-/// S2: "Names differ pairwise; empty records are all zero."
-fn names(view: View) -> Result<(), Rule> {
-    let (mut names, mut count) = ([0; RECORD_COUNT], 0);
-    for record in (0..RECORD_COUNT).map(|i| view.record(i)) {
-        let name = u64::from_le_bytes(*record.first_chunk().expect("a name of 8 bytes"));
-        if name == 0 {
-            require(all_zero(record), Rule::S2)?;
-        } else {
-            names[count] = name;
-            count += 1;
-        }
-    }
-    names[..count].sort_unstable();
-    require(names[..count].windows(2).all(|w| w[0] != w[1]), Rule::S2)
+/// The name as a number, 0 if the record is empty.
+fn name_of(record: &Record) -> u64 {
+    u64::from_le_bytes(*record.first_chunk().expect("a name of 8 bytes"))
 }
 
-/// S3 to S6 and S8 of one file, and S7's "at most once".
-fn file(view: View, record: &Record, blocks: usize, reached: &mut Bits) -> Result<(), Rule> {
+/// S2 to S6 and S8 of one record.
+fn check_record(view: View, blocks: usize, names: &Names, i: usize) -> Result<(), Rule> {
+    let record = view.record(i);
+    if names[i] == 0 {
+        return require(all_zero(record), Rule::S2);
+    }
+    require(!is_later_one(names, i), Rule::S2)?;
+    check_file(view, record, blocks)
+}
+
+/// S2: "Names differ pairwise"; "for equal names it is the later one".
+fn is_later_one(names: &Names, i: usize) -> bool {
+    let others = if mutant::on(17) { &names[i + 1..] } else { &names[..i] };
+    others.contains(&names[i])
+}
+
+/// S3 to S6 and S8 of one file.
+fn check_file(view: View, record: &Record, blocks: usize) -> Result<(), Rule> {
     let size = size_of(record);
     require(size <= MAX_FILE_SIZE && record[12] <= 1 && record[13..16] == [0; 3], Rule::S3)?;
     packed(top(record))?;
@@ -82,7 +110,6 @@ fn file(view: View, record: &Record, blocks: usize, reached: &mut Bits) -> Resul
     require(seen.sum == blocks_for(size), Rule::S5)?;
     let nodes = if is_deep(record) { used_slots(top(record)).count() } else { 0 };
     require(is_deep(record) == (seen.count > TOP_SLOTS) && nodes == nodes_for(seen.count), Rule::S6)?;
-    claim(view, record, reached)?;
     let tail = size as usize % BLOCK;
     require(tail == 0 || all_zero(&view.block(seen.end - 1)[tail..]), Rule::S8)
 }
@@ -125,7 +152,7 @@ impl Seen {
 fn deep(view: View, record: &Record, seen: &mut Seen) -> Result<(), Rule> {
     let nodes = used_slots(top(record)).count();
     for (i, node) in used_slots(top(record)).enumerate() {
-        seen.inside(Extent { first: node.first, count: 1 })?;
+        seen.inside(extent_block(node))?;
         let (slots, before) = (view.block(node.first), seen.sum);
         packed(slots)?;
         seen.extents(slots)?;
@@ -135,13 +162,36 @@ fn deep(view: View, record: &Record, seen: &mut Seen) -> Result<(), Rule> {
     Ok(())
 }
 
-/// S7: "Every block from 42 to N-1 is reached at most once, as data or extent block".
-fn claim(view: View, record: &Record, reached: &mut Bits) -> Result<(), Rule> {
-    let mut data = |slots: &[u8]| used_slots(slots).all(|e| reached.claim(e.first as usize, e.count as usize));
-    if !is_deep(record) {
-        return require(data(top(record)), Rule::S7);
+/// The extent block that a slot names: its count is of the data blocks below.
+fn extent_block(node: Extent) -> Extent {
+    Extent { first: node.first, count: 1 }
+}
+
+/// S1 and S7 where all records are fine: "the lowest block whose bit is wrong or which is reached twice".
+fn damaged_block(view: View, blocks: usize) -> Option<usize> {
+    let (mut due, mut twice) = (Bits::outside(blocks), Bits::empty());
+    each_extent(view, |e| due.claim(e.first as usize, e.count as usize, &mut twice));
+    let mut wrong = Bits::load(view.block(BIT_TABLE)).differing(&due);
+    if mutant::on(18) {
+        return twice.lowest().or(wrong.lowest());
     }
-    let below = used_slots(top(record)).all(|n| data(view.block(n.first)));
-    let nodes = used_slots(top(record)).all(|n| reached.claim(n.first as usize, 1));
-    require(below && nodes, Rule::S7)
+    if mutant::on(19) {
+        wrong.clear(0, DATA as usize);
+    }
+    wrong.join(&twice);
+    wrong.lowest()
+}
+
+/// All stretches of blocks that the files reach, "as data or extent block".
+fn each_extent(view: View, mut reach: impl FnMut(Extent)) {
+    for record in (0..RECORD_COUNT).map(|i| view.record(i)) {
+        if is_deep(record) {
+            for node in used_slots(top(record)) {
+                reach(extent_block(node));
+                used_slots(view.block(node.first)).for_each(&mut reach);
+            }
+        } else {
+            used_slots(top(record)).for_each(&mut reach);
+        }
+    }
 }

@@ -72,7 +72,7 @@ pub struct File {
     pub size: u32,
 }
 
-/// Why a call was refused, in the order of document 01's numbers; the last four are document 02's.
+/// Why a call was refused, in the order of document 01's numbers; the last six are document 02's.
 #[derive(Clone, Copy, Debug, PartialEq, Eq)]
 pub enum Refusal {
     DeviceSize,
@@ -81,7 +81,6 @@ pub enum Refusal {
     TooLarge,
     /// The lowest wrong record of the commit block.
     BadHeader(usize),
-    Unsound,
     NotReady,
     Unknown,
     Taken,
@@ -94,6 +93,10 @@ pub enum Refusal {
     LineTooLong,
     /// "line not of this form or without its feed"
     BadLine,
+    /// "record damaged, with its number"
+    DamagedRecord(usize),
+    /// "block damaged, with its number"
+    DamagedBlock(usize),
     /// "line already in the wanted spelling"
     SameSpelling,
     /// "output longer than the buffer"
@@ -109,7 +112,6 @@ impl Refusal {
             Refusal::BadName => 3,
             Refusal::TooLarge => 4,
             Refusal::BadHeader(_) => 10,
-            Refusal::Unsound => 11,
             Refusal::NotReady => 12,
             Refusal::Unknown => 13,
             Refusal::Taken => 14,
@@ -120,6 +122,8 @@ impl Refusal {
             Refusal::ListShort => 19,
             Refusal::LineTooLong => 20,
             Refusal::BadLine => 21,
+            Refusal::DamagedRecord(_) => 22,
+            Refusal::DamagedBlock(_) => 23,
             Refusal::SameSpelling => 24,
             Refusal::BufferShort => 25,
         }

@@ -84,15 +84,6 @@ fn r10_commit_block() {
 }
 
 #[test]
-fn r11_unsound() {
-    let mut t = Till::new(64);
-    t.device[33 * 512] = 0xfe;
-    refused(&mut t, 11, |t| t.open());
-    t.device[0] = 63;
-    t.open().unwrap();
-}
-
-#[test]
 fn r12_not_ready() {
     let mut t = Till::e3();
     commit(&t.device, &t.work, &mut t.session).unwrap();
@@ -169,4 +160,21 @@ fn r19_list() {
     assert_eq!(run_list(&t.device, &t.work, &t.session, A, 3, 9, &mut []), Ok(0));
     assert_eq!(nth_extent(&t.device, &t.work, &t.session, A, 1, 2, 1), Ok(Some(Extent { first: 46, count: 1 })));
     assert_eq!(nth_extent(&t.device, &t.work, &t.session, A, 1, 2, 2), Ok(None));
+}
+
+/// 22 comes before 23, and a wrong list before both. With a log in use there is neither.
+#[test]
+fn r22_r23_damage() {
+    let mut t = Till::new(64);
+    t.device[33 * 512 + 1] = 0xfb;
+    refused(&mut t, 23, |t| t.open());
+    assert_eq!(t.open(), Err(Refusal::DamagedBlock(10)));
+    t.device[41 * 512 + 15 * 32 + 20] = 1;
+    refused(&mut t, 22, |t| t.open());
+    assert_eq!(t.open(), Err(Refusal::DamagedRecord(127)));
+    t.device[2] = 1;
+    refused(&mut t, 10, |t| t.open());
+    (t.device[0], t.device[2]) = (63, 0);
+    t.open().unwrap();
+    assert_eq!(t.session.phase, Phase::Recovering(0));
 }

@@ -2,7 +2,8 @@
 
 mod common;
 use common::{Till, A, B};
-use plain::sound::{check_whole, Rule};
+use plain::sound::Damage::{Block, Record};
+use plain::sound::{check_whole, Damage, Rule};
 
 /// A with 5 blocks and an extent block, B with 4; both end inside a block.
 fn device() -> Vec<u8> {
@@ -20,7 +21,7 @@ fn device() -> Vec<u8> {
 }
 
 /// What the checker says once some bytes are changed. A's record is at 34 * 512, B's 32 behind it.
-fn broken(changes: &[(usize, u8)]) -> Result<(), Rule> {
+fn broken(changes: &[(usize, u8)]) -> Result<(), Damage> {
     let mut d = device();
     changes.iter().for_each(|&(at, x)| d[at] = x);
     check_whole(&d)
@@ -39,64 +40,64 @@ fn sound_as_made() {
 
 #[test]
 fn log_in_use() {
-    assert_eq!(broken(&[(0, 40)]), Err(Rule::Log));
+    assert_eq!(broken(&[(0, 40)]), Err(Block(0, Rule::Log)));
 }
 
 #[test]
 fn s1_bits() {
-    assert_eq!(broken(&[(TABLE, 0xfe)]), Err(Rule::S1));
-    assert_eq!(broken(&[(TABLE + 511, 0x7f)]), Err(Rule::S1));
+    assert_eq!(broken(&[(TABLE, 0xfe)]), Err(Block(0, Rule::S1)));
+    assert_eq!(broken(&[(TABLE + 511, 0x7f)]), Err(Block(4095, Rule::S1)));
 }
 
 #[test]
 fn s2_names() {
     let same: Vec<_> = A.iter().enumerate().map(|(i, &x)| (SECOND + i, x)).collect();
-    assert_eq!(broken(&same), Err(Rule::S2));
-    assert_eq!(broken(&[(SECOND + 64 + 31, 1)]), Err(Rule::S2));
+    assert_eq!(broken(&same), Err(Record(1, Rule::S2)));
+    assert_eq!(broken(&[(SECOND + 64 + 31, 1)]), Err(Record(3, Rule::S2)));
 }
 
 #[test]
 fn s3_limits() {
-    assert_eq!(broken(&[(FIRST + 12, 2)]), Err(Rule::S3));
-    assert_eq!(broken(&[(FIRST + 11, 1)]), Err(Rule::S3));
-    assert_eq!(broken(&[(FIRST + 14, 1)]), Err(Rule::S3));
+    assert_eq!(broken(&[(FIRST + 12, 2)]), Err(Record(0, Rule::S3)));
+    assert_eq!(broken(&[(FIRST + 11, 1)]), Err(Record(0, Rule::S3)));
+    assert_eq!(broken(&[(FIRST + 14, 1)]), Err(Record(0, Rule::S3)));
 }
 
 #[test]
 fn s4_slots() {
-    assert_eq!(broken(&[(FIRST + 20, 1)]), Err(Rule::S4));
-    assert_eq!(broken(&[(SECOND + 16, 41)]), Err(Rule::S4));
-    assert_eq!(broken(&[(NODE, 64)]), Err(Rule::S4));
-    assert_eq!(broken(&[(NODE + 511, 1)]), Err(Rule::S4));
+    assert_eq!(broken(&[(FIRST + 20, 1)]), Err(Record(0, Rule::S4)));
+    assert_eq!(broken(&[(SECOND + 16, 41)]), Err(Record(1, Rule::S4)));
+    assert_eq!(broken(&[(NODE, 64)]), Err(Record(0, Rule::S4)));
+    assert_eq!(broken(&[(NODE + 511, 1)]), Err(Record(0, Rule::S4)));
 }
 
 #[test]
 fn s5_counts() {
-    assert_eq!(broken(&[(FIRST + 18, 4)]), Err(Rule::S5));
-    assert_eq!(broken(&[(SECOND + 9, 8)]), Err(Rule::S5));
+    assert_eq!(broken(&[(FIRST + 18, 4)]), Err(Record(0, Rule::S5)));
+    assert_eq!(broken(&[(SECOND + 9, 8)]), Err(Record(1, Rule::S5)));
 }
 
 #[test]
 fn s6_shape() {
     // B's second extent begins at 44, where the first one, block 43, ends.
-    assert_eq!(broken(&[(SECOND + 20, 44)]), Err(Rule::S6));
+    assert_eq!(broken(&[(SECOND + 20, 44)]), Err(Record(1, Rule::S6)));
     // A as depth 1 with four extents.
     let four = [(FIRST + 18, 4), (FIRST + 9, 8), (FIRST + 8, 0), (NODE + 16, 0), (NODE + 18, 0)];
-    assert_eq!(broken(&four), Err(Rule::S6));
+    assert_eq!(broken(&four), Err(Record(0, Rule::S6)));
     // An empty file as depth 1.
-    assert_eq!(broken(&[(SECOND + 32, 7), (SECOND + 32 + 12, 1)]), Err(Rule::S6));
+    assert_eq!(broken(&[(SECOND + 32, 7), (SECOND + 32 + 12, 1)]), Err(Record(2, Rule::S6)));
     assert_eq!(broken(&[(SECOND + 32, 7)]), Ok(()));
 }
 
 #[test]
 fn s7_reached() {
-    assert_eq!(broken(&[(TABLE + 6, 0)]), Err(Rule::S7));
-    assert_eq!(broken(&[(TABLE + 7, 0x80)]), Err(Rule::S7));
-    assert_eq!(broken(&[(SECOND + 28, 50)]), Err(Rule::S7));
+    assert_eq!(broken(&[(TABLE + 6, 0)]), Err(Block(48, Rule::S7)));
+    assert_eq!(broken(&[(TABLE + 7, 0x80)]), Err(Block(63, Rule::S7)));
+    assert_eq!(broken(&[(SECOND + 28, 50)]), Err(Block(49, Rule::S7)));
 }
 
 #[test]
 fn s8_tail() {
-    assert_eq!(broken(&[(50 * 512 + 300, 1)]), Err(Rule::S8));
+    assert_eq!(broken(&[(50 * 512 + 300, 1)]), Err(Record(0, Rule::S8)));
     assert_eq!(broken(&[(50 * 512 + 299, 9)]), Ok(()));
 }

@@ -39,7 +39,7 @@ impl RawSession {
     }
 }
 
-/// `purse_finished`. `fault`: the wrong record for refusal 10, else 0.
+/// `purse_finished`. `fault`, of open: for refusal 10 the wrong record of block 0, for 22 the file record, for 23 the block; else 0.
 #[repr(C)]
 pub struct Finished {
     pub refusal: u32,

@@ -75,12 +75,12 @@ pub(crate) fn lend_mut<T>(items: &mut [T]) -> (*mut T, usize) {
     (items.as_mut_ptr(), items.len())
 }
 
-/// The number of a refusal as a result; `record` goes with refusal 10.
+/// The number of a refusal as a result; `fault` is the record or block of refusals 10, 22 and 23.
 #[inline]
-pub(crate) fn settle<T>(number: u32, record: u64, value: T) -> Result<T, Refusal> {
+pub(crate) fn settle<T>(number: u32, fault: u64, value: T) -> Result<T, Refusal> {
     match number {
         0 => Ok(value),
-        n => Err(Refusal::of(n, record)),
+        n => Err(Refusal::of(n, fault)),
     }
 }
 
@@ -195,6 +195,21 @@ impl Store<'_> {
 
     /// Opens the store and stores nothing. If [`Store::phase`] is then recovering, a commit was cut short: make its stores
     /// and open again. [`Store::open_on`] does all of this.
+    ///
+    /// A device whose tables are damaged is refused with [`Refusal::BadHeader`], [`Refusal::DamagedRecord`] or
+    /// [`Refusal::DamagedBlock`], which name the lowest record or block that is; image and session are then as before.
+    ///
+    /// ```
+    /// use purse::{Refusal, Store, WORK_SIZE};
+    ///
+    /// # let (mut image, mut work) = (vec![0u8; 64 * 512], vec![0u8; WORK_SIZE]);
+    /// Store::new(&mut image, &mut work).format()?;
+    /// image[33 * 512 + 7] |= 1 << 4; // block 60 is marked as used, and no file has it
+    /// assert_eq!(Store::new(&mut image, &mut work).open(), Err(Refusal::DamagedBlock(60)));
+    /// image[34 * 512 + 5 * 32 + 20] = 1; // record 5 is empty but for one byte: records come before blocks
+    /// assert_eq!(Store::new(&mut image, &mut work).open(), Err(Refusal::DamagedRecord(5)));
+    /// # Ok::<(), Refusal>(())
+    /// ```
     #[inline]
     pub fn open(&mut self) -> Result<(), Refusal> {
         self.settled()?;

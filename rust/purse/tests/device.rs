@@ -238,10 +238,27 @@ fn a_log_whose_redo_does_not_open_is_left() {
     let mut device = never(&mut kept);
     let mut store = Store::new(&mut image, &mut work);
     let session = store.session();
-    assert_eq!(store.open_on(&mut device), Err(Failure::Refused(Refusal::Unsound)));
+    assert_eq!(store.open_on(&mut device), Err(Failure::Refused(Refusal::DamagedBlock(0))));
     assert!(device.written.is_empty());
     assert_eq!(store.session(), session);
     assert!(image == before && kept == before, "image or device changed");
+}
+
+#[test]
+fn a_log_whose_redo_has_a_damaged_record_is_left() {
+    let mut kept = new_box();
+    // A log of the block with records 16 to 31, which leaves record 20 without a name, but not empty.
+    kept[0] = 35;
+    kept[512..1024].fill(0);
+    kept[512 + 4 * 32 + 31] = 1;
+    let before = kept.clone();
+    let (mut image, mut work) = (kept.clone(), vec![0; WORK_SIZE]);
+    let mut device = never(&mut kept);
+    let mut store = Store::new(&mut image, &mut work);
+    assert_eq!(store.open_on(&mut device), Err(Failure::Refused(Refusal::DamagedRecord(20))));
+    assert!(device.written.is_empty());
+    assert_eq!(store.open_in_memory(), Err(Refusal::DamagedRecord(20)));
+    assert!(kept == before, "device changed");
 }
 
 #[test]

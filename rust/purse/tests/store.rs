@@ -89,6 +89,97 @@ fn a_wrong_commit_block_names_its_record() {
     assert_eq!(store.open().unwrap_err().to_string(), "refused 10: the list in the commit block is damaged, record 1");
 }
 
+/// 64 blocks: record 2 has 600 bytes in 42 and 43, record 5 the blocks 44, 46, 48, 50 and 52 and the extent block 54, record 9 none.
+fn worked() -> Vec<u8> {
+    let (mut device, mut work) = till();
+    Store::new(&mut device, &mut work).format().unwrap();
+    let at = RECORDS + 32 * 2;
+    device[at..at + 20].copy_from_slice(&[1, 2, 3, 4, 5, 6, 7, 8, 88, 2, 0, 0, 0, 0, 0, 0, 42, 0, 2, 0]);
+    let at = RECORDS + 32 * 5;
+    device[at..at + 20].copy_from_slice(&[0x42, 0x42, 0x42, 0x42, 0x42, 0x42, 0x42, 0x42, 0, 10, 0, 0, 1, 0, 0, 0, 54, 0, 5, 0]);
+    let at = RECORDS + 32 * 9;
+    device[at..at + 8].fill(0x43);
+    device[NODE..NODE + 20].copy_from_slice(&[44, 0, 1, 0, 46, 0, 1, 0, 48, 0, 1, 0, 50, 0, 1, 0, 52, 0, 1, 0]);
+    [42, 43, 44, 46, 48, 50, 52, 54].into_iter().for_each(|b| flip(&mut device, b));
+    device[42 * 512] = 7;
+    device[43 * 512..43 * 512 + 88].fill(7);
+    device
+}
+
+const RECORDS: usize = 34 * 512;
+const NODE: usize = 54 * 512;
+
+/// The other bit for a block.
+fn flip(device: &mut [u8], b: usize) {
+    device[33 * 512 + b / 8] ^= 1 << (b % 8);
+}
+
+/// What open says of the worked device with a change, as it is and behind the recovery of a log that changes nothing.
+fn refused(change: impl FnOnce(&mut [u8])) -> Option<Refusal> {
+    let (mut device, mut work) = (worked(), vec![0x99; WORK_SIZE]);
+    change(&mut device);
+    let before = device.clone();
+    let mut store = Store::new(&mut device, &mut work);
+    let session = store.session();
+    let answer = store.open();
+    assert!(store.image() == before, "open has changed the image");
+    assert!(answer.is_ok() || store.session() == session, "a refused open has changed the session");
+    device[0] = 63;
+    assert_eq!(Store::new(&mut device, &mut work).open_in_memory(), answer);
+    answer.err()
+}
+
+/// Two slots of record 2.
+fn slots(device: &mut [u8], slots: [u8; 8]) {
+    device[RECORDS + 2 * 32 + 16..][..8].copy_from_slice(&slots);
+}
+
+fn name_as_a(device: &mut [u8], i: usize) {
+    device[RECORDS + 32 * i..][..8].copy_from_slice(A);
+}
+
+#[test]
+fn a_damaged_record_is_named() {
+    assert_eq!(refused(|_| ()), None);
+    let named = |i| Some(Refusal::DamagedRecord(i));
+    assert_eq!(refused(|d| name_as_a(d, 5)), named(5));
+    assert_eq!(refused(|d| [5, 9].into_iter().for_each(|i| name_as_a(d, i))), named(5));
+    let with_a_byte = |d: &mut [u8]| {
+        name_as_a(d, 5);
+        d[RECORDS + 3 * 32 + 20] = 1;
+    };
+    assert_eq!(refused(with_a_byte), named(3));
+    assert_eq!(refused(|d| slots(d, [41, 0, 2, 0, 0, 0, 0, 0])), named(2));
+    assert_eq!(refused(|d| slots(d, [42, 0, 1, 0, 43, 0, 1, 0])), named(2));
+    let behind_the_size = |d: &mut [u8]| {
+        d[43 * 512 + 88] = 1;
+        flip(d, 0);
+    };
+    assert_eq!(refused(behind_the_size), named(2));
+}
+
+#[test]
+fn a_damaged_block_is_named() {
+    let named = |b| Some(Refusal::DamagedBlock(b));
+    let twice = |d: &mut [u8]| slots(d, [43, 0, 1, 0, 43, 0, 1, 0]);
+    let also = |change: fn(&mut [u8]), bits: &'static [usize]| {
+        move |d: &mut [u8]| {
+            change(d);
+            bits.iter().for_each(|&b| flip(d, b));
+        }
+    };
+    assert_eq!(refused(twice), named(42));
+    assert_eq!(refused(also(twice, &[42])), named(43));
+    assert_eq!(refused(also(twice, &[42, 5])), named(5));
+    let node = |d: &mut [u8]| d[NODE] = 54;
+    assert_eq!(refused(node), named(44));
+    assert_eq!(refused(also(node, &[44])), named(54));
+    for b in [60, 4095, 41, 100] {
+        assert_eq!(refused(|d| flip(d, b)), named(b as u64));
+    }
+    assert_eq!(refused(|d| d.fill(0)), named(0));
+}
+
 #[test]
 fn the_stores_end_with_a_refusal() {
     let (mut device, mut work) = till();

@@ -1,6 +1,6 @@
 use Rattle.std.proofs.Common.{◌≡◌, refl, ap, ◌∙◌, Ok, Some, None, rules}
 use Rattle.mirror.specs.Mirror.{numbers_of, head_of}
-use Rattle.capi.proofs.Ends.{refused-told, stays, becomes}
+use Rattle.capi.proofs.Ends.{refused-is, stays, becomes}
 use Rattle.capi.proofs.keep_behind.Goals as goal
 
 pub returns-then-stored : goal.returns-then-stored
@@ -21,4 +21,4 @@ returns-in-Ok-None c =
     rw a (becomes _ _ _ _ refl c.keep-in-Ok-None.ensures, refl)
 
 pub returns-in-Err : goal.returns-in-Err
-returns-in-Err c = rw (c.in-Err.is) (stays _ _ _ (refused-told c.in-Err.field-0), refl)
+returns-in-Err c = rw (c.in-Err.is) (stays _ _ _ (refused-is c.in-Err.field-0), refl)

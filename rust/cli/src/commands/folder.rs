@@ -6,7 +6,7 @@ use std::path::{Path, PathBuf};
 use purse::{Refusal, RECORDS};
 
 use crate::commands::look::{hinted, read};
-use crate::image::{read_whole, Image};
+use crate::image::{open, read_whole, Image};
 use crate::name::{Name, SECOND};
 use crate::output::{folder_for, give, give_stored, make_file, sync_folder, tell};
 use crate::put::{perform, rehearse};
@@ -16,7 +16,7 @@ use crate::report::{Answer, Trouble};
 pub fn dump(path: &Path, dir: &Path) -> Answer {
     let mut image = Image::to_read(path)?;
     let mut store = image.store();
-    store.open()?;
+    open(&mut store)?;
     let names: Result<Vec<_>, _> = store.files().map(|f| f.map(|f| Name(f.name))).collect();
     let names = names.map_err(|r| hinted(&store, r))?;
     folder_for(dir)?;

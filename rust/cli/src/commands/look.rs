@@ -5,7 +5,8 @@ use std::path::Path;
 
 use purse::{Extent, Phase, Refusal, Store, EXTENTS_MOST};
 
-use crate::image::{no_redo, pending, Image};
+use crate::damage::refused;
+use crate::image::{no_redo, open, pending, Image};
 use crate::name::Name;
 use crate::output::{coloured, give, make_file};
 use crate::picture::Picture;
@@ -54,7 +55,14 @@ fn text(listing: &Listing) -> String {
 
 fn json(listing: &Listing) -> String {
     match listing {
-        Listing::Refused(refusal) => format!("{{\"refused\":{}}}\n", refusal.number()),
+        Listing::Refused(refusal) => {
+            let fault = match refusal {
+                Refusal::BadHeader(record) | Refusal::DamagedRecord(record) => format!(",\"record\":{record}"),
+                Refusal::DamagedBlock(block) => format!(",\"block\":{block}"),
+                _ => String::new(),
+            };
+            format!("{{\"refused\":{}{fault}}}\n", refusal.number())
+        }
         Listing::Recover(blocks) => format!("{{\"recover\":{blocks}}}\n"),
         Listing::Purses(purses, free) => {
             let purse = |(name, size, extents): &(Name, u64, Vec<Extent>)| {
@@ -73,7 +81,7 @@ pub fn list(path: &Path, as_json: bool) -> Answer {
     let listing = listing(&mut image.store())?;
     give(if as_json { json(&listing) } else { text(&listing) }.as_bytes())?;
     match listing {
-        Listing::Refused(refusal) => Err(refusal.into()),
+        Listing::Refused(refusal) => Err(refused(&image.bytes, refusal)),
         _ => Ok(()),
     }
 }
@@ -82,13 +90,13 @@ pub fn list(path: &Path, as_json: bool) -> Answer {
 pub fn check(path: &Path) -> Answer {
     let mut image = Image::to_read(path)?;
     let mut store = image.store();
-    store.open()?;
+    open(&mut store)?;
     if store.phase() == Phase::Ready {
         return give(b"sound\n");
     }
     let blocks = store.logged().count();
     // The image in memory is of no further use: it may be recovered.
-    store.open_in_memory().map_err(|refusal| Trouble::Refused(refusal, no_redo()))?;
+    store.open_in_memory().map_err(|refusal| no_redo(store.image(), refusal))?;
     give(format!("recover {blocks}\n").as_bytes())
 }
 
@@ -110,7 +118,7 @@ pub fn read(store: &Store, name: Name) -> Result<Vec<u8>, Refusal> {
 pub fn get(path: &Path, name: Name) -> Answer {
     let mut image = Image::to_read(path)?;
     let mut store = image.store();
-    store.open()?;
+    open(&mut store)?;
     give(&read(&store, name).map_err(|r| hinted(&store, r))?)
 }
 
@@ -118,7 +126,7 @@ pub fn get(path: &Path, name: Name) -> Answer {
 pub fn map(path: &Path, svg: Option<&Path>) -> Answer {
     let mut image = Image::to_read(path)?;
     let mut store = image.store();
-    store.open()?;
+    open(&mut store)?;
     let picture = Picture::of(&store).map_err(|r| hinted(&store, r))?;
     match svg {
         Some(file) if file.as_os_str() == "-" => give(picture.svg().as_bytes()),
@@ -142,6 +150,11 @@ mod tests {
              \n{\"name\":\"ABABABABABABABAB\",\"size\":0,\"extents\":[]}]}\n"
         );
         assert_eq!(text(&Listing::Recover(4)), "recover 4\n");
-        assert_eq!(json(&Listing::Refused(Refusal::Unsound)), "{\"refused\":11}\n");
+        assert_eq!(text(&Listing::Refused(Refusal::DamagedRecord(5))), "refused 22\n");
+        let refused = |refusal| json(&Listing::Refused(refusal));
+        assert_eq!(refused(Refusal::DeviceSize), "{\"refused\":1}\n");
+        assert_eq!(refused(Refusal::BadHeader(1)), "{\"refused\":10,\"record\":1}\n");
+        assert_eq!(refused(Refusal::DamagedRecord(5)), "{\"refused\":22,\"record\":5}\n");
+        assert_eq!(refused(Refusal::DamagedBlock(43)), "{\"refused\":23,\"block\":43}\n");
     }
 }

@@ -5,10 +5,12 @@ use std::path::Path;
 use purse::{Phase, Refusal, Store, BLOCK_SIZE, FEWEST_BLOCKS, MOST_BLOCKS, WORK_SIZE};
 
 use crate::commands::look::read;
+use crate::damage::explain;
 use crate::image::Image;
 use crate::name::Name;
 use crate::output::{folder_for, give, make_file, sync_folder, tell};
 use crate::report::{Answer, Trouble};
+use crate::rules::broken;
 use crate::scan::{alone, contest, records, Record};
 
 /// Saves each purse whose record is sound and whose blocks no other record claims, and tells of each.
@@ -50,10 +52,14 @@ fn prepared(image: &mut Image) -> Answer<Vec<u8>> {
     match store.open() {
         Ok(()) if store.phase() == Phase::Ready => {}
         Ok(()) => return Ok(redone(&image.bytes)),
-        Err(refusal @ Refusal::BadHeader(_)) => {
-            tell(format_args!("{refusal}; the box is looked at without its log: the last change may be there in part"));
+        Err(refusal) => {
+            let more = explain(&image.bytes, refusal);
+            let log = match refusal {
+                Refusal::BadHeader(_) => "; the box is looked at without its log: the last change may be there in part",
+                _ => "",
+            };
+            tell(format_args!("{refusal}{more}{log}"));
         }
-        Err(refusal) => tell(format_args!("{refusal}")),
     }
     Ok(std::mem::take(&mut image.bytes))
 }
@@ -64,15 +70,23 @@ fn redone(bytes: &[u8]) -> Vec<u8> {
     without[..BLOCK_SIZE].fill(0);
     let opens = Store::new(&mut with, &mut work).open_in_memory();
     let opened_before = Store::new(&mut without, &mut work).open();
-    match (opens, opened_before) {
-        (Ok(()), _) => tell(format_args!("a log is pending, and is redone in memory: recover does so in the box")),
-        (Err(refusal), Err(_)) => tell(format_args!("a log is pending, and is redone in memory: {refusal}")),
-        (Err(refusal), Ok(())) => {
-            tell(format_args!("a log is pending and leads to no sound box: {refusal}; the box is looked at as it was before that change"));
-            return without;
+    let Err(refusal) = opens else {
+        tell(format_args!("a log is pending, and is redone in memory: recover does so in the box"));
+        return with;
+    };
+    let more = explain(&with, refusal);
+    match opened_before {
+        Err(_) => {
+            tell(format_args!("a log is pending, and is redone in memory: {refusal}{more}"));
+            with
+        }
+        Ok(()) => {
+            tell(format_args!(
+                "a log is pending and leads to no sound box: {refusal}{more}; the box is looked at as it was before that change"
+            ));
+            without
         }
     }
-    with
 }
 
 /// The bytes of a record's purse, if the library opens a box with this record alone and no other claims its blocks.
@@ -80,7 +94,12 @@ fn sound(image: &[u8], all: &[Record], record: &Record) -> Result<(Name, Vec<u8>
     let name = record.name.ok_or("the record has no name")?;
     let (mut lone, mut work) = (alone(image, record), vec![0; WORK_SIZE]);
     let mut store = Store::new(&mut lone, &mut work);
-    store.open().map_err(|refusal| format!("its record is not sound (refused {})", refusal.number()))?;
+    store.open().map_err(|refusal| match (refusal, broken(image, record.bytes)) {
+        // The bit table fits the record's tree, so it can only be a block that is used twice.
+        (Refusal::DamagedBlock(block), _) => format!("it has block {block} more than once (refused 23)"),
+        (_, Some(rule)) => format!("its record is not sound (refused {}): {rule}", refusal.number()),
+        (_, None) => format!("its record is not sound (refused {})", refusal.number()),
+    })?;
     if let Some((block, other)) = contest(all, record) {
         return Err(format!("block {block} is claimed by record {other} too"));
     }

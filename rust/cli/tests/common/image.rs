@@ -24,6 +24,7 @@ pub const SECOND: Name = [0xff; 8];
 
 #[derive(Clone, Debug, PartialEq, Eq)]
 pub struct Purse {
+    pub record: usize,
     pub name: Name,
     pub size: usize,
     pub extents: Vec<(usize, usize)>,
@@ -34,9 +35,13 @@ pub struct Purse {
 /// What open finds on an image.
 #[derive(Clone, Debug, PartialEq, Eq)]
 pub enum Seen {
-    Refused(u32),
+    /// The number, and with 10, 22 and 23 the record or block.
+    Refused(u32, Option<usize>),
     Recover(usize),
-    Sound { purses: Vec<Purse>, free: usize },
+    Sound {
+        purses: Vec<Purse>,
+        free: usize,
+    },
 }
 
 fn two(bytes: &[u8], at: usize) -> usize {
@@ -47,25 +52,30 @@ fn block(image: &[u8], b: usize) -> &[u8] {
     &image[b * BLOCK..(b + 1) * BLOCK]
 }
 
-/// The targets of the log, or None if the commit block is wrong.
-pub fn targets(image: &[u8]) -> Option<Vec<usize>> {
+/// The targets of the log, or the lowest record of the commit block that is wrong.
+fn list_of(image: &[u8]) -> Result<Vec<usize>, usize> {
     let blocks = image.len() / BLOCK;
     let mut list = Vec::new();
     let mut empty = false;
-    for r in block(image, 0).chunks(16) {
+    for (i, r) in block(image, 0).chunks(16).enumerate() {
         let target = two(r, 0);
         if r[2..].iter().any(|&b| b != 0) {
-            return None;
+            return Err(i);
         }
         if target == 0 {
             empty = true;
         } else if empty || target < TABLE || target >= blocks || list.contains(&target) {
-            return None;
+            return Err(i);
         } else {
             list.push(target);
         }
     }
-    Some(list)
+    Ok(list)
+}
+
+/// The targets of the log, or None if the commit block is wrong.
+pub fn targets(image: &[u8]) -> Option<Vec<usize>> {
+    list_of(image).ok()
 }
 
 /// Used slots, or None if S4 does not hold.
@@ -79,7 +89,9 @@ fn inside(list: &[(usize, usize)], blocks: usize) -> bool {
     list.iter().all(|&(first, count)| first >= DATA && first + count <= blocks)
 }
 
-fn record(image: &[u8], r: &[u8]) -> Option<Purse> {
+/// The purse of a record, or None if S3 to S6 or S8 do not hold of it.
+pub fn record(image: &[u8], i: usize) -> Option<Purse> {
+    let r = record_bytes(image, i);
     let blocks = image.len() / BLOCK;
     let size = u32::from_le_bytes(r[8..12].try_into().unwrap()) as usize;
     if size > FILE_MAX || r[12] > 1 || r[13..16] != [0; 3] {
@@ -116,54 +128,72 @@ fn record(image: &[u8], r: &[u8]) -> Option<Purse> {
         return None;
     }
     bytes.truncate(size);
-    Some(Purse { name: r[..8].try_into().unwrap(), size, extents, nodes, bytes })
+    Some(Purse { record: i, name: r[..8].try_into().unwrap(), size, extents, nodes, bytes })
 }
 
-/// What open finds, by the order of the refusals: 1, 10, 11.
+fn record_bytes(image: &[u8], i: usize) -> &[u8] {
+    &image[RECORDS * BLOCK + 32 * i..][..32]
+}
+
+/// The name in a record, None if there is none.
+pub fn name_in(image: &[u8], i: usize) -> Option<Name> {
+    let name: Name = record_bytes(image, i)[..8].try_into().unwrap();
+    (name != [0; 8]).then_some(name)
+}
+
+/// What open finds, by the order of the refusals: 1, 10, 22, 23.
 pub fn look(image: &[u8]) -> Seen {
     let blocks = image.len() / BLOCK;
     if image.len() % BLOCK != 0 || !(64..=4096).contains(&blocks) {
-        return Seen::Refused(1);
+        return Seen::Refused(1, None);
     }
-    match targets(image) {
-        None => Seen::Refused(10),
-        Some(list) if !list.is_empty() => Seen::Recover(list.len()),
-        Some(_) => match sound(image) {
-            Some((purses, free)) => Seen::Sound { purses, free },
-            None => Seen::Refused(11),
+    match list_of(image) {
+        Err(record) => Seen::Refused(10, Some(record)),
+        Ok(list) if !list.is_empty() => Seen::Recover(list.len()),
+        Ok(_) => match purses(image) {
+            Err(record) => Seen::Refused(22, Some(record)),
+            Ok(purses) => match wrong_block(image, &purses) {
+                Some(block) => Seen::Refused(23, Some(block)),
+                None => Seen::Sound { free: (DATA..blocks).filter(|&b| is_free(image, b)).count(), purses },
+            },
         },
     }
 }
 
-/// S1 to S8.
-fn sound(image: &[u8]) -> Option<(Vec<Purse>, usize)> {
-    let blocks = image.len() / BLOCK;
+/// The purses, or the lowest record that breaks S2 to S6 or S8. Of two with one name that is the later.
+pub fn purses(image: &[u8]) -> Result<Vec<Purse>, usize> {
     let mut purses: Vec<Purse> = Vec::new();
-    let mut reached = vec![false; 4096];
-    reached[..DATA].fill(true);
-    reached[blocks..].fill(true);
-    for r in image[RECORDS * BLOCK..DATA * BLOCK].chunks(32) {
-        if r[..8] == [0; 8] {
-            if r.iter().any(|&b| b != 0) {
-                return None;
+    for i in 0..128 {
+        let Some(name) = name_in(image, i) else {
+            match record_bytes(image, i) == [0; 32] {
+                true => continue,
+                false => return Err(i),
             }
-            continue;
+        };
+        match record(image, i) {
+            Some(purse) if purses.iter().all(|p| p.name != name) => purses.push(purse),
+            _ => return Err(i),
         }
-        let p = record(image, r)?;
-        if purses.iter().any(|q| q.name == p.name) {
-            return None;
-        }
-        for b in p.extents.iter().flat_map(|&(f, c)| f..f + c).chain(p.nodes.iter().copied()) {
-            if reached[b] {
-                return None;
-            }
-            reached[b] = true;
-        }
-        purses.push(p);
     }
-    let table = block(image, TABLE);
-    let bits = (0..4096).all(|b| (table[b / 8] >> (b % 8) & 1 == 1) == reached[b]);
-    bits.then(|| (purses, reached.iter().filter(|&&r| !r).count()))
+    Ok(purses)
+}
+
+/// How often a purse reaches a block, as data or as an extent block.
+pub fn times(p: &Purse, b: usize) -> usize {
+    let data = p.extents.iter().filter(|&&(first, count)| (first..first + count).contains(&b)).count();
+    data + p.nodes.iter().filter(|&&node| node == b).count()
+}
+
+/// The lowest block that breaks S1 or S7.
+fn wrong_block(image: &[u8], purses: &[Purse]) -> Option<usize> {
+    let blocks = image.len() / BLOCK;
+    let mut reached = vec![0; 4096];
+    for b in purses.iter().flat_map(|p| p.extents.iter().flat_map(|&(f, c)| f..f + c).chain(p.nodes.iter().copied())) {
+        reached[b] += 1;
+    }
+    reached[..DATA].fill(1);
+    reached[blocks..].fill(1);
+    (0..4096).find(|&b| reached[b] != !is_free(image, b) as usize)
 }
 
 /// The image behind a whole recovery.
@@ -186,10 +216,10 @@ pub fn committed(image: &[u8]) -> Option<Map> {
     }
 }
 
-/// What `list` prints.
+/// What `list` prints on standard output.
 pub fn listing(image: &[u8]) -> String {
     match look(image) {
-        Seen::Refused(n) => format!("refused {n}\n"),
+        Seen::Refused(n, _) => format!("refused {n}\n"),
         Seen::Recover(k) => format!("recover {k}\n"),
         Seen::Sound { purses, free } => {
             let mut text = format!("files {} free {free}\n", purses.len());

@@ -6,6 +6,7 @@ pub mod cases;
 pub mod image;
 pub mod lines;
 pub mod place;
+pub mod told;
 
 pub use cases::*;
 pub use image::*;
@@ -20,6 +21,7 @@ use std::process::{Child, Command, Stdio};
 use std::sync::atomic::{AtomicUsize, Ordering};
 use std::sync::{Mutex, Once, OnceLock};
 use std::time::{Duration, Instant};
+pub use told::*;
 
 /// No command takes that long.
 const LIMIT: Duration = Duration::from_secs(30);
@@ -395,6 +397,33 @@ pub fn wide_box(blocks: usize) -> Vec<u8> {
     add(&mut image, name(B), &pattern(2, 1480), Some(&[47, 49, 51]));
     add(&mut image, name(C), &[], None);
     add(&mut image, name(E), &pattern(5, 40 * 512 - 3), None);
+    image
+}
+
+/// The other bit for a block.
+pub fn flip(image: &mut [u8], b: usize) {
+    image[33 * BLOCK + b / 8] ^= 1 << (b % 8);
+}
+
+/// A log of one block that changes nothing.
+pub fn idle_log(image: &mut [u8]) {
+    let last = image.len() / BLOCK - 1;
+    image.copy_within(last * BLOCK.., BLOCK);
+    image[..2].copy_from_slice(&(last as u16).to_le_bytes());
+}
+
+/// 64 blocks: in record 2 a purse of 600 bytes in 42 and 43; in record 5 one of the blocks 44, 46, 48, 50 and 52 with the extent block 54; in
+/// record 9 an empty one.
+pub fn worked_box() -> Vec<u8> {
+    let mut image = empty(64);
+    let mut set = |at: usize, bytes: &[u8]| image[at..at + bytes.len()].copy_from_slice(bytes);
+    let record = |i: usize| 34 * BLOCK + 32 * i;
+    set(record(2), &[1, 2, 3, 4, 5, 6, 7, 8, 88, 2, 0, 0, 0, 0, 0, 0, 42, 0, 2, 0]);
+    set(record(5), &[0x42, 0x42, 0x42, 0x42, 0x42, 0x42, 0x42, 0x42, 0, 10, 0, 0, 1, 0, 0, 0, 54, 0, 5, 0]);
+    set(record(9), &[0x43; 8]);
+    set(54 * BLOCK, &[44, 0, 1, 0, 46, 0, 1, 0, 48, 0, 1, 0, 50, 0, 1, 0, 52, 0, 1, 0]);
+    set(42 * BLOCK, &pattern(6, 600));
+    [42, 43, 44, 46, 48, 50, 52, 54].into_iter().for_each(|b| flip(&mut image, b));
     image
 }
 

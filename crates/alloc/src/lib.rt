@@ -19,7 +19,7 @@ use spec::{DiskBlock, Extent, FileBlock, Limits, Refusal};
 use transaction::WorkingCopy;
 
 // The tree after a change: its extents and nodes, and how many nodes and data blocks the file held before. The bitmap stands in what was lent.
-#[derive(Drop)]
+#[derive(Clone, Copy)]
 pub struct Draft<'a> {
     pub extents: &'a [Extent],
     pub nodes: Nodes,

@@ -29,13 +29,14 @@ impl Bitmap {
     }
 
     // The lowest bit that is 0, where no bit below word `from` is: "trailing zeros of the complemented word".
-    // By a loop: with `position` of the first word that is not full, the word is read twice, and what the function answers stays open at all three of its ends.
+    // By number: std's `skip` steps over each word before `from`, and with `position` of the first word that is not full, the word is read twice.
     pub fn lowest_free_from(&self, from: usize) -> Option<DiskBlock>
         requires { free_bits (take (64 * from) (bits_of self.now.bytes)) ≡ 0 }
         ensures { result ≡ found_of (place 0 (bits_of self.now.bytes)) }
     {
         let (words, _) = self.bytes.as_chunks();
-        for (at, word) in words.iter().enumerate().skip(from) {
+        for at in from..words.len() {
+            let word = &words[at];
             let x = !u64::from_le_bytes(*word);
             if x != 0 {
                 let b = 64 * (at as u32) + x.trailing_zeros();

@@ -141,6 +141,17 @@ pub fn on_whole<T, F: FnOnce(&[u8; Limits::BLOCK_SIZE]) -> T>(bytes: &[u8], told
     }
 }
 
+// All bytes of one slice copied to another of the same length. One by one: std's `copy_from_slice` between lent slices is compiled to `memmove`, which a library for C
+// would then need from outside.
+pub fn copy(from: &[u8], to: &mut [u8])
+    requires { length from.now ≡ length to.old }
+    ensures { to.new ≡ from.now }
+{
+    for k in 0..to.len() {
+        to[k] = from[k];
+    }
+}
+
 // Block b stored. That it lies within the bytes is asked here, in the two functions below and in two of journal: a type that says so would lend the bytes anew
 // for each block.
 pub fn store_block(bytes: &mut [u8], b: DiskBlock, x: &[u8; Limits::BLOCK_SIZE])
@@ -150,7 +161,7 @@ pub fn store_block(bytes: &mut [u8], b: DiskBlock, x: &[u8; Limits::BLOCK_SIZE])
     let n = b.0 as usize;
     let at = Limits::BLOCK_SIZE * n;
     let end = at + Limits::BLOCK_SIZE;
-    bytes[at..end].copy_from_slice(x);
+    copy(x, &mut bytes[at..end]);
 }
 
 // Block b stored from the first 512 of some bytes, zeros past their end. By `on_whole` and a closure that stores, what it leaves in `bytes` stays open.

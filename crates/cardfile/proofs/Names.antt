@@ -104,6 +104,10 @@ in-d : spell letter_d card ≡ 51 ∷ 50 ∷ 56 ∷ 51 ∷ 50 ∷ 54 ∷ 51 ∷ 
 unfolding spell card padded number_of
 in-d = refl
 
+name-of-card : name_of card ≡ 4 ∷ 4 ∷ 161 ∷ 178 ∷ 195 ∷ 0 ∷ 0 ∷ 0 ∷ []
+unfolding name_of card
+name-of-card = refl
+
 -- 4294967296 with D
 above : serial_of letter_d (52 ∷ 50 ∷ 57 ∷ 52 ∷ 57 ∷ 54 ∷ 55 ∷ 50 ∷ 57 ∷ 54 ∷ []) ≡ none
 unfolding serial_of serial_d read_decimal digit_value

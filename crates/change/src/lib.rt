@@ -23,7 +23,7 @@ ghost use Rattle.change.specs.Window.{Outside};
 ghost use Rattle.change.specs.Contents.{Stages, Ready, content_of, content_by, with_changed, data_from, nodes_from, change_of, IsBlock, IsNode};
 
 use agenda::{Agenda, Content, Planned};
-use block::{copy_of, place_in_block};
+use block::{copy, copy_of, place_in_block};
 use content::{RecordPrefix, Rewrite, lay_record, node_content};
 use inode::{InodeNumber, inode_block, table_block};
 use runs::{DataBlock, block_count};
@@ -39,7 +39,10 @@ fn edit_block(block: &mut [u8; Limits::BLOCK_SIZE], plan: &Plan, content: Conten
     ensures { block.new ≡ content_of plan.now.number.n (change_of plan.now) content block.old }
 {
     match content {
-        Content::Bitmap => *block = *plan.table,
+        Content::Bitmap => {
+            let table = plan.table;
+            copy(table, block);
+        }
         Content::Record => lay_record(block, plan.number.n, RecordPrefix { bytes: &plan.inode }),
         Content::Node(j) => *block = node_content(plan.draft.extents, j),
         Content::Data(p) => plan.data.lay(block, p),

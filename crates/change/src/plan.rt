@@ -8,7 +8,7 @@ use inode::InodeNumber;
 use spec::Limits;
 
 // The number of its record, the new bitmap, the draft of the file's tree, the bytes of its record, and how its data blocks change.
-#[derive(Drop)]
+#[derive(Clone, Copy)]
 pub struct Plan<'a, 'b> {
     pub number: InodeNumber,
     pub table: &'a [u8; Limits::BLOCK_SIZE],

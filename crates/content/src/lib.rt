@@ -8,7 +8,7 @@ ghost use Rattle.spec.specs.Plan.{is_last_kept, holds_data, is_staged};
 ghost use Rattle.runs.specs.Runs.{levels_in};
 ghost use Rattle.content.specs.Content.{tree_of, with_record, node_content, counts_below, slots_above, last_kept, laid_over, kept_content, data_content};
 
-use block::place_in_block;
+use block::{copy, place_in_block};
 use runs::{DataBlock, Nodes, block_count};
 use spec::{ByteOffset, Extent, FileBlock, Limits};
 
@@ -21,7 +21,7 @@ pub fn lay_record(block: &mut [u8; Limits::BLOCK_SIZE], i: usize, new: RecordPre
     ensures { block.new ≡ with_record i new.entry.bytes.now block.old }
 {
     let at = place_in_block(i);
-    block[at..at + new.bytes.len()].copy_from_slice(new.bytes);
+    copy(new.bytes, &mut block[at..at + new.bytes.len()]);
 }
 
 // The extents of node j.
@@ -147,7 +147,7 @@ impl Rewrite<'_> {
         let end = Limits::BLOCK_SIZE.min((x + self.bytes.len()).saturating_sub(start));
         if from < end {
             let part = &self.bytes[start + from - x..start + end - x];
-            block[from..end].copy_from_slice(part);
+            copy(part, &mut block[from..end]);
         }
     }
 

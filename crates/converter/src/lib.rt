@@ -14,7 +14,7 @@ use cardfile::{Card, Line, LineFault, Lines, Serial, Spelling, name_of};
 use text::Writer;
 
 // Two semicolons, the letter and the feed of a line.
-const SIGNS: usize = 4;
+pub const SIGNS: usize = 4;
 
 // Why there is no output: converted_of in specs/Convert.antt. A line is named by its number, counted from 1.
 #[derive(Clone, Copy)]

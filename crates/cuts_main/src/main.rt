@@ -32,14 +32,15 @@ fn new_blocks(device: &[u8]) -> usize {
         .count()
 }
 
-// The commit of three blocks on an empty store begun.
-fn commit_three() -> Mounted<SMALLEST> {
-    let mut t = Mounted::empty();
+// The commit of three blocks on an empty store begun, in the memory of the run before: a store of each run's own would be moved from function to function.
+fn begin(t: &mut Mounted<SMALLEST>) {
+    store::format(&mut t.lent.device, Session::never_opened());
+    t.lent.work.fill(9);
+    t.lent.session = Session::opened(64, Phase::Ready);
     for (b, byte) in BLOCKS {
         t.lent.stage(b, byte);
     }
     let _ = t.commit();
-    t
 }
 
 // A cut, and so many stores of the recovery.
@@ -49,20 +50,20 @@ fn cut(t: &mut Mounted<SMALLEST>, n: usize) {
 }
 
 // How many blocks are new after cuts behind i stores of the commit, j of a recovery and m of the next one, and a recovery to the end.
-fn after_cuts(i: usize, j: usize, m: usize) -> usize {
-    let mut t = commit_three();
+fn after_cuts(t: &mut Mounted<SMALLEST>, i: usize, j: usize, m: usize) -> usize {
+    begin(t);
     t.advance_by(i);
-    cut(&mut t, j);
-    cut(&mut t, m);
-    cut(&mut t, 4);
+    cut(t, j);
+    cut(t, m);
+    cut(t, 4);
     new_blocks(&t.lent.device)
 }
 
 // All second and third cuts behind a cut at i: how many of the 25 runs leave so many blocks new. One range for both cuts: of a `flat_map` over two ranges it
 // stayed open that its items can be counted.
-fn later_cuts(i: usize, new: usize) -> usize {
+fn later_cuts(t: &mut Mounted<SMALLEST>, i: usize, new: usize) -> usize {
     (0..25usize)
-        .filter(|k| after_cuts(i, *k / 5, *k % 5) == new)
+        .filter(|k| after_cuts(t, i, *k / 5, *k % 5) == new)
         .count()
 }
 
@@ -73,16 +74,17 @@ fn count(rt: &impl Print, word: &str, n: usize) -> io::Result<()> {
     Ok(())
 }
 
-fn line(rt: &impl Print, i: usize) -> io::Result<()> {
+fn line(rt: &impl Print, t: &mut Mounted<SMALLEST>, i: usize) -> io::Result<()> {
     print!(rt; "cut behind store {i}: of 25 runs")?;
-    count(rt, "none", later_cuts(i, 0))?;
-    count(rt, "all", later_cuts(i, 3))?;
+    count(rt, "none", later_cuts(t, i, 0))?;
+    count(rt, "all", later_cuts(t, i, 3))?;
     println!(rt)
 }
 
 fn main(rt: HostRuntime) -> io::Result<()> {
+    let mut t = Mounted::empty();
     for i in 0..9 {
-        line(&rt, i)?;
+        line(&rt, &mut t, i)?;
     }
     Ok(())
 }

@@ -33,7 +33,7 @@ use Rattle.std.specs.Prelude.{Option as Returned, Some, None, MatchOption, slice
 use Rattle.std.specs.Option.{ForSome}
 use Rattle.std.specs.Iterator.{YieldsFirst, MakesProgress, item_count}
 use Rattle.extents.specs.Stretches.{run_of, held_blocks, held_count}
-use Rattle.extents.specs.Stretches.{pending, Starts, blocks_at, pieces, left_at, TakesPiece, GoesOn, runs_in}
+use Rattle.extents.specs.Stretches.{Held, pending, Starts, blocks_at, pieces, left_at, TakesPiece, GoesOn, runs_in}
 
 -- ---- lists of numbers in a row
 
@@ -75,6 +75,43 @@ data-from v i p =
 data-stretch : (v : Disk) (i p n : ℕ)
     → take n (drop p (data_of v (inode_at v i))) ≡ take (min n (2048 - p)) (drop p (blocks_in (rest v (block_of_inode i) (start_of v i))))
 data-stretch v i p n = ap (take n) (data-from v i p) ∙ take-both n (2048 - p) (drop p (blocks_in (rest v (block_of_inode i) (start_of v i))))
+
+-- ---- one block
+
+module _ (v : Disk) (i p : ℕ) where
+  pub held-past : 2048 ≤ p → drop p (data_of v (inode_at v i)) ≡ []
+  held-past h = data-from v i p ∙ (let z : 2048 - p ≡ 0 = omega arith in rw z)
+
+  -- where the walk has come from the start c₀ to the cursor c, k blocks before block p
+  module _ (tb : ℕ) (b : tb ≡ block_of_inode i) (c₀ : Cursor) (s : c₀ ≡ start_of v i) (k : ℕ) (c : Cursor) (h : drop k (blocks_in (rest v tb c)) ≡ drop p (blocks_in (rest v tb c₀))) where
+    module _ (e : Extent) (d : Cursor) (o : Onward v tb c e d) where
+      begins : drop p (blocks_in (rest v tb c₀)) ≡ drop k (up_from e.first e.count ++ blocks_in (rest v tb d))
+      unfolding blocks_in
+      begins = sym h ∙ ap (λ (es : List Extent). drop k (blocks_in es)) o.extents
+
+      pub seek-hit : p < 2048 → k < e.count → Held v i p e k
+      seek-hit low l =
+          let z = begins ∙ drop-inside e.first e.count k (blocks_in (rest v tb d)) (omega arith) in
+          record {
+            follow = λ m a f.
+                let x : min m (2048 - p) ≡ m = omega arith in
+                let y : m ≡ min (e.count - k) m = omega arith in
+                let w : m - m ≡ 0 = omega arith in
+                data-stretch v i p m ∙ rw (x, ← s, ← b, z, take-up (e.first + k) (e.count - k) m m (blocks_in (rest v tb d)) y, w) (append-nil (up_from (e.first + k) m));
+            inside = l;
+            low = low;
+            first = o.first;
+            count = o.count;
+          }
+
+      pub seek-past : e.count ≤ k → drop (k - e.count) (blocks_in (rest v tb d)) ≡ drop p (blocks_in (rest v tb c₀))
+      seek-past l = sym (begins ∙ drop_past e.first e.count k (blocks_in (rest v tb d)) l)
+
+    pub seek-end : Ended v tb c → drop p (data_of v (inode_at v i)) ≡ []
+    unfolding blocks_in
+    seek-end n =
+        let z : drop p (blocks_in (rest v tb c₀)) ≡ [] = sym h ∙ ap (λ (es : List Extent). drop k (blocks_in es)) n.extents ∙ drop-nil k in
+        data-from v i p ∙ rw (← s, ← b, z) (take-nil (2048 - p))
 
 -- ---- pieces of a stretch
 
@@ -157,15 +194,7 @@ module _ (v : Disk) (tb : ℕ) (c : Scan) where
   unfolding left_at pieces
   node-none i = ap (λ (es : List Extent). pieces c.skip c.room es) i.extents
 
--- block p of the file of record i is block k of so many blocks that follow each other, as an extent has them; those behind it, to its end or that of the largest file, follow it in the file
-pub record Held (v : Disk) (i p : ℕ) (e : Extent) (k : ℕ) : Type 0 where
-  pub follow : (m : ℕ) → m ≤ e.count - k → p + m ≤ 2048 → take m (drop p (data_of v (inode_at v i))) ≡ up_from (e.first + k) m
-  pub inside : k < e.count
-  pub low : p < 2048
-  pub first : e.first < 65536
-  pub count : e.count < 65536
-
--- so does the first piece of a stretch that has room for all that follows block p
+-- the first piece of a stretch that has room for all that follows block p holds it
 module _ (v : Disk) (i p n : ℕ) (ps qs : List Extent) (q : Piece) where
   pub piece-held : blocks_in ps ≡ blocks_at v i p n → ps ≡ q.extent ∷ qs → 0 < q.extent.count → 2048 ≤ p + n
       → Held v i p (extent (q.extent.first - (q.extent.first - 65535)) (q.extent.count + (q.extent.first - 65535))) (q.extent.first - 65535)

@@ -13,6 +13,20 @@ use Rattle.extents.specs.declared.Scan.{Scan}
 use Rattle.extents.specs.declared.AtSlot.{AtSlot}
 use Rattle.extents.specs.declared.AtSlot.TheVariants as slot
 
+-- ---- one block
+
+-- block p of the file of record i is block k of the extent e, and the blocks behind it, to the end of e or of the largest file, follow it in the file
+pub record Held (v : Disk) (i p : ℕ) (e : Extent) (k : ℕ) : Type 0 where
+  pub follow : (m : ℕ) → m ≤ e.count - k → p + m ≤ 2048 → take m (drop p (data_of v (inode_at v i))) ≡ up_from (e.first + k) m
+  pub inside : k < e.count
+  pub low : p < 2048
+  pub first : e.first < 65536
+  pub count : e.count < 65536
+
+abbrev pub Places : Disk → ℕ → ℕ → Returned (Extent × ℕ) → Type 0
+Places v i p (Some (e, k)) = Held v i p e k
+Places v i p None = drop p (data_of v (inode_at v i)) ≡ []
+
 -- ---- a stretch
 
 -- the blocks that are left of it

@@ -9,10 +9,10 @@ ghost use Rattle.spec.specs.Disk.{Disk};
 ghost use Rattle.spec.specs.Inode.{block_of_inode, blocks_in, runs};
 ghost use Rattle.transaction.specs.Volumes.{working};
 ghost use Rattle.inode.specs.Walk.{leaf};
-ghost use Rattle.extents.specs.Stretches.{Starts, SlotSteps, NodeSteps, Passes, run_of, runs_in, held_blocks, held_count};
+ghost use Rattle.extents.specs.Stretches.{Places, Starts, SlotSteps, NodeSteps, Passes, run_of, runs_in, held_blocks, held_count};
 ghost use Rattle.extents.specs.Pieces.{pieces_left};
 
-use inode::{Cursor, InodeNumber, SlotBlock, start_at};
+use inode::{Cursor, InodeNumber, SlotBlock, Step, inode_block, start_at, table_block};
 use spec::{DiskBlock, Extent, FileBlock, Limits};
 use transaction::WorkingCopy;
 
@@ -28,6 +28,32 @@ pub struct Stretch {
     pub i: InodeNumber,
     pub from: FileBlock,
     pub n: usize,
+}
+
+// The extent that holds block `place` of a file, and how many of its blocks lie before that one. A `while let`: the cursor moves on with what is left to pass.
+pub fn extent_at(copy: &WorkingCopy, i: InodeNumber, place: FileBlock) -> Option<(Extent, usize)>
+    ensures { Places (working copy.now) i.n place.0 result }
+{
+    if Limits::MAX_FILE_BLOCKS <= place.0 {
+        return None;
+    }
+    let record_block = table_block(i);
+    let mut at = start_at(inode_block(copy, i), i);
+    let mut left = place.0;
+    while let Some((step, then)) = at.step(copy, record_block) {
+        match step {
+            Step::Leaf(e) => {
+                let count = e.count as usize;
+                if left < count {
+                    return Some((e, left));
+                }
+                left -= count;
+                at = then;
+            }
+            Step::Node(_) => at = then,
+        }
+    }
+    None
 }
 
 // What is left of a stretch: `room` blocks, from `skip` blocks behind a cursor on.
@@ -94,19 +120,17 @@ pub fn take_slot(block: &SlotBlock, scan: Scan) -> AtSlot
 pub fn pass_slots(block: &SlotBlock, scan: Scan) -> Scan
     ensures { (v : Disk) (tb : ℕ) → exactly 512 block.now.bytes.now ≡ v scan.at.block → Passes v tb scan result }
 {
-    let mut rest = scan;
-    while let Some((e, at)) = rest.at.pass(block) {
+    let mut at = scan.at;
+    let mut skip = scan.skip;
+    while let Some((e, then)) = at.pass(block) {
         let count = e.count as usize;
-        if rest.skip < count {
+        if skip < count {
             break;
         }
-        rest = Scan {
-            at,
-            skip: rest.skip - count,
-            ..rest
-        };
+        skip -= count;
+        at = then;
     }
-    rest
+    Scan { at, skip, ..scan }
 }
 
 // The next node of a stretch, which follows a leaf with no slot left, read from the block of its record.
@@ -159,6 +183,7 @@ impl<'a> Iterator for Runs<'a> {
     ghost remaining = { item_count runs_left };
 
     // A `while let`: behind a `for` over `&mut self.pieces`, `next_gives` and the field `few` stay open, since `next` of a `&mut` does not say that it keeps the reference.
+    #[inline(always)]
     fn next(&mut self) -> Option<Extent> {
         while let Some(piece) = self.pieces.next() {
             let e = piece.extent;

@@ -9,6 +9,7 @@ ghost use Rattle.transaction.specs.Volumes.{working};
 ghost use Rattle.extents.specs.Stretches.{InHand};
 ghost use Rattle.file.specs.Bytes.{run_bytes, block_bytes, Filled};
 
+use block::copy as copy_bytes;
 use extents::{Piece, Pieces, Stretch};
 use inode::{Inode, InodeNumber, SlotBlock};
 use spec::{ByteOffset, DiskBlock, FileBlock, Limits};
@@ -22,7 +23,7 @@ fn copy_part(block: &[u8], off: usize, to: &mut [u8])
     let rest = &block[block.len().min(off)..];
     let n = rest.len().min(to.len());
     let (there, past) = to.split_at_mut(n);
-    there.copy_from_slice(&rest[..n]);
+    copy_bytes(&rest[..n], there);
     past.fill(0);
 }
 
@@ -53,7 +54,7 @@ fn copy_run(copy: &WorkingCopy, run: Piece, skip: usize, to: &mut [u8])
     let from = Limits::BLOCK_SIZE * (run.extent.first as usize) + skip;
     let end = from + to.len();
     if copy.staged.list.is_empty() && end <= copy.device.len() {
-        to.copy_from_slice(&copy.device[from..end]);
+        copy_bytes(&copy.device[from..end], to);
     } else {
         copy_blocks(copy, run, skip, to);
     }
@@ -90,11 +91,14 @@ fn read_blocks<'a>(
     done
 }
 
-// Bytes of record i's file from byte x on, into the buffer's front; how many.
+// Bytes of record i's file from byte x on, into the buffer's front; how many. Of an empty buffer no slot is read: the walk would find the first piece first.
 pub fn read_file(copy: &WorkingCopy, i: InodeNumber, x: ByteOffset, buffer: &mut [u8]) -> usize
     ensures { Filled (take (length buffer.old) (drop x.0 (content_of (working copy.now) (inode_at (working copy.now) i.n))))
         buffer.old buffer.new result }
 {
+    if buffer.is_empty() {
+        return 0;
+    }
     let from = x.0;
     let inode = Inode::of(copy, i);
     let size = inode.size() as usize;

@@ -9,22 +9,33 @@ ghost use Rattle.spec.specs.Journal.{targets_in, is_record_wrong, header_fault, 
 ghost use Rattle.block.specs.Places.{found_at};
 ghost use Rattle.header.specs.Header.{record_targets, ascends};
 
-use arrayvec::ArrayVec;
 use block::{is_target, load2};
 use spec::{DiskBlock, Limits};
 use std::marker::Model;
 use zeros::{is_zero, is_zero_at};
 
-// What a log lists.
-#[derive(Drop)]
+// What a log lists: the first `count` cells, the others are 0. No ArrayVec, which is not Copy.
+#[derive(Clone, Copy)]
 pub struct Targets {
-    list: ArrayVec<u32, { Limits::LOG_LENGTH }>,
+    cells: [u32; Limits::LOG_LENGTH],
+    count: usize,
 }
 
 impl Model for Targets {
+    ghost use Rattle.std.specs.Prelude.{ℕ, List, ◌++◌, ◌-◌, length, take, replicate};
+    ghost use mathlib.Core.Path.{ap₂};
+    ghost use Rattle.lists.specs.Padded.{Padded, padded-count, padded-cells};
+
     ghost Value = { List ℕ };
 
-    ghost view = { λ t. t.list.items };
+    ghost view = { λ t. take t.count t.cells };
+
+    ghost invariant = { λ t. Padded 32 t.cells t.count };
+
+    ghost inverse = { λ l. record { cells = l ++ replicate (32 - length l) 0; count = length l } };
+
+    ghost inverse_ok = { λ t h. ap₂ (λ (cells : List ℕ) (count : ℕ). record { cells = cells; count = count })
+        (padded-cells 32 t.cells t.count h) (padded-count 32 t.cells t.count h) };
 }
 
 impl Targets {
@@ -32,14 +43,14 @@ impl Targets {
     pub fn len(&self) -> usize
         ensures { (result ≡ length self.now) × (result ≤ 32) }
     {
-        self.list.len()
+        self.as_slice().len()
     }
 
     // The targets as a slice.
     pub fn as_slice(&self) -> &[u32]
         ensures { (result.now ≡ self.now) × (length result.now ≤ 32) }
     {
-        self.list.as_slice()
+        &self.cells[..self.count]
     }
 
     // Whether a log may list them.
@@ -91,13 +102,20 @@ fn used(l: &[u32]) -> usize
     l.iter().take_while(|t| **t != 0).count()
 }
 
-// The targets of the leading used records.
+// The targets of the leading used records. Of a header with none the other records are not read.
 pub fn targets_in(head: &[u8]) -> Targets
     ensures { result ≡ targets_in head.now }
 {
-    let mut list = ArrayVec::from(record_targets(head));
-    list.truncate(used(list.as_slice()));
-    Targets { list }
+    if load2(head, 0) == 0 {
+        return Targets {
+            cells: [0; Limits::LOG_LENGTH],
+            count: 0,
+        };
+    }
+    let mut cells = record_targets(head);
+    let count = used(&cells);
+    cells[count..].fill(0);
+    Targets { cells, count }
 }
 
 // ---- what a log may list

@@ -6,6 +6,8 @@ use Rattle.spec.specs.Bytes.{number2}
 use Rattle.spec.specs.Disk.{Disk}
 use Rattle.spec.specs.Inode.{extent, slots_in, used, below, block_of_inode, place_of_inode, inode_at}
 use Rattle.inode.specs.declared.Cursor.{Cursor}
+use Rattle.inode.specs.declared.Step.{Step}
+use Rattle.inode.specs.declared.Step.TheVariants.{Leaf, Node}
 
 -- the slot at a byte of a block
 abbrev pub slot_in : ℕ → List ℕ → Extent
@@ -65,6 +67,12 @@ Passed v tb c None = leaf v c.block c.at c.left ≡ []
 abbrev pub Enters : Disk → ℕ → Cursor → Option (DiskBlock × Cursor) → Type 0
 Enters v tb c (Some (b, d)) = Inward v tb c b.0 d × (d.block ≡ b.0)
 Enters v tb c None = Ended v tb c
+
+-- a step of the walk: over an extent, or into a node; none where the walk has ended
+abbrev pub Steps : Disk → ℕ → Cursor → Option (Step × Cursor) → Type 0
+Steps v tb c (Some (Leaf e, d)) = Onward v tb c e d
+Steps v tb c (Some (Node b, d)) = Inward v tb c b.0 d
+Steps v tb c None = Ended v tb c
 
 -- the cursor before the first extent of record i
 unfoldable pub start_of : Disk → ℕ → Cursor

@@ -9,7 +9,7 @@ ghost use Rattle.spec.specs.Inode.{inode_of, block_of_inode, find, find_empty, b
 ghost use Rattle.transaction.specs.Volumes.{working};
 ghost use Rattle.block.specs.Keys.{key_of, Name};
 ghost use Rattle.inode.specs.Records.{record_in, named, found_of, lowest_to, number_told, is_table};
-ghost use Rattle.inode.specs.Walk.{slot_in, live, leaf, Passed, Enters, start_of};
+ghost use Rattle.inode.specs.Walk.{slot_in, live, leaf, Passed, Enters, Steps, start_of};
 
 use block::{area_of, key_of, on_whole, place_in_block};
 use spec::{Area, DiskBlock, Extent, Limits};
@@ -139,7 +139,31 @@ pub struct Cursor {
     pub tops: usize,
 }
 
+// What a step of the walk finds: an extent, or a node, whose extents follow.
+#[derive(Clone, Copy)]
+pub enum Step {
+    Leaf(Extent),
+    Node(DiskBlock),
+}
+
 impl Cursor {
+    // The next step of the walk over a tree whose record stands in this block, and the cursor behind it.
+    pub fn step(&self, copy: &WorkingCopy, record_block: DiskBlock) -> Option<(Step, Cursor)>
+        ensures { Steps (working copy.now) record_block.0 self.now result }
+    {
+        let leaf = SlotBlock {
+            bytes: copy.block(DiskBlock(self.block)),
+        };
+        if let Some((e, then)) = self.pass(&leaf) {
+            return Some((Step::Leaf(e), then));
+        }
+        let table = SlotBlock {
+            bytes: copy.block(record_block),
+        };
+        let (b, then) = self.enter(&table)?;
+        Some((Step::Node(b), then))
+    }
+
     // The next extent of the leaf, which is the block of the cursor, and the cursor behind it.
     pub fn pass(&self, leaf: &SlotBlock) -> Option<(Extent, Cursor)>
         ensures { (v : Disk) (tb : ℕ) → exactly 512 leaf.now.bytes.now ≡ v self.now.block → Passed v tb self.now result }

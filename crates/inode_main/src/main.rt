@@ -2,12 +2,12 @@
 #![tactic(auto)]
 
 use extents::Stretch;
-use inode::{Inode, InodeNumber};
+use inode::{Inode, InodeNumber, Step};
 use spec::{DiskBlock, Extent, FileBlock, Limits, Phase, Session};
 use std::io;
 use transaction::{Volume, WorkingCopy};
 use trial::{SMALLEST, put};
-use walk::{Step, Walk};
+use walk::Walk;
 
 mod walk;
 
@@ -97,27 +97,9 @@ impl<'a, 'c, P: Print> Teller<'a, 'c, P> {
         println!(self.rt; " end")
     }
 
-    // The extent that holds block `place` of a file, and how far into it.
-    fn extent_at(&self, i: InodeNumber, place: usize) -> Option<(Extent, usize)> {
-        if Limits::MAX_FILE_BLOCKS <= place {
-            return None;
-        }
-        let mut left = place;
-        for step in Walk::of(self.copy, i) {
-            if let Step::Leaf(e) = step {
-                let count = e.count as usize;
-                if left < count {
-                    return Some((e, left));
-                }
-                left -= count;
-            }
-        }
-        None
-    }
-
     fn show_block(&self, i: InodeNumber, place: usize) -> io::Result<()> {
         print!(self.rt; "block {place} of {}:", i.n)?;
-        match self.extent_at(i, place) {
+        match extents::extent_at(self.copy, i, FileBlock(place)) {
             Some((e, skip)) => {
                 self.show_extent(e)?;
                 println!(self.rt; " skip {skip}")

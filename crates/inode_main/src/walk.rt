@@ -1,14 +1,7 @@
 // The walk over a file's tree, slot by slot.
-use inode::{Cursor, InodeNumber, SlotBlock, inode_block, start_at, table_block};
-use spec::{DiskBlock, Extent};
+use inode::{Cursor, InodeNumber, Step, inode_block, start_at, table_block};
+use spec::DiskBlock;
 use transaction::WorkingCopy;
-
-// What a step of the walk finds: an extent, or a node, whose extents follow.
-#[derive(Clone, Copy)]
-pub enum Step {
-    Leaf(Extent),
-    Node(DiskBlock),
-}
 
 // The extents and nodes of a file, in the order of its blocks.
 #[derive(Clone, Copy)]
@@ -38,18 +31,8 @@ impl<'a> Iterator for Walk<'a> {
     ghost remaining = { λ w. at_most (weight w.at) };
 
     fn next(&mut self) -> Option<Step> {
-        let leaf = SlotBlock {
-            bytes: self.copy.block(DiskBlock(self.at.block)),
-        };
-        if let Some((e, then)) = self.at.pass(&leaf) {
-            self.at = then;
-            return Some(Step::Leaf(e));
-        }
-        let table = SlotBlock {
-            bytes: self.copy.block(self.record_block),
-        };
-        let (b, then) = self.at.enter(&table)?;
+        let (step, then) = self.at.step(&self.copy, self.record_block)?;
         self.at = then;
-        Some(Step::Node(b))
+        Some(step)
     }
 }

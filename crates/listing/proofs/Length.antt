@@ -1,6 +1,6 @@
 -- How long a listing is at most: an image of at most 65,536 bytes has 128 records, and 86 blocks that they reach. Assumes nothing.
-use Prim.Native.Nat.{ℕ, zero, suc, ◌+◌, ◌*◌, ◌/◌, ◌%◌, ◌<◌, ◌≤◌}
-use mathlib.Core.Path.{◌≡◌, refl, ap, ◌∙◌}
+use Prim.Native.Nat.{ℕ, zero, suc, ◌+◌, ◌*◌, ◌/◌, ◌%◌, ◌<◌, ◌≤◌, min}
+use mathlib.Core.Path.{◌≡◌, refl, ap, ap₂, ◌∙◌}
 use mathlib.Core.Logic.{◌⊎◌, inl, inr}
 use mathlib.Core.Bool.{Bool, true, false, cond}
 use mathlib.Core.List.{List, [], ◌∷◌, ◌++◌, map}
@@ -8,7 +8,8 @@ use mathlib.Core.Option.{Option, none, some}
 use native.Mathlib.Omega.{arith}
 use borrow.Author.Tests.{eqb-true, eqb-false}
 use lib.Dec.{eqb, ltb}
-use lib.ListN.{length, length-append, length-take}
+use lib.ListN.{length, take, drop, length-append, length-take}
+use lib.Seq.{take_all, take-length, take-append-le}
 use Rattle.spec.specs.declared.Extent.{Extent}
 use Rattle.spec.specs.declared.Phase.TheVariants.{Closed, Ready, Recovering}
 use Rattle.spec.specs.declared.Refusal.{Refusal}
@@ -31,7 +32,7 @@ use Rattle.laws.specs.Free.{reached-few}
 use Rattle.extents.proofs.Laws.{runs-few}
 use Rattle.store.proofs.Laws.{open-device, open-header, open-log, open-inode, open-block, open-ready}
 use Rattle.text.specs.Written.{number}
-use Rattle.listing.specs.Steps.{span_text, more_text, runs_text, line_text, used_from, lines_text, files_lines, told_text, refused_line, recover_line}
+use Rattle.listing.specs.Steps.{span_text, more_text, runs_text, line_text, used_from, lines_text, files_lines, told_text, refused_line, recover_line, Listed}
 use Rattle.listing.proofs.Laws.{span-is, more-next, more-none, runs-some, runs_none, line-used, lines_more, lines_end, files-text, told_is, refused-is, recover-is, opened-text, refused-text, text-long, text-short}
 
 -- ---- numbers, extents
@@ -188,3 +189,13 @@ listing-few d = go (lt-or-le 65536 (length d))
     go : (65536 < length d) ⊎ (length d ≤ 65536) → length (listing d) ≤ 8785
     go (inl h) = omega (arith, refused-few DeviceSize, ap length (text-long d h))
     go (inr h) = short-few d h
+
+-- with room for the longest, the answer counts the whole text
+pub listed-whole : (image out after : List ℕ) (n : ℕ) → Listed image out after n → 8785 ≤ length out → take n after ≡ listing image
+listed-whole image out after n h r = go (listing image) (listing-few image) h.bytes h.count
+  where
+    go : (t : List ℕ) → length t ≤ 8785 → after ≡ take (length out) t ++ drop (length t) out → n ≡ min (length t) (length out) → take n after ≡ t
+    go t f e c =
+        let k : n ≡ length t = omega arith in
+        ap₂ (λ (m : ℕ) (xs : List ℕ). take m xs) k (e ∙ ap (λ (xs : List ℕ). xs ++ drop (length t) out) (take_all (length out) t (omega arith)))
+        ∙ take-append-le (length t) t (drop (length t) out) (omega arith) ∙ take-length t

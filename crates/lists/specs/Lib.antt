@@ -2,6 +2,7 @@ pub mod Tests
 pub mod Counts
 pub mod All
 pub mod Members
+pub mod Padded
 pub mod Lowest
 pub mod Places
 pub mod Extents

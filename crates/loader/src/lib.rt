@@ -13,6 +13,7 @@ ghost use Rattle.cardfile.specs.Lines.{line_number, standing};
 ghost use Rattle.loader.specs.declared.LoadFault.TheVariants.{Refused};
 ghost use Rattle.loader.specs.Load.{begin, store_line, take_line, after_begin, idle_ok, load_step, left_load, loaded_of, number_in, named_in};
 
+use block::copy;
 use cardfile::{LineFault, amount_bytes, line_at, line_number, name_of};
 use spec::{BlockStored, ByteOffset, Limits, Phase, Refusal, Session};
 use store::{advance, commit, create, write};
@@ -96,7 +97,7 @@ fn first_image(work: &[u8; Limits::WORK_SIZE]) -> [u8; Limits::BLOCK_SIZE]
 fn put_back(work: &mut [u8; Limits::WORK_SIZE], image: &[u8; Limits::BLOCK_SIZE])
     ensures { slice_of work.new ≡ stored_in (slice_of work.old) 0 image.now }
 {
-    work[..Limits::BLOCK_SIZE].copy_from_slice(image);
+    copy(image, &mut work[..Limits::BLOCK_SIZE]);
 }
 
 // One line: create, write of the amount, commit. A refusal leaves all as it was, the work space too.

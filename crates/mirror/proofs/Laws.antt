@@ -13,6 +13,7 @@ use Rattle.spec.specs.declared.Phase.TheVariants.{Closed, Ready, Committing, Rec
 use Rattle.spec.specs.declared.Session.{Session}
 use Rattle.spec.specs.declared.Extent.{Extent}
 use Rattle.spec.specs.declared.Refusal.{Refusal}
+use Rattle.spec.specs.Session.{never_opened}
 use Rattle.spec.proofs.Refusals.{of-refusal}
 use Rattle.spec.specs.Answers.{Answer, refused, done, started, stored, idle, counted, file, no_file, run, no_run, refusal_of, refusal_number, value_told, fault_told}
 use Rattle.spec.specs.Calls.{Outcome, left, left_buffer}
@@ -35,6 +36,11 @@ phase-back (Recovering d) = refl
 pub decode-encode : (s : Session) → decode (encode s) s.staged ≡ s
 decode-encode s =
     ap (λ (p : Phase). record { blocks = s.blocks; phase = p; staged = s.staged; count = s.count }) (phase-back s.phase)
+
+-- numbers that are all zero stand for a session never opened
+pub zeros-never-opened : decode (record { blocks = 0; phase = 0; place = 0; count = 0 }) (replicate 32 0) ≡ never_opened
+unfolding phase_of
+zeros-never-opened = refl
 
 module _ (n d : ℕ) where
   pub phase-1 : n ≡ 1 → Ready ≡ phase_of n d

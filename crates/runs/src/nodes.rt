@@ -1,20 +1,29 @@
 // The extent blocks of a file.
-use arrayvec::ArrayVec;
 use spec::{DiskBlock, Limits};
 use std::marker::Model;
 
-// At most as many as a record has slots.
-#[derive(Drop)]
+// At most as many as a record has slots: the first `count` cells, the others are 0. No ArrayVec, which is not Copy.
+#[derive(Clone, Copy)]
 pub struct Nodes {
-    blocks: ArrayVec<u32, { Limits::SLOTS_PER_INODE }>,
+    cells: [u32; Limits::SLOTS_PER_INODE],
+    count: usize,
 }
 
 impl Model for Nodes {
-    ghost use Rattle.std.specs.Prelude.{ℕ, List};
+    ghost use Rattle.std.specs.Prelude.{ℕ, List, ◌++◌, ◌-◌, length, take, replicate};
+    ghost use mathlib.Core.Path.{ap₂};
+    ghost use Rattle.lists.specs.Padded.{Padded, padded-count, padded-cells};
 
     ghost Value = { List ℕ };
 
-    ghost view = { λ n. n.blocks.items };
+    ghost view = { λ n. take n.count n.cells };
+
+    ghost invariant = { λ n. Padded 4 n.cells n.count };
+
+    ghost inverse = { λ l. record { cells = l ++ replicate (4 - length l) 0; count = length l } };
+
+    ghost inverse_ok = { λ n h. ap₂ (λ (cells : List ℕ) (count : ℕ). record { cells = cells; count = count })
+        (padded-cells 4 n.cells n.count h) (padded-count 4 n.cells n.count h) };
 }
 
 impl Nodes {
@@ -25,7 +34,8 @@ impl Nodes {
         ensures { result ≡ [] }
     {
         Nodes {
-            blocks: ArrayVec::new(),
+            cells: [0; Limits::SLOTS_PER_INODE],
+            count: 0,
         }
     }
 
@@ -33,26 +43,24 @@ impl Nodes {
     pub fn as_slice(&self) -> &[u32]
         ensures { (result.now ≡ self.now) × (length result.now ≤ 4) }
     {
-        self.blocks.as_slice()
+        &self.cells[..self.count]
     }
 
     // How many there are.
     pub fn len(&self) -> usize
         ensures { (result ≡ length self.now) × (result ≤ 4) }
     {
-        self.blocks.len()
+        self.as_slice().len()
     }
 
     // The first n of them.
     pub fn prefix(&self, n: usize) -> Nodes
         ensures { result ≡ take n self.now }
     {
-        let held = self.as_slice();
-        let mut blocks = ArrayVec::new();
-        blocks
-            .try_extend_from_slice(&held[..held.len().min(n)])
-            .unwrap();
-        Nodes { blocks }
+        let count = self.count.min(n);
+        let mut cells = self.cells;
+        cells[count..].fill(0);
+        Nodes { cells, count }
     }
 
     // One more behind them.
@@ -60,6 +68,7 @@ impl Nodes {
         requires { length self.old < 4 }
         ensures { self.new ≡ self.old ++ (b.0 ∷ []) }
     {
-        self.blocks.push(b.0);
+        self.cells[self.count] = b.0;
+        self.count += 1;
     }
 }

@@ -127,7 +127,10 @@ pub fn remove_in(lent: &mut LentSession, name: &[u8]) -> Result<(), Refusal>
     let i = look_up(&volume, name)?;
     let mut bitmap = Bitmap::of(volume.copy.block(DiskBlock(Limits::BITMAP_BLOCK)));
     let mut extents = ExtentList::empty();
-    let draft = draft_of(&mut bitmap, &mut extents, &volume.copy, i, 0)?;
+    let draft = match draft_of(&mut bitmap, &mut extents, &volume.copy, i, 0) {
+        Ok(draft) => draft,
+        Err(why) => return Err(why),
+    };
     let data = Rewrite {
         held: draft.held,
         old: 0,
@@ -170,7 +173,10 @@ fn resize(
     let mut bitmap = Bitmap::of(copy.block(DiskBlock(Limits::BITMAP_BLOCK)));
     let mut extents = ExtentList::empty();
     let wanted = blocks_for(size as usize);
-    let draft = draft_of(&mut bitmap, &mut extents, &copy, i, wanted)?;
+    let draft = match draft_of(&mut bitmap, &mut extents, &copy, i, wanted) {
+        Ok(draft) => draft,
+        Err(why) => return Err(why),
+    };
     let before = Inode::of(&copy, i);
     let old = before.size() as usize;
     let inode = record_bytes(before.name(), size, draft.extents, &draft.nodes);

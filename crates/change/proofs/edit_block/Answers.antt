@@ -4,7 +4,7 @@ use Rattle.change.proofs.Contents.{made-bitmap, made-record, made-node, made-dat
 use Rattle.change.proofs.edit_block.Goals as goal
 
 pub returns-in-Bitmap : goal.returns-in-Bitmap
-returns-in-Bitmap c = rw c.in-Bitmap.is (made-bitmap c.args.plan.now.number.n (change_of c.args.plan.now) _ _ refl)
+returns-in-Bitmap c = rw c.in-Bitmap.is (made-bitmap c.args.plan.now.number.n (change_of c.args.plan.now) _ _ c.copy.ensures)
 
 pub returns-in-Record : goal.returns-in-Record
 returns-in-Record c = rw c.in-Record.is (made-record c.args.plan.now.number.n (change_of c.args.plan.now) _ _ c.lay_record.ensures)

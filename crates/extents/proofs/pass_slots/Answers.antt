@@ -14,5 +14,5 @@ pub loop-e-preserved : goal.loop-e-preserved
 loop-e-preserved c = λ v tb x.
     let p = c.loop-e.invariant v tb x in
     let o = c.in-Some.ensures v tb (x ∙ ap v (sym p.block)) in
-    let g = slot-passed v tb c.loop-e.rest _ _ o.0 (omega arith) in
+    let g = slot-passed v tb (record { at = c.loop-e.at; skip = c.loop-e.skip; room = c.args.scan.room }) _ _ o.0 (omega arith) in
     record { pieces = p.pieces ∙ g.pieces; room = g.room ∙ p.room; less = omega (arith, p.less, g.less); block = o.1 ∙ p.block }

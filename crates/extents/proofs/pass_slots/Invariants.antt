@@ -7,7 +7,7 @@ use Rattle.extents.specs.Stretches.{Passes}
 use Rattle.extents.proofs.pass_slots.Given as goal
 
 abbrev pub invariant-loop-e : goal.invariant-loop-e
-invariant-loop-e l = (v : Disk) (tb : ℕ) → exactly 512 l.block.bytes.now ≡ v l.initial.rest.at.block → Passes v tb l.initial.rest l.rest
+invariant-loop-e l = (v : Disk) (tb : ℕ) → exactly 512 l.block.bytes.now ≡ v l.scan.at.block → Passes v tb l.scan (record { at = l.at; skip = l.skip; room = l.scan.room })
 
 abbrev pub decreases-loop-e : goal.decreases-loop-e
-decreases-loop-e l = weight l.rest.at
+decreases-loop-e l = weight l.at

@@ -8,4 +8,4 @@ use Rattle.file.proofs.copy_part.Goals as goal
 pub returns : goal.returns
 returns c =
     let zeros : c.fill.new.self ≡ replicate (length c.args.to.now - c.min-n.result) 0 = search rules in
-    part-padded c.args.block.now c.args.off (length c.args.to.now) c.requires _ _ _ _ c.min.ensures c.min-n.ensures c.copy_from_slice.ensures.after zeros
+    part-padded c.args.block.now c.args.off (length c.args.to.now) c.requires _ _ _ _ c.min.ensures c.min-n.ensures c.copy.ensures zeros

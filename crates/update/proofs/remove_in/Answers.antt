@@ -29,11 +29,11 @@ pub draft_of-requires : goal.draft_of-requires
 draft_of-requires c =
     (omega arith, c.of-bitmap.ensures ∙ c.block.ensures.0, subst (λ (e : ExtentList). Small e 0) (sym c.empty-extents.ensures) small-none)
 
-pub returns-in_err-draft-clause-state : goal.returns-in_err-draft-clause-state
-returns-in_err-draft-clause-state c = let (d, e, b) = emptied-fits _ _ _ _ c.draft_of.ensures in let w = c.in_err-draft.was in cc
+pub returns-in-Err-clause-state : goal.returns-in-Err-clause-state
+returns-in-Err-clause-state c = let (d, e, b) = emptied-fits _ _ _ _ c.draft_of.ensures in let w = c.in-Err.is in cc
 
 pub invariant_of-plan : goal.invariant_of-plan
-invariant_of-plan c = record { bounded = (c.draft_of.ensures.tree _ c.in_ok-draft.was).bounded }
+invariant_of-plan c = record { bounded = (c.draft_of.ensures.tree _ c.in-Ok.is).bounded }
 
 pub invariant_of-apply : goal.invariant_of-apply
 invariant_of-apply c =
@@ -45,8 +45,8 @@ returns-clause-state c =
     let l = c.args.lent.now in
     let v = view (state_lent l) in
     let i = c.in_ok-i.i.n in
-    let t = tree_in c.draft_of.new.table.bytes c.in_ok-draft.draft in
-    let built = subst (λ (v : Disk). Built v i 0 t) (shows-view _ _ c.volume-volume.ensures) (c.draft_of.ensures.tree _ c.in_ok-draft.was) in
+    let t = tree_in c.draft_of.new.table.bytes c.in-Ok.draft in
+    let built = subst (λ (v : Disk). Built v i 0 t) (shows-view _ _ c.volume-volume.ensures) (c.draft_of.ensures.tree _ c.in-Ok.is) in
     let d : Change = record { tree = t; «record» = replicate 32 0; old = 0; size = 0; x = 0; bytes = [] } in
     let h : outcome (state_lent c.apply.new.images.lent.now) (done_of c.apply.result) ≡ remove (state_lent l) c.args.name.now =
     remove-fine (session_lent l) l.device.now l.work.now c.args.name.now _ _ _ (c.in_ok-i.ensures _ c.volume-volume.ensures) (remove-stores v i d built refl) c.apply.ensures.state

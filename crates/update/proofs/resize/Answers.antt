@@ -27,18 +27,18 @@ pub draft_of-requires : goal.draft_of-requires
 draft_of-requires c =
     (c.blocks_for-wanted.ensures.1, c.of-bitmap.ensures ∙ c.block.ensures.0, subst (λ (e : ExtentList). Small e 0) (sym c.empty-extents.ensures) small-none)
 
-pub returns-in_err-draft-clause-state : goal.returns-in_err-draft-clause-state
-returns-in_err-draft-clause-state c =
+pub returns-in-Err-clause-state : goal.returns-in-Err-clause-state
+returns-in-Err-clause-state c =
     let a = c.args in
     let l = a.images.now.lent.now in
     let plan = drafted-for _ _ a.i.n _ a.size _ _ c.copy-copy.ensures c.blocks_for-wanted.ensures.0 c.draft_of.ensures in
-    passed-on _ _ _ _ c.from_residual.ensures.1 (rewrite-bad (session_lent l) l.device.now l.work.now a.i.n a.size a.x.0 a.bytes.now _ plan.verdict _ c.in_err-draft.was)
+    rewrite-bad (session_lent l) l.device.now l.work.now a.i.n a.size a.x.0 a.bytes.now _ plan.verdict _ c.in-Err.is
 
 pub record_bytes-inode-requires : goal.record_bytes-inode-requires
-record_bytes-inode-requires c = omega (arith, (c.draft_of.ensures.tree _ c.in_ok-draft.was).bounded.blocks)
+record_bytes-inode-requires c = omega (arith, (c.draft_of.ensures.tree _ c.in-Ok.is).bounded.blocks)
 
 pub invariant_of-plan : goal.invariant_of-plan
-invariant_of-plan c = record { bounded = (c.draft_of.ensures.tree _ c.in_ok-draft.was).bounded }
+invariant_of-plan c = record { bounded = (c.draft_of.ensures.tree _ c.in-Ok.is).bounded }
 
 pub returns-clause-state : goal.returns-clause-state
 returns-clause-state c =
@@ -47,13 +47,13 @@ returns-clause-state c =
     let v = view (state_lent l) in
     let seen = c.copy-copy.ensures in
     let plan = drafted-for _ _ a.i.n _ a.size _ _ seen c.blocks_for-wanted.ensures.0 c.draft_of.ensures in
-    let draft = c.in_ok-draft.draft in
+    let draft = c.in-Ok.draft in
     let t = tree_in c.draft_of.new.table.bytes draft in
     let r = c.of-before in
     let block = r.ensures.1 ∙ ap (λ (u : Disk). u (block_of_inode a.i.n)) seen in
     let d : Change = record { tree = t; «record» = c.record_bytes-inode.result; old = c.size-old.result; size = a.size; x = a.x.0; bytes = a.bytes.now } in
-    rewrite-fine (session_lent l) l.device.now l.work.now a.i.n a.size a.x.0 a.bytes.now _ plan.verdict _ _ draft c.in_ok-draft.was
-    (rewrite-stores v a.i.n _ d (plan.tree draft c.in_ok-draft.was) _ a.size
+    rewrite-fine (session_lent l) l.device.now l.work.now a.i.n a.size a.x.0 a.bytes.now _ plan.verdict _ _ draft c.in-Ok.is
+    (rewrite-stores v a.i.n _ d (plan.tree draft c.in-Ok.is) _ a.size
     (c.record_bytes-inode.ensures
     ∙ kept_record v a.i.n _ _ a.size t.extents (levels_in (tree_of t.extents draft.nodes)) (c.name.ensures ∙ ap (λ (k : ℕ). take 8 (record_in r.result.table.now k)) r.ensures.0) block
     ∙ ap (λ (ls : List (List ℕ)). bytes_of_inode (inode_with (name_at v a.i.n) a.size t.extents ls)) (parts-levels t.table t.extents draft.nodes t.before t.held))

@@ -8,7 +8,7 @@ pub returns-then-from-end : goal.returns-then-from-end
 returns-then-from-end c =
     part-laid _ _ _ _ (search rules) _ _
     (reach _ _ _ _ _ (c.min-from.ensures ∙ ap (λ (n : ℕ). min 512 n) c.saturating_sub.ensures) (c.min-end.ensures ∙ ap (λ (n : ℕ). min 512 n) c.saturating_sub-2.ensures) c.if-from-end.true) _
-    c.copy_from_slice.ensures.after
+    c.copy.ensures
 
 pub returns-else-from-end : goal.returns-else-from-end
 returns-else-from-end c =

@@ -1,14 +1,16 @@
-use Rattle.transaction.specs.Volumes.{working}
+use Rattle.std.proofs.Common.{ℕ, ◌<◌}
+use Rattle.std.specs.Prelude.{Some}
+use Rattle.spec.specs.Disk.{Disk}
+use Rattle.inode.specs.declared.Cursor.{Cursor}
+use Rattle.inode.specs.declared.Step.{Step}
+use Rattle.inode.specs.declared.Step.TheVariants.{Leaf, Node}
+use Rattle.inode.specs.Walk.{weight, Steps}
 use Rattle.inode_main.proofs.walk.WalkIterator.next.Goals as goal
 
-pub returns-in-Some-clause-goes : goal.returns-in-Some-clause-goes
-returns-in-Some-clause-goes c =
-    let a = c.args.self.now in
-    record { on = λ _. (tt, tt, (c.in-Some.ensures (working a.copy) a.record_block.0 c.block.ensures.0).0.less); keeps = tt; rests = λ _. tt }
+-- each step leaves fewer
+fewer : (v : Disk) (tb : ℕ) (c d : Cursor) (s : Step) → Steps v tb c (Some (s, d)) → weight d < weight c
+fewer v tb c d (Leaf e) o = o.less
+fewer v tb c d (Node b) o = o.less
 
 pub returns-clause-goes : goal.returns-clause-goes
-returns-clause-goes c =
-    let a = c.args.self.now in
-    let v = working a.copy in
-    let none = c.in_default.ensures v a.record_block.0 c.block.ensures.0 in
-    record { on = λ _. (tt, tt, (c.in_ok-b.ensures v a.record_block.0 c.block-2.ensures.0 none).0.less); keeps = tt; rests = λ _. tt }
+returns-clause-goes c = record { on = λ _. (tt, tt, fewer _ _ _ _ _ c.in_ok-step.ensures); keeps = tt; rests = λ _. tt }

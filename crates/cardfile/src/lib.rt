@@ -139,12 +139,14 @@ fn until(s: &[u8], x: u8) -> usize
     place_of(s, x).unwrap_or(s.len())
 }
 
-// The bytes of the line that a text begins with, at most one more than a line may have.
+// The bytes of the line that a text begins with, at most one more than a line may have. Of an array it takes fewer steps than of a slice that is as long.
 fn line_length(rest: &[u8]) -> usize
     ensures { result ≡ min 65 (length (line_of rest.now)) }
 {
-    let seen = rest.len().min(Line::SEEN);
-    until(&rest[..seen], b'\n')
+    match rest.first_chunk::<{ Line::SEEN }>() {
+        Some(seen) => until(seen, b'\n'),
+        None => until(rest, b'\n'),
+    }
 }
 
 // A digit's value.
@@ -218,7 +220,7 @@ fn decimal_serial(t: &[u8], bytes: usize) -> Option<Serial>
     ensures { result ≡ serial_told (within bytes (read_decimal 0 t.now)) }
 {
     let number = decimal_number(t)?;
-    (number < 256u64.pow(bytes as u32)).then_some(Serial { bytes, number })
+    (number < 1 << (8 * bytes)).then_some(Serial { bytes, number })
 }
 
 // The serial of a line in this spelling.
@@ -285,7 +287,8 @@ fn line_in(rest: &[u8], at: usize) -> Result<Option<Line>, LineFault>
     }))
 }
 
-// What stands at a place of a text; none behind its end.
+// What stands at a place of a text; none behind its end. Inlined, and so is `next` below: else each hands the card on by a copy of its own.
+#[inline(always)]
 #[tactic(auto, using(crate::proofs::Forms::place_rules))]
 pub fn line_at(text: &[u8], at: usize) -> Result<Option<Line>, LineFault>
     ensures { result ≡ line_at text.now at }
@@ -322,6 +325,7 @@ impl<'a> Iterator for Lines<'a> {
 
     ghost remaining = { λ s. at_most (length s.text.now - s.at) };
 
+    #[inline(always)]
     fn next(&mut self) -> Option<Result<Line, LineFault>> {
         let found = line_at(self.text, self.at).transpose()?;
         self.at = found.map_or(self.text.len(), |line| line.next);

@@ -1,14 +1,15 @@
 -- The second pass: what is written of a file's lines. Assumes nothing.
-use Prim.Native.Nat.{ℕ, zero, suc, ◌+◌, ◌*◌, ◌-◌, ◌/◌, ◌%◌, ◌<◌, ◌≤◌, ◌^◌}
+use Prim.Native.Nat.{ℕ, suc, ◌+◌, ◌-◌, ◌/◌, ◌%◌, ◌<◌, ◌≤◌, ◌^◌}
 use mathlib.Core.Path.{◌≡◌, refl, sym, ap, ◌∙◌}
 use mathlib.Core.Bool.{Bool, true, false, cond}
 use mathlib.Core.List.{List, [], ◌∷◌, ◌++◌, append_assoc}
 use mathlib.Core.Option.{some}
 use Rattle.std.specs.Prelude.{Option, Some, None, Result, Ok, Err}
 use native.Mathlib.Omega.{arith}
-use native.Mathlib.Nat.{div-div-eq-div-mul, pow-succ', one-le-pow}
-use lib.ListN.{length, take, drop, length-append, take-append-drop}
+use lib.ListN.{length, set, take, drop, length-set, length-append, length-take, take-append-drop}
 use lib.Seq.{drop-drop, take_all, drop_at, take_at}
+use Rattle.std.proofs.lemmas.List.{append-nil, drop-set, drop_all}
+use Rattle.std.proofs.Math.Seq.{take-set-lt}
 use lib.Dec.{eqb, leb}
 use borrow.Author.Tests.{leb-true}
 use Rattle.spec.specs.Answers.{refused, counted}
@@ -38,49 +39,39 @@ use Rattle.converter.proofs.Passes.{Next, seen, line-found, line-fault, line-non
 
 -- ---- digits and serials
 
--- the highest digit of so many, then the others
-padded-front : (k n : ℕ) → padded (suc k) n ≡ (48 + n / 10 ^ k % 10) ∷ padded k n
-unfolding padded
-padded-front zero n = let z : n / 1 ≡ n = omega arith in rw z
-padded-front (suc k) n =
-    let z : n / 10 / 10 ^ k ≡ n / 10 ^ suc k = div-div-eq-div-mul n 10 (10 ^ k) ∙ ap (λ (u : ℕ). n / u) (sym (pow-succ' 10 k)) in
-    ap (λ (t : List ℕ). t ++ ((48 + n % 10) ∷ [])) (padded-front k (n / 10)) ∙ rw z
+-- what the loop has found: the digits from place k on, and `rest` is what is left of the number for those before
+pub record Found (count n : ℕ) (digits : List ℕ) (k rest : ℕ) : Type 0 where
+  pub size : length digits ≡ 17
+  pub joined : padded k rest ++ drop k (take count digits) ≡ padded count n
 
--- what the loop has written: k digits are left, and u is ten to that number
-pub record Padding (w₀ : Writer) (count n : ℕ) (w : Writer) (k u : ℕ) : Type 0 where
-  pub unit : u ≡ 10 ^ k
-  pub left : Left w₀ (padded count n) w (padded k n)
+pub found-none : (count n : ℕ) (digits : List ℕ) → length digits ≡ 17 → Found count n digits count n
+found-none count n digits s =
+    let z : length (take count digits) ≤ count = omega (arith, length-take count digits) in
+    record { size = s; joined = rw (drop_all count (take count digits) z) (append-nil (padded count n)) }
 
-module _ (w₀ : Writer) (count n : ℕ) (w : Writer) (k u : ℕ) (q : Padding w₀ count n w k u) where
-  pub unit-next : (j : ℕ) → k ≡ suc j → u / 10 ≡ 10 ^ j
-  unit-next j e =
-      let a : u ≡ 10 * 10 ^ j = q.unit ∙ ap (λ (i : ℕ). 10 ^ i) e ∙ pow-succ' 10 j in
-      omega (arith, a)
-
-  pub unit-some : 0 < k → 0 < u / 10
-  unit-some h =
-      let e : k ≡ suc (k - 1) = omega arith in
-      let z : 0 < 10 = omega arith in
-      let a : 1 ≤ 10 ^ (k - 1) = one-le-pow (k - 1) 10 z in
-      omega (arith, unit-next (k - 1) e, a)
-
-  pub padding-more : 0 < k → (j : ℕ) → j ≡ k - 1 → (w' : Writer) → Put w w' ((48 + n / (u / 10) % 10) ∷ []) → Padding w₀ count n w' j (u / 10)
-  padding-more h j i w' g =
-      let e : k ≡ suc (k - 1) = omega arith in
-      let a = unit-next (k - 1) e in
-      rw i (record {
-        unit = a;
-        left =
-            left_step w₀ (padded count n) w (padded k n) q.left ((48 + n / (u / 10) % 10) ∷ []) (padded (k - 1) n) w'
-            (ap (λ (i : ℕ). padded i n) e ∙ padded-front (k - 1) n ∙ ap (λ (v : ℕ). (48 + n / v % 10) ∷ padded (k - 1) n) (sym a))
-            g;
-      })
-
-  pub padding-end : k ≤ 0 → Put w₀ w (padded count n)
+module _ (count n : ℕ) (digits : List ℕ) (rest k : ℕ) (q : Found count n digits k rest) where
+  pub found-more : count ≤ 17 → 0 < k → k ≤ count → Found count n (set digits (k - 1) (48 + rest % 10)) (k - 1) (rest / 10)
   unfolding padded
-  padding-end h =
+  found-more m z h =
+      let e : k ≡ suc (k - 1) = omega arith in
+      let i : k - 1 < length (take count digits) = omega (arith, length-take count digits, q.size) in
+      let f : k - 1 + 1 ≡ k = omega arith in
+      record {
+        size = length-set digits (k - 1) (48 + rest % 10) ∙ q.size;
+        joined =
+            ap (λ (l : List ℕ). padded (k - 1) (rest / 10) ++ drop (k - 1) l) (take-set-lt count digits (k - 1) (48 + rest % 10) (omega arith))
+            ∙ ap (λ (l : List ℕ). padded (k - 1) (rest / 10) ++ l) (drop-set (take count digits) (k - 1) (48 + rest % 10) i)
+            ∙ ap (λ (j : ℕ). padded (k - 1) (rest / 10) ++ ((48 + rest % 10) ∷ drop j (take count digits))) f
+            ∙ sym (append_assoc (padded (k - 1) (rest / 10)) ((48 + rest % 10) ∷ []) (drop k (take count digits)))
+            ∙ ap (λ (j : ℕ). padded j rest ++ drop k (take count digits)) (sym e)
+            ∙ q.joined;
+      }
+
+  pub found-all : k ≤ 0 → take count digits ≡ padded count n
+  unfolding padded
+  found-all h =
       let e : k ≡ 0 = omega arith in
-      left_end w₀ (padded count n) w (padded k n) q.left (ap (λ (i : ℕ). padded i n) e)
+      sym (ap (λ (j : ℕ). padded j rest ++ drop j (take count digits)) e) ∙ q.joined
 
 module _ (b n : ℕ) (k : b ≤ 7) (l : n < 256 ^ b) where
   pub spell-h : (name : List ℕ) → name ≡ name_told b n → hexadecimal (take (b + 1 - 1) (drop 1 name)) ≡ spell (letter_of Hexadecimal) (bytes_of b n)

@@ -85,16 +85,19 @@ fn test_lines(text: &[u8], wanted: Spelling, most: usize) -> Result<usize, Conve
 
 // ---- the second pass: every line is written
 
-// The last digits of a number, so many of them, the highest first: one by one, since of core's `write!` holds what stands at text's put_number.
+// The last digits of a number, so many of them, the highest first. They are found from the last on, by tens alone, and written together: core's `write!` pads too, and
+// of it holds what stands at text's put_number.
 fn put_padded(w: &mut Writer, count: usize, n: u64)
     requires { count ≤ 17 }
     ensures { Put w.old w.new (padded count n) }
 {
-    let mut u = 10u64.pow(count as u32);
-    for _ in 0..count {
-        u /= 10;
-        w.put(b'0' + (n / u % 10) as u8);
+    let mut digits = [b'0'; Serial::LONG_DECIMAL];
+    let mut rest = n;
+    for k in (0..count).rev() {
+        digits[k] = b'0' + (rest % 10) as u8;
+        rest /= 10;
     }
+    w.put_bytes(&digits[..count]);
 }
 
 // A card's serial in the wanted spelling. Its bytes stand in the card's name, behind their number. No ghost field of Serial tells the two facts: cardfile's name_of takes

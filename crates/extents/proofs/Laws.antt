@@ -1,16 +1,16 @@
 -- Laws of stretches and their maximal runs. Assumes nothing.
-use Prim.Native.Nat.{ℕ, zero, suc, ◌+◌, ◌-◌, ◌<◌, ◌≤◌, min}
+use Prim.Native.Nat.{ℕ, zero, suc, ◌+◌, ◌-◌, ◌*◌, ◌<◌, ◌≤◌, min}
 use mathlib.Core.Path.{◌≡◌, refl, sym, ap, ◌∙◌}
-use mathlib.Core.Bool.{Bool, true, false, cond}
+use mathlib.Core.Bool.{Bool, true, false, cond, ◌||◌, true≢false}
 use mathlib.Core.Logic.{◌⊎◌, inl, inr}
 use mathlib.Core.List.{List, [], ◌∷◌, ◌++◌, append-nil, append_assoc}
 use native.Mathlib.Omega.{arith}
-use borrow.Author.Tests.{eq-eqb, ne_eqb, le-leb, lt-leb}
-use lib.Dec.{eqb, leb}
-use lib.ListN.{length, take, drop, get_elem?, length-append, length-take, length-drop}
+use borrow.Author.Tests.{eq-eqb, ne_eqb, eqb-false, ltb-false, le-leb, lt-leb}
+use lib.Dec.{eqb, ltb, leb}
+use lib.ListN.{length, take, drop, get_or, get_elem?, length-append, length-take, length-drop}
 use lib.Seq.{take-nil, drop-nil}
 use Rattle.spec.specs.declared.Extent.{Extent}
-use Rattle.spec.specs.Bytes.{up_from}
+use Rattle.spec.specs.Bytes.{exactly, up_from}
 use Rattle.spec.specs.Disk.{Disk}
 use Rattle.spec.specs.Inode.{extent, inode_at, block_of_inode, blocks_in, extents_of, data_of, prepend, runs}
 use Rattle.spec.specs.Transaction.{State, view}
@@ -22,9 +22,9 @@ use Rattle.transaction.specs.Volumes.{working, Shows}
 use Rattle.transaction.specs.declared.volume.Volume.{Volume}
 use Rattle.transaction.proofs.Laws.{shows-view}
 use Rattle.inode.specs.declared.Cursor.{Cursor}
-use Rattle.inode.specs.Walk.{rest, start_of, Onward, Inward, Ended}
+use Rattle.inode.specs.Walk.{slot_in, whole_slots, behind, rest, start_of, Onward, Inward, Ended}
 use Rattle.inode.proofs.Laws.{drop-take}
-use Rattle.inode.proofs.Walk.{extents-start, block_start}
+use Rattle.inode.proofs.Walk.{extents-start, block_start, step-whole}
 use Rattle.extents.specs.declared.Scan.{Scan}
 use Rattle.extents.specs.declared.piece.Piece.{Piece}
 use Rattle.extents.specs.declared.pieces.Pieces.{Pieces}
@@ -33,7 +33,7 @@ use Rattle.std.specs.Prelude.{Option as Returned, Some, None, MatchOption, slice
 use Rattle.std.specs.Option.{ForSome}
 use Rattle.std.specs.Iterator.{YieldsFirst, MakesProgress, item_count}
 use Rattle.extents.specs.Stretches.{run_of, held_blocks, held_count}
-use Rattle.extents.specs.Stretches.{Held, pending, Starts, blocks_at, pieces, left_at, TakesPiece, GoesOn, runs_in}
+use Rattle.extents.specs.Stretches.{Held, pending, Starts, blocks_at, pieces, left_at, TakesPiece, GoesOn, Passes, runs_in}
 
 -- ---- lists of numbers in a row
 
@@ -193,6 +193,30 @@ module _ (v : Disk) (tb : ℕ) (c : Scan) where
   pub node-none : Ended v tb c.at → left_at v tb c ≡ []
   unfolding left_at pieces
   node-none i = ap (λ (es : List Extent). pieces c.skip c.room es) i.extents
+
+-- over the whole slots of a leaf
+neither : (a b : Bool) → (a || b) ≡ false → (a ≡ false) × (b ≡ false)
+neither false b h = (refl, h)
+neither true b h = absurd (true≢false h)
+
+module _ (v : Disk) (tb : ℕ) (c : Scan) where
+  pub whole_none : Passes v tb c (record { at = behind c.at 0; skip = c.skip; room = c.room })
+  whole_none =
+      let z : c.at.at + 4 * 0 ≡ c.at.at = omega arith in
+      let y : c.at.left - 0 ≡ c.at.left = omega arith in
+      rw (z, y) (record { pieces = refl; room = refl; less = omega arith; block = refl })
+
+  -- one more, behind k that are passed
+  pub whole-passed : (block : List ℕ) (k skip : ℕ) (e : Extent) → length block ≤ 512 → exactly 512 block ≡ v c.at.block
+      → Passes v tb c (record { at = behind c.at k; skip = skip; room = c.room }) → k < length (whole_slots c.at.left c.at.at block)
+      → (e ≡ slot_in 0 (get_or (whole_slots c.at.left c.at.at block) k [])) × (e.first < 65536) × (e.count < 65536) → (eqb e.count 0 || ltb skip e.count) ≡ false
+      → Passes v tb c (record { at = behind c.at (k + 1); skip = skip - e.count; room = c.room })
+  whole-passed block k skip e few x p l f h =
+      let q = neither (eqb e.count 0) (ltb skip e.count) h in
+      let some : 0 < e.count = omega (arith, eqb-false e.count 0 q.0) in
+      let o = step-whole v tb c.at block k e few x l f some in
+      let g = slot-passed v tb (record { at = behind c.at k; skip = skip; room = c.room }) e (behind c.at (k + 1)) o (ltb-false skip e.count q.1) in
+      record { pieces = p.pieces ∙ g.pieces; room = g.room ∙ p.room; less = omega (arith, p.less, g.less); block = refl }
 
 -- the first piece of a stretch that has room for all that follows block p holds it
 module _ (v : Disk) (i p n : ℕ) (ps qs : List Extent) (q : Piece) where

@@ -12,7 +12,7 @@ ghost use Rattle.inode.specs.Walk.{leaf};
 ghost use Rattle.extents.specs.Stretches.{Places, Starts, SlotSteps, NodeSteps, Passes, run_of, runs_in, held_blocks, held_count};
 ghost use Rattle.extents.specs.Pieces.{pieces_left};
 
-use inode::{Cursor, InodeNumber, SlotBlock, Step, inode_block, start_at, table_block};
+use inode::{Cursor, InodeNumber, SlotBlock, Step, inode_block, slot_of, start_at, table_block};
 use spec::{DiskBlock, Extent, FileBlock, Limits};
 use transaction::WorkingCopy;
 
@@ -115,21 +115,27 @@ pub fn take_slot(block: &SlotBlock, scan: Scan) -> AtSlot
     )
 }
 
-// The stretch behind all slots of this block that end before it begins. A `while let`: the place, the slots left and what is to be skipped move on together and
-// are the answer, so an iterator over the slots would have to give all three back.
+// The stretch behind all slots of this block that end before it begins: a loop over the slots alone, since a short read behind many extents does little else. Of a
+// block that ends early it may leave one that the bytes cut, which the next step takes.
 pub fn pass_slots(block: &SlotBlock, scan: Scan) -> Scan
     ensures { (v : Disk) (tb : ℕ) → exactly 512 block.now.bytes.now ≡ v scan.at.block → Passes v tb scan result }
 {
-    let mut at = scan.at;
+    let from = scan.at;
     let mut skip = scan.skip;
-    while let Some((e, then)) = at.pass(block) {
-        let count = e.count as usize;
-        if skip < count {
+    let mut passed = 0;
+    for bytes in block.whole_slots(from.at, from.left) {
+        let count = slot_of(bytes).count as usize;
+        if (count == 0) | (skip < count) {
             break;
         }
         skip -= count;
-        at = then;
+        passed += 1;
     }
+    let at = Cursor {
+        at: from.at + Limits::SLOT_SIZE * passed,
+        left: from.left - passed,
+        ..from
+    };
     Scan { at, skip, ..scan }
 }
 

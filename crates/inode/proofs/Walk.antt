@@ -1,10 +1,13 @@
 -- Laws of the walk over a file's tree. Assumes nothing.
-use Prim.Native.Nat.{ℕ, zero, suc, ◌+◌, ◌-◌, ◌<◌, ◌≤◌, min}
+use Prim.Native.Nat.{ℕ, zero, suc, ◌+◌, ◌-◌, ◌*◌, ◌/◌, ◌<◌, ◌≤◌, min}
 use mathlib.Core.Path.{◌≡◌, refl, sym, ap, ◌∙◌}
 use mathlib.Core.Bool.{Bool, true, false, not, true≢false}
 use mathlib.Core.List.{List, [], ◌∷◌, append-nil}
 use native.Mathlib.Omega.{arith}
-use lib.ListN.{length, take, drop, get_or, get_or-eq_default, length-drop}
+use lib.ListN.{length, take, drop, get_or, get_or-eq_default, length-drop, length-take}
+use Rattle.std.specs.Simd.{first_chunks}
+use Rattle.std.proofs.lemmas.List.{take_min, drop_min}
+use Rattle.std.proofs.Math.Nat.{mul-suc}
 use lib.Seq.{get_or-take, get_or-drop, drop-drop, take_all}
 use lib.Dec.{eqb, ltb}
 use borrow.Author.Tests.{eqb-true, eqb-false, ltb-true, eq-eqb, ne_eqb, lt-ltb, not-true}
@@ -16,7 +19,7 @@ use Rattle.spec.specs.Inode.{extent, slots_in, slots_at, used, inode_of, inode_b
 use Rattle.block.proofs.Laws.{exactly-byte}
 use Rattle.inode.specs.declared.Cursor.{Cursor}
 use Rattle.inode.specs.Records.{record_in}
-use Rattle.inode.specs.Walk.{slot_in, Slot, live, leaf, rest, rest_nodes, weight, Onward, Inward, Ended, start_of}
+use Rattle.inode.specs.Walk.{slot_in, Slot, whole_slots, live, leaf, rest, rest_nodes, weight, behind, Onward, Inward, Ended, start_of}
 use Rattle.inode.proofs.Laws.{field-slots, inode-at}
 
 -- ---- one slot
@@ -67,6 +70,60 @@ module _ (block : List ℕ) (at : ℕ) (few : length block ≤ 512) where
         inside = λ k. absurd (omega arith);
       }
 
+-- ---- whole slots
+
+-- from a place that is taken to the end of the bytes at most
+pub slots-whole : (block : List ℕ) (at most a n : ℕ) (all : List (List ℕ)) → a ≡ min at (length block)
+    → all ≡ first_chunks 4 (length (take (length block - a) (drop a block)) / 4) (take (length block - a) (drop a block))
+    → n ≡ min most (length all) → take n all ≡ whole_slots most at block
+slots-whole block at most a n all h front few =
+    let z : take (length block - a) (drop a block) ≡ drop at block
+    = take_all (length block - a) (drop a block) (rw length-drop (omega (arith, h))) ∙ ap (λ (k : ℕ). drop k block) h ∙ drop_min at block in
+    ap (λ (k : ℕ). take k all) few ∙ take_min most all ∙ ap (take most) (rw z at front)
+
+-- the chunks of n elements that a list begins with
+chunk-at : {X : Type 0} (n k w : ℕ) (t : List X) (d : List X) → w < k → get_or (first_chunks n k t) w d ≡ take n (drop (n * w) t)
+chunk-at n zero w t d h = absurd (omega arith)
+chunk-at n (suc k) zero t d h = let z : n * 0 ≡ 0 = omega arith in rw z
+chunk-at n (suc k) (suc w) t d h =
+    let e : n + n * w ≡ n * suc w = omega (arith, mul-suc n w) in
+    chunk-at n k w (drop n t) d (omega arith) ∙ ap (take n) (drop-drop (n * w) n t ∙ ap (λ (j : ℕ). drop j t) e)
+
+chunks-many : {X : Type 0} (n k : ℕ) (t : List X) → length (first_chunks n k t) ≡ k
+chunks-many n zero t = refl
+chunks-many n (suc k) t = ap suc (chunks-many n k (drop n t))
+
+-- no more of them than are asked for, and than lie in the block
+pub slots-many : (block : List ℕ) (at most n : ℕ) → length block ≤ 512 → (slots : List (List ℕ)) → slots ≡ whole_slots most at block → n ≤ length slots
+    → (n ≤ most) × (4 * n ≤ 512 - at)
+slots-many block at most n few slots s h =
+    let m = length (drop at block) / 4 in
+    let z : length slots ≡ min most (length (first_chunks 4 m (drop at block))) = ap length s ∙ length-take most (first_chunks 4 m (drop at block)) in
+    let y : length (first_chunks 4 m (drop at block)) ≡ (length block - at) / 4 = chunks-many 4 m (drop at block) ∙ ap (λ (k : ℕ). k / 4) (length-drop at block) in
+    (omega (arith, z, h), omega (arith, z, y, h))
+
+-- one of the slots, by its bytes
+module _ (block : List ℕ) (at most k : ℕ) (few : length block ≤ 512) (l : k < length (whole_slots most at block)) where
+  slots-few : (k < most) × (k < (length block - at) / 4)
+  slots-few =
+      let n = length (drop at block) / 4 in
+      let z : length (whole_slots most at block) ≡ min most (length (first_chunks 4 n (drop at block))) = length-take most (first_chunks 4 n (drop at block)) in
+      let y : length (first_chunks 4 n (drop at block)) ≡ (length block - at) / 4 = chunks-many 4 n (drop at block) ∙ ap (λ (m : ℕ). m / 4) (length-drop at block) in
+      (omega (arith, z, l), omega (arith, z, y, l))
+
+  slot-bytes : get_or (whole_slots most at block) k [] ≡ take 4 (drop (at + 4 * k) block)
+  slot-bytes =
+      let n = length (drop at block) / 4 in
+      let y : n ≡ (length block - at) / 4 = ap (λ (m : ℕ). m / 4) (length-drop at block) in
+      get_or-take most (first_chunks 4 n (drop at block)) k [] slots-few.0
+      ∙ chunk-at 4 n k (drop at block) [] (omega (arith, y, slots-few.1))
+      ∙ ap (take 4) (drop-drop (4 * k) at block)
+
+  pub slot-whole : (e : Extent) → (e ≡ slot_in 0 (get_or (whole_slots most at block) k [])) × (e.first < 65536) × (e.count < 65536) → Slot (exactly 512 block) (at + 4 * k) e
+  slot-whole e f =
+      slot_read block (at + 4 * k) few (get_or (whole_slots most at block) k []) e (omega (arith, slots-few.1)) f
+      (λ i h. ap (λ (l : List ℕ). get_or l i 0) slot-bytes ∙ get_or-take 4 (drop (at + 4 * k) block) i 0 h ∙ get_or-drop (at + 4 * k) block i 0)
+
 -- the same of the block of a disk that these bytes are
 pub slot_of : (X Y : List ℕ) (at : ℕ) (e : Extent) → X ≡ Y → Slot X at e → Slot Y at e
 slot_of X Y at e q s = rw q at s
@@ -82,6 +139,10 @@ live-count n e h = omega (arith, eqb-false e.count 0 (not-true (eqb e.count 0) (
 
 pub live_inside : (X : List ℕ) (at n : ℕ) (e : Extent) (r : Bool) → Slot X at e → r ≡ live n e → r ≡ true → at < 512
 live_inside X at n e r s l h = s.inside (live-count n e (sym l ∙ h))
+
+live-is : (n : ℕ) (e : Extent) → 0 < n → 0 < e.count → live n e ≡ true
+unfolding live
+live-is n e h k = rw (lt-ltb 0 n h, ne_eqb e.count 0 (λ z. omega (arith, z, k)))
 
 not_live : (m : ℕ) (e : Extent) → live (suc m) e ≡ false → e.count ≡ 0
 unfolding live
@@ -160,6 +221,18 @@ module _ (v : Disk) (tb : ℕ) (c : Cursor) where
       let j : leaf v tb c.top c.tops ≡ [] = leaf-end v tb c.top c.tops (slot-live (v tb) c.top c.tops t r false s l h) in
       record { extents = rw (k, j); nodes = rw j }
   -- a step by its kind
+
+-- a step over one of the whole slots, behind k others
+module _ (v : Disk) (tb : ℕ) (c : Cursor) (block : List ℕ) (k : ℕ) where
+  pub step-whole : (e : Extent) → length block ≤ 512 → exactly 512 block ≡ v c.block → k < length (whole_slots c.left c.at block)
+      → (e ≡ slot_in 0 (get_or (whole_slots c.left c.at block) k [])) × (e.first < 65536) × (e.count < 65536) → 0 < e.count
+      → Onward v tb (behind c k) e (behind c (k + 1))
+  step-whole e few x l f some =
+      let s = slot_of (exactly 512 block) (v c.block) (c.at + 4 * k) e x (slot-whole block c.at c.left k few l e f) in
+      let g = step-leaf v tb (behind c k) e true s (sym (live-is (c.left - k) e (omega (arith, slots-few block c.at c.left k few l)) some)) refl in
+      let z : c.at + 4 * k + 4 ≡ c.at + 4 * (k + 1) = omega arith in
+      let y : c.left - k - 1 ≡ c.left - (k + 1) = omega arith in
+      rw (z, y) at g
 
 -- ---- the start
 

@@ -1,5 +1,6 @@
 -- The walk over a file's tree: what is left of it at a cursor, and what a step does.
-use Rattle.std.specs.Prelude.{ℕ, ◌+◌, ◌*◌, ◌<◌, ◌≡◌, Bool, cond, not, ◌&&◌, List, [], ◌∷◌, ◌++◌, map, drop, eqb, ltb, Option, Some, None}
+use Rattle.std.specs.Prelude.{ℕ, ◌+◌, ◌-◌, ◌*◌, ◌/◌, ◌<◌, ◌≡◌, Bool, cond, not, ◌&&◌, List, [], ◌∷◌, ◌++◌, map, length, take, drop, eqb, ltb, Option, Some, None}
+use Rattle.std.specs.Simd.{first_chunks}
 use Rattle.spec.specs.declared.DiskBlock.{DiskBlock}
 use Rattle.spec.specs.declared.Extent.{Extent}
 use Rattle.spec.specs.Bytes.{number2}
@@ -20,6 +21,10 @@ pub record Slot (xs : List ℕ) (at : ℕ) (e : Extent) : Type 0 where
   pub count : e.count < 65536
   pub inside : 0 < e.count → at < 512
 
+-- the slots that lie whole in some bytes from a place on, at most so many
+abbrev pub whole_slots : ℕ → ℕ → List ℕ → List (List ℕ)
+whole_slots most at xs = take most (first_chunks 4 (length (drop at xs) / 4) (drop at xs))
+
 -- n slots are left and the first, e, is used
 unfoldable pub live : ℕ → Extent → Bool
 live n e = ltb 0 n && not (eqb e.count 0)
@@ -38,6 +43,10 @@ rest_nodes v tb c = map (λ e. e.first) (leaf v tb c.top c.tops)
 -- at most so many steps are left
 abbrev pub weight : Cursor → ℕ
 weight c = c.left + 129 * c.tops
+
+-- the cursor k slots of its leaf behind another
+abbrev pub behind : Cursor → ℕ → Cursor
+behind c k = record { block = c.block; at = c.at + 4 * k; left = c.left - k; top = c.top; tops = c.tops }
 
 -- a step from c to d over the extent e
 pub record Onward (v : Disk) (tb : ℕ) (c : Cursor) (e : Extent) (d : Cursor) : Type 0 where

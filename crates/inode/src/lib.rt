@@ -201,7 +201,7 @@ impl Cursor {
 }
 
 // A slot's four bytes.
-fn slot_of(bytes: &[u8; Limits::SLOT_SIZE]) -> Extent
+pub fn slot_of(bytes: &[u8; Limits::SLOT_SIZE]) -> Extent
     ensures { (result ≡ slot_in 0 bytes.now) × (result.first < 65536) × (result.count < 65536) }
 {
     let [a, b, c, d] = *bytes;

@@ -1,12 +1,13 @@
-use native.Mathlib.Omega.{arith}
-use Rattle.converter.proofs.Writes.{unit-some, padding-more, padding-end}
+use mathlib.Core.Path.{refl}
+use Rattle.text.proofs.Laws.{put_as}
+use Rattle.converter.proofs.Writes.{found-none, found-more, found-all}
 use Rattle.converter.proofs.put_padded.Goals as goal
 
-pub nonzero_div-n : goal.nonzero_div-n
-nonzero_div-n c = omega (arith, unit-some _ _ _ _ _ _ c.loop.invariant (omega arith))
+pub loop-k-init : goal.loop-k-init
+loop-k-init c = found-none _ _ _ refl
 
-pub loop-preserved : goal.loop-preserved
-loop-preserved c = padding-more _ _ _ _ _ _ c.loop.invariant (omega arith) _ (omega arith) _ c.put.ensures
+pub loop-k-preserved : goal.loop-k-preserved
+loop-k-preserved c = found-more _ _ _ _ _ c.loop-k.invariant c.requires c.loop-k-test.true c.loop-k.auto.k
 
 pub returns : goal.returns
-returns c = padding-end _ _ _ _ _ _ c.loop.invariant (omega arith)
+returns c = put_as _ _ _ _ c.put_bytes.ensures (found-all _ _ _ _ _ c.loop-k.invariant c.loop-k-test.false)

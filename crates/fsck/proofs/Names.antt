@@ -1,7 +1,7 @@
 -- Names as numbers. Assumes nothing.
 use Prim.Native.Nat.{ℕ, zero, suc, ◌+◌, ◌-◌, ◌%◌, ◌<◌, ◌≤◌}
 use mathlib.Core.Path.{◌≡◌, refl, sym, ap, ◌∙◌}
-use mathlib.Core.Bool.{Bool, true, false, true≢false}
+use mathlib.Core.Bool.{Bool, true, false, ◌||◌, true≢false}
 use mathlib.Core.Logic.{⊎_elim}
 use mathlib.Core.List.{List, [], ◌∷◌}
 use mathlib.Core.Option.{Option, none, some}
@@ -21,7 +21,8 @@ use Rattle.std.proofs.lemmas.Bool.{or_parts}
 use Rattle.std.proofs.lemmas.List.{get_or_past}
 use Rattle.block.specs.Keys.{key_of, Name}
 use Rattle.block.proofs.Keys.{same_key, zero-key, key-as}
-use Rattle.std.specs.Prelude.{Option as Returned, Some, None}
+use Rattle.std.specs.Prelude.{Option as Returned, Some, None, fold}
+use Rattle.std.specs.List.{list_any}
 use Rattle.std.specs.Array.{AllOfLen}
 use Rattle.inode.specs.Records.{record_in, found_of, lowest_to}
 use Rattle.block.proofs.Places.{found-some}
@@ -50,6 +51,16 @@ module _ (x : ℕ) where
 -- ---- the table of remainders
 
 -- a number whose remainder was not seen
+-- a look at each number
+seen-from : (x : ℕ) (found : Bool) (xs : List ℕ) → fold (λ found n. found || eqb n x) found xs ≡ found || list_any (λ y. eqb y x) xs
+seen-from x true [] = refl
+seen-from x false [] = refl
+seen-from x true (y ∷ ys) = seen-from x true ys
+seen-from x false (y ∷ ys) = seen-from x (eqb y x) ys
+
+pub seen-fold : (x : ℕ) (xs : List ℕ) → fold (λ found n. found || eqb n x) false xs ≡ list_any (λ y. eqb y x) xs
+seen-fold x xs = seen-from x false xs
+
 pub seen-new : (t : NameTable) (i x : ℕ) → Seen t i → (x ≡ 0 → ⊥) → get_or t.seen (x % 1021) false ≡ false → false ≡ seen_to i x t.numbers
 seen-new t i x g ne z = sym (seen_none x t.numbers i (λ j h. ne_eqb (get_or t.numbers j 0) x (λ e. clash j h e)))
   where

@@ -32,7 +32,8 @@ struct NameTable {
 }
 
 impl NameTable {
-    // "Names differ pairwise": whether a record before i has this name. The search is needed only where its remainder was seen.
+    // "Names differ pairwise": whether a record before i has this name. The search is needed only where its remainder was seen. All are looked at, several at a time,
+    // which of names that share a remainder takes less than std's `contains`.
     fn holds(&self, number: u64, i: InodeNumber) -> bool
         requires { Seen self.now i.n × (number ≡ 0 → ⊥) }
         ensures { result ≡ seen_to i.n number self.now.numbers }
@@ -41,7 +42,8 @@ impl NameTable {
         if !self.seen[place] {
             return false;
         }
-        self.numbers[..i.n].contains(&number)
+        let before = &self.numbers[..i.n];
+        before.iter().fold(false, |found, n| found | (*n == number))
     }
 
     // The name of record i.
